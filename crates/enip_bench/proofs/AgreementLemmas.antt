@@ -36,18 +36,23 @@ module _ {M : Type 0} (after : M → ℕ → List ℕ → M) (answer : M → ℕ
       }) (sym (count_of-first first below))
 
   -- the item world after these events
-  pub items_after-image : (written : OwnWrite → M → M) (first o_to_t_size t_to_o_size : ℕ) (router : M) (events : List Event) → first < 2 ^ 16 →
+  pub items_after-image : (written : OwnWrite → M → M) (first o_to_t_size t_to_o_size : ℕ) (router : M)
+      (events : List Event) → first < 2 ^ 16 →
       10 ≤ t_to_o_size →
       items_after after answer written first o_to_t_size t_to_o_size router events
-      ≡ image after answer written first t_to_o_size router o_to_t_size (tracked_run o_to_t_size tracked_at_opening events)
+      ≡ image after answer written first t_to_o_size router o_to_t_size
+      (tracked_run o_to_t_size tracked_at_opening events)
   items_after-image written first o_to_t_size t_to_o_size router events below roomy =
-      ap (λ world. item_run after answer written world events) (opening-image written first o_to_t_size t_to_o_size router below)
+      ap (λ world. item_run after answer written world events)
+      (opening-image written first o_to_t_size t_to_o_size router below)
       ∙ run_same after answer written first o_to_t_size t_to_o_size router roomy begins within events tracked_at_opening
       (opening_sound o_to_t_size)
 
   pub worlds_agree : agreement_law after answer
   worlds_agree written first o_to_t_size t_to_o_size router events below roomy =
       ap items_seen (items_after-image written first o_to_t_size t_to_o_size router events below roomy)
-      ∙ seen_same after answer written first o_to_t_size t_to_o_size router (tracked_run o_to_t_size tracked_at_opening events)
+      ∙ seen_same after answer written first o_to_t_size t_to_o_size router
+      (tracked_run o_to_t_size tracked_at_opening events)
       (run_sound o_to_t_size events tracked_at_opening (opening_sound o_to_t_size))
-      ∙ ap (numbers_seen after answer written first t_to_o_size router) (sym (run_plain o_to_t_size events tracked_at_opening))
+      ∙ ap (numbers_seen after answer written first t_to_o_size router)
+      (sym (run_plain o_to_t_size events tracked_at_opening))

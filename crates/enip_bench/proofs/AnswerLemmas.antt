@@ -33,7 +33,8 @@ module _ {M : Type 0} (after : M → ℕ → List ℕ → M) (answer : M → ℕ
     (within : (router : M) (room : ℕ) (request : List ℕ) → 8 ≤ room → 2 ≤ length request →
     length (answer router room request) ≤ room) where
   -- the log's reply to an executed number is that of its only execution
-  logged-reply : (written : OwnWrite → M → M) (first o_to_t_size t_to_o_size : ℕ) (router : M) (events : List Event) (number : ℕ) →
+  logged-reply : (written : OwnWrite → M → M) (first o_to_t_size t_to_o_size : ℕ) (router : M) (events : List Event)
+      (number : ℕ) →
       is_logged number (tracked o_to_t_size events).log ≡ true →
       IsReplyOf after answer written o_to_t_size t_to_o_size router events number
       (reply_of after answer written first t_to_o_size router (tracked o_to_t_size events).log number)
@@ -46,7 +47,8 @@ module _ {M : Type 0} (after : M → ℕ → List ℕ → M) (answer : M → ℕ
       (only_execution after answer written first t_to_o_size router world.submits world.log number sound.log.falls
       sound.log.submitted is)
 
-  accepted_found : (written : OwnWrite → M → M) (first o_to_t_size t_to_o_size : ℕ) (router : M) (events : List Event) (position number : ℕ)
+  accepted_found : (written : OwnWrite → M → M) (first o_to_t_size t_to_o_size : ℕ) (router : M) (events : List Event)
+      (position number : ℕ)
       (reply : List ℕ) (found : Option Own) →
       slice_get (tracked o_to_t_size events).accepted position ≡ found →
       option_map (acceptance_of after answer written first t_to_o_size router (tracked o_to_t_size events).log) found
@@ -69,7 +71,8 @@ module _ {M : Type 0} (after : M → ℕ → List ℕ → M) (answer : M → ℕ
       let world : TrackedWorld = tracked o_to_t_size events in
       accepted_found written first o_to_t_size t_to_o_size router events position number reply
       (slice_get world.accepted position) refl
-      (sym (slice_get-map (acceptance_of after answer written first t_to_o_size router world.log) world.accepted position)
+      (sym (slice_get-map (acceptance_of after answer written first t_to_o_size router world.log) world.accepted
+      position)
       ∙ sym (ap (λ (w : ItemWorld M). slice_get w.accepted position)
       (items_after-image after answer begins within written first o_to_t_size t_to_o_size router events below roomy))
       ∙ e)
@@ -84,7 +87,8 @@ module _ {M : Type 0} (after : M → ℕ → List ℕ → M) (answer : M → ℕ
       (items_after-image after answer begins within written first o_to_t_size t_to_o_size router events below roomy)))
       (ordered-rising world.accepted ((tracked_sound o_to_t_size events).accepted.order))
 
-  back_found : (written : OwnWrite → M → M) (first o_to_t_size t_to_o_size : ℕ) (router : M) (events : List Event) (position number : ℕ)
+  back_found : (written : OwnWrite → M → M) (first o_to_t_size t_to_o_size : ℕ) (router : M) (events : List Event)
+      (position number : ℕ)
       (found : Option Own) →
       slice_get (tracked o_to_t_size events).back position ≡ found → option_map number_of found ≡ Some number →
       is_logged number (tracked o_to_t_size events).log ≡ true
@@ -94,7 +98,8 @@ module _ {M : Type 0} (after : M → ℕ → List ℕ → M) (answer : M → ℕ
       ((tracked_sound o_to_t_size events).back.logged position own e)
 
   -- what both worlds send back at a position
-  pub back_same : (written : OwnWrite → M → M) (first o_to_t_size t_to_o_size : ℕ) (router : M) (events : List Event) (position : ℕ) →
+  pub back_same : (written : OwnWrite → M → M) (first o_to_t_size t_to_o_size : ℕ) (router : M) (events : List Event)
+      (position : ℕ) →
       first < 2 ^ 16 → 10 ≤ t_to_o_size →
       slice_get (items_after after answer written first o_to_t_size t_to_o_size router events).back position
       ≡ option_map (λ n. item (count_of first n)
@@ -115,7 +120,8 @@ module _ {M : Type 0} (after : M → ℕ → List ℕ → M) (answer : M → ℕ
       (numbers_after o_to_t_size events).log n))) (e ∙ sym f)
       ∙ sym (back_same written first o_to_t_size t_to_o_size router events other below roomy)
 
-  answered_found : (written : OwnWrite → M → M) (first o_to_t_size t_to_o_size : ℕ) (router : M) (events : List Event) (position number : ℕ)
+  answered_found : (written : OwnWrite → M → M) (first o_to_t_size t_to_o_size : ℕ) (router : M) (events : List Event)
+      (position number : ℕ)
       (found : Option Own) →
       slice_get (tracked o_to_t_size events).back position ≡ found → option_map number_of found ≡ Some number →
       option_map (answer_of after answer written first t_to_o_size router (tracked o_to_t_size events).log) found
@@ -136,10 +142,12 @@ module _ {M : Type 0} (after : M → ℕ → List ℕ → M) (answer : M → ℕ
       (run_plain o_to_t_size events tracked_at_opening)) ∙ e in (
         reply_of after answer written first t_to_o_size router world.log number,
         logged-reply written first o_to_t_size t_to_o_size router events number
-            (back_found written first o_to_t_size t_to_o_size router events position number (slice_get world.back position)
+            (back_found written first o_to_t_size t_to_o_size router events position number
+            (slice_get world.back position)
             refl found),
         ap (λ (w : ItemWorld M). slice_get w.back position)
-            (items_after-image after answer begins within written first o_to_t_size t_to_o_size router events below roomy)
+            (items_after-image after answer begins within written first o_to_t_size t_to_o_size router events below
+            roomy)
             ∙ slice_get-map (answer_of after answer written first t_to_o_size router world.log) world.back position
             ∙ answered_found written first o_to_t_size t_to_o_size router events position number
             (slice_get world.back position) refl found,

@@ -160,7 +160,8 @@ module _ {M : Type 0} (after : M → ℕ → List ℕ → M) (answer : M → ℕ
       (run_sound o_to_t_size events tracked_at_opening (opening_sound o_to_t_size))
       ∙ ap (λ world. refusal o_to_t_size world request) (sym (run_plain o_to_t_size events tracked_at_opening))
 
-  module _ (written : OwnWrite → M → M) (first o_to_t_size t_to_o_size n : ℕ) (router : M) (request : List ℕ) (roomy : 10 ≤ t_to_o_size)
+  module _ (written : OwnWrite → M → M) (first o_to_t_size t_to_o_size n : ℕ) (router : M) (request : List ℕ)
+      (roomy : 10 ≤ t_to_o_size)
       (below : first < 2 ^ 16) (formed : form_refusal o_to_t_size request ≡ None) (all : n ≡ MOST_UNACCEPTED) where
     abbrev show : TrackedWorld → ItemWorld M
     show world = image after answer written first t_to_o_size router o_to_t_size world
@@ -199,7 +200,8 @@ module _ {M : Type 0} (after : M → ℕ → List ℕ → M) (answer : M → ℕ
     -- what is seen after this step of the target, if the answer was accepted or not
     abbrev seen_after : TargetStep M → Seen M
     seen_after step =
-        items_seen (item_step after answer written (with_step (record (show beyond) { last_reached = Some (n + 1) }) step)
+        items_seen (item_step after answer written (with_step (record (show beyond) { last_reached = Some (n + 1) })
+        step)
         (Back 1))
 
     abbrev heard : Bool → ℕ → ℕ → Seen M
@@ -219,7 +221,8 @@ module _ {M : Type 0} (after : M → ℕ → List ℕ → M) (answer : M → ℕ
     answered =
         ap (λ world. items_seen (item_run after answer written world (Reach (n + 1) ∷ Back 1 ∷ [])))
         (at_submit after answer written first o_to_t_size t_to_o_size router (abandoned_world request n) None request)
-        ∙ ap (λ o. items_seen (item_step after answer written (items.after_reach after answer written o (show beyond) (n + 1)) (Back 1)))
+        ∙ ap (λ o. items_seen (item_step after answer written
+        (items.after_reach after answer written o (show beyond) (n + 1)) (Back 1)))
         (delivery-map (item_of first) (Some 0) beyond.sent (n + 1) ∙ ap (option_map (item_of first)) found)
         ∙ ap seen_after (repeats after answer written first o_to_t_size t_to_o_size router roomy begins within beyond
         (numbered request last) (has_form o_to_t_size request formed) repeated)
@@ -234,7 +237,8 @@ module _ {M : Type 0} (after : M → ℕ → List ℕ → M) (answer : M → ℕ
         ∙ ap show (accepted_then o_to_t_size n request (omega (arith, all)) formed)
 
     pub one_too_many : IsOneTooMany after answer written first t_to_o_size router
-        (items_after after answer written first o_to_t_size t_to_o_size router (accepted_then_abandoned request n)) request
+        (items_after after answer written first o_to_t_size t_to_o_size router (accepted_then_abandoned request n))
+        request
         (n + 1)
     one_too_many = record {
       refused = ap (λ (world : ItemWorld M). submit_refusal world.originator request) there

@@ -41,8 +41,10 @@ frames_agree objects listen limits wants world events is e =
     let start : ItemWorld Device = items_at_opening wants.first_count wants.o_to_t_size wants.t_to_o_size objects in
     world-seen opened.wire (counting_run world events) (item_run after_exec exec_answer device_written start events)
     (run_shows opened.wire events world start opened.ok opened.shows)
-    ∙ (ap₂ (λ (asked : Wants) peer. in_frames peer asked.t_to_o_id (items_seen (item_run after_exec exec_answer device_written start events)))
+    ∙ (ap₂ (λ (asked : Wants) peer. in_frames peer asked.t_to_o_id
+    (items_seen (item_run after_exec exec_answer device_written start events)))
     opened.asked_for (sym opened.same_peer)
     ∙ ap (in_frames world.peer wants.t_to_o_id)
-    (worlds_agree after_exec exec_answer (λ m room text h g. exec_device-begins m room text h g) (λ m room text h g. exec_device-within m room text h) device_written
+    (worlds_agree after_exec exec_answer (λ m room text h g. exec_device-begins m room text h g)
+    (λ m room text h g. exec_device-within m room text h) device_written
     wants.first_count wants.o_to_t_size wants.t_to_o_size objects events is.first_count is.t_to_o_from))

@@ -35,7 +35,8 @@ one_more-shown : (wire : Wire) (world : CountingWorld) (item_world : ItemWorld D
     (position : ℕ) → IsWire wire → form_refusal item_world.originator.o_to_t_size request ≡ None →
     Shows wire world item_world →
     one_more_shown world request position
-    ≡ in_frames wire.peer wire.wants.t_to_o_id (one_more_seen after_exec exec_answer device_written item_world request position)
+    ≡ in_frames wire.peer wire.wants.t_to_o_id (one_more_seen after_exec exec_answer device_written item_world request
+    position)
 one_more-shown wire world item_world request position ok formed shows =
     let events : List Event = Reach position ∷ Back 1 ∷ [] in
     world-seen wire (counting_run (taken_all_the_same world request) events)
@@ -63,12 +64,15 @@ raised_framed objects listen limits wants world abandoned request is e formed al
     let size : now_in_items.originator.o_to_t_size ≡ wants.o_to_t_size
     = ap (λ (w : ItemWorld Device). w.originator.o_to_t_size)
     (items_after-image after_exec exec_answer (λ m room text h g. exec_device-begins m room text h g)
-    (λ m room text h g. exec_device-within m room text h) device_written wants.first_count wants.o_to_t_size wants.t_to_o_size objects events
+    (λ m room text h g. exec_device-within m room text h) device_written wants.first_count wants.o_to_t_size
+    wants.t_to_o_size objects events
     is.first_count is.t_to_o_from) in
-    let one : IsOneTooMany after_exec exec_answer device_written wants.first_count wants.t_to_o_size objects now_in_items request
+    let one : IsOneTooMany after_exec exec_answer device_written wants.first_count wants.t_to_o_size objects
+    now_in_items request
     (abandoned + 1)
     = raised after_exec exec_answer (λ m room text h g. exec_device-begins m room text h g)
-    (λ m room text h g. exec_device-within m room text h) device_written wants.first_count wants.o_to_t_size wants.t_to_o_size abandoned
+    (λ m room text h g. exec_device-within m room text h) device_written wants.first_count wants.o_to_t_size
+    wants.t_to_o_size abandoned
     objects request is.first_count is.t_to_o_from formed all in
     record {
       refused = refused-shown opened.wire now now_in_items request shows

@@ -58,7 +58,8 @@ module _ {world : CountingWorld} (by : IsReached world) where
   -- the item world after the same events
   abbrev items_of : ItemWorld Device
   items_of =
-      items_after after_exec exec_answer device_written by.wants.first_count by.wants.o_to_t_size by.wants.t_to_o_size by.objects
+      items_after after_exec exec_answer device_written by.wants.first_count by.wants.o_to_t_size by.wants.t_to_o_size
+      by.objects
       by.events
 
   opened_of : IsOpened by.objects by.wants by.begun
@@ -90,7 +91,8 @@ module _ {world : CountingWorld} (by : IsReached world) where
 
   -- the objects after the log
   objects-same : objects_in world
-      ≡ router_after after_exec exec_answer device_written by.wants.t_to_o_size (numbers_of by).submits by.objects (numbers_of by).log
+      ≡ router_after after_exec exec_answer device_written by.wants.t_to_o_size (numbers_of by).submits by.objects
+      (numbers_of by).log
   objects-same =
       ap objects_in by.come
       ∙ ap (λ seen. seen.router)
@@ -117,10 +119,12 @@ answer_found by position bytes None e f =
     let none : ◌≡◌ {A = Option (List ℕ)} None (Some bytes)
     = sym (back-at by position
     ∙ ap (option_map (framed by))
-    (back_same after_exec exec_answer begins within device_written by.wants.first_count by.wants.o_to_t_size by.wants.t_to_o_size
+    (back_same after_exec exec_answer begins within device_written by.wants.first_count by.wants.o_to_t_size
+    by.wants.t_to_o_size
     by.objects by.events position by.wanted.first_count by.wanted.t_to_o_from
     ∙ ap (option_map (λ n. item (count_of by n)
-    (reply_to after_exec exec_answer device_written by.wants.t_to_o_size (numbers_of by).submits by.objects (numbers_of by).log
+    (reply_to after_exec exec_answer device_written by.wants.t_to_o_size (numbers_of by).submits by.objects
+    (numbers_of by).log
     n))) e))
     ∙ f in
     absurd (cc)
@@ -144,7 +148,8 @@ pub same_framed : same_frames
 same_framed world by one other number e f =
     back-at by one
     ∙ ap (option_map (framed by))
-    (same_bytes after_exec exec_answer begins within device_written by.wants.first_count by.wants.o_to_t_size by.wants.t_to_o_size
+    (same_bytes after_exec exec_answer begins within device_written by.wants.first_count by.wants.o_to_t_size
+    by.wants.t_to_o_size
     by.objects by.events one other number by.wanted.first_count by.wanted.t_to_o_from e f)
     ∙ sym (back-at by other)
 
@@ -217,7 +222,8 @@ not_true false never = refl
 module _ {world : CountingWorld} (by : IsReached world) where
   -- the objects after a log
   abbrev logged : List Entry → Device
-  logged log = router_after after_exec exec_answer device_written by.wants.t_to_o_size (numbers_of by).submits by.objects log
+  logged log = router_after after_exec exec_answer device_written by.wants.t_to_o_size (numbers_of by).submits
+      by.objects log
 
   -- and after these numbers
   abbrev objects_by : NumberedWorld → Device
@@ -282,7 +288,8 @@ first_framed world by (Reach position) number is =
     ∙ ap (λ is_open. objects_by by (got by number position is_open)) is.arrives.0
     ∙ ap (λ stood. logged by (cond stood numbers.log (numbers.log ++ OwnRequest number ∷ [])))
     (not_stood by number is.not_before)
-    ∙ router_after-push after_exec exec_answer device_written by.wants.t_to_o_size numbers.submits by.objects numbers.log
+    ∙ router_after-push after_exec exec_answer device_written by.wants.t_to_o_size numbers.submits by.objects
+    numbers.log
     (OwnRequest number)
     ∙ ap (λ objects. after_exec objects (by.wants.t_to_o_size - 2) (request_of numbers.submits number))
     (sym (objects-same by))
@@ -303,7 +310,8 @@ back-objects world position None = refl
 back-objects world position (Some bytes) = refl
 
 pub unchanged_framed : unchanged_in_frames
-unchanged_framed world by (Submit request) never alone unwritten = submit-objects world (submits world.client.state request)
+unchanged_framed world by (Submit request) never alone unwritten = submit-objects world
+    (submits world.client.state request)
 unchanged_framed world by Resend never alone unwritten = refl
 unchanged_framed world by (Reach position) never alone unwritten =
     step-objects by (Reach position)

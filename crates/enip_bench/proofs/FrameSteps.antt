@@ -133,7 +133,8 @@ at_resend wire a c world agrees =
     }
 
 at_give_up : (wire : Wire) (a : AdapterState) (c : ClientState) (world : ItemWorld Device) → Agrees wire a c world →
-    Shows wire (counting_step (shown wire a c world) GiveUp) (item_step after_exec exec_answer device_written world GiveUp)
+    Shows wire (counting_step (shown wire a c world) GiveUp)
+    (item_step after_exec exec_answer device_written world GiveUp)
 at_give_up wire a c world agrees =
     let shows : ClientShows wire c world.originator = agrees.client_shows in
     let small : IsSmall world = agrees.small in
@@ -331,7 +332,8 @@ at_back wire a c world position (Some bytes) short ok agrees =
 -- this holds for each event
 step-shown : (wire : Wire) (a : AdapterState) (c : ClientState) (world : ItemWorld Device) (event : Event) → IsWire wire →
     Agrees wire a c world →
-    Shows wire (counting_step (shown wire a c world) event) (item_step after_exec exec_answer device_written world event)
+    Shows wire (counting_step (shown wire a c world) event) (item_step after_exec exec_answer device_written world
+    event)
 step-shown wire a c world (Submit request) ok agrees =
     subst (λ lent. Shows wire (counting.after_submit lent (shown wire a c world))
     (items.after_submit (submit_refusal world.originator request) world request))
@@ -340,7 +342,8 @@ step-shown wire a c world (Submit request) ok agrees =
 step-shown wire a c world Resend ok agrees = at_resend wire a c world agrees
 step-shown wire a c world (Reach position) ok agrees =
     subst (λ found. Shows wire (counting.after_reach found (shown wire a c world) position)
-    (items.after_reach after_exec exec_answer device_written (delivery world.last_reached world.sent position) world position))
+    (items.after_reach after_exec exec_answer device_written (delivery world.last_reached world.sent position) world
+    position))
     (sym (delivery-map (frame_out wire) world.last_reached world.sent position))
     (at_reach wire a c world position (delivery world.last_reached world.sent position)
     (λ bytes e. agrees.small.sent position bytes (delivered world.last_reached world.sent position bytes e)) ok agrees)
@@ -360,7 +363,8 @@ pub step_shows : (wire : Wire) (world : CountingWorld) (item_world : ItemWorld D
     Shows wire world item_world →
     Shows wire (counting_step world event) (item_step after_exec exec_answer device_written item_world event)
 step_shows wire world item_world event ok shows =
-    subst (λ w. Shows wire (counting_step w event) (item_step after_exec exec_answer device_written item_world event)) (sym shows.is)
+    subst (λ w. Shows wire (counting_step w event) (item_step after_exec exec_answer device_written item_world event))
+    (sym shows.is)
     (step-shown wire shows.ends_at shows.starts_at item_world event ok shows.agrees)
 
 -- and for any list of events
@@ -369,5 +373,6 @@ pub run_shows : (wire : Wire) (events : List Event) (world : CountingWorld) (ite
     Shows wire (counting_run world events) (item_run after_exec exec_answer device_written item_world events)
 run_shows wire [] world item_world ok shows = shows
 run_shows wire (event ∷ events) world item_world ok shows =
-    run_shows wire events (counting_step world event) (item_step after_exec exec_answer device_written item_world event) ok
+    run_shows wire events (counting_step world event) (item_step after_exec exec_answer device_written item_world
+    event) ok
     (step_shows wire world item_world event ok shows)

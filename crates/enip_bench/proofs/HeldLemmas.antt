@@ -43,7 +43,8 @@ pub record IsAnswered (t_to_o_size : ℕ) (submits : List (List ℕ)) (number : 
   pub answers : IsReplyTo request reply
   pub within : length reply ≤ t_to_o_size - 2
 
-module _ {M : Type 0} (after : M → ℕ → List ℕ → M) (answer : M → ℕ → List ℕ → List ℕ) (written : OwnWrite → M → M) (first t_to_o_size : ℕ)
+module _ {M : Type 0} (after : M → ℕ → List ℕ → M) (answer : M → ℕ → List ℕ → List ℕ) (written : OwnWrite → M → M)
+    (first t_to_o_size : ℕ)
     (start : M) where
   -- Take a number that is not below the newest one, and less than 65,536 above it. Its count is the held one if and
   -- only if the number is in the log.
@@ -97,7 +98,8 @@ module _ {M : Type 0} (after : M → ℕ → List ℕ → M) (answer : M → ℕ
       (ne_eqb own.number number (λ e. both_ways (is_logged number log) (subst (λ n. is_logged n log ≡ false) e new)
       old)))
 
-module _ {M : Type 0} (after : M → ℕ → List ℕ → M) (answer : M → ℕ → List ℕ → List ℕ) (written : OwnWrite → M → M) (first t_to_o_size : ℕ)
+module _ {M : Type 0} (after : M → ℕ → List ℕ → M) (answer : M → ℕ → List ℕ → List ℕ) (written : OwnWrite → M → M)
+    (first t_to_o_size : ℕ)
     (start : M)
     (roomy : 10 ≤ t_to_o_size)
     (begins : (router : M) (room : ℕ) (request : List ℕ) → 8 ≤ room → 2 ≤ length request →

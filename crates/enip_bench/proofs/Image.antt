@@ -18,7 +18,8 @@ phase_of first Resting = Idle
 phase_of first (Awaiting own) = Waiting (count_of first own.number) own.request
 phase_of first Abandoned = GivenUp
 
-module _ {M : Type 0} (after : M → ℕ → List ℕ → M) (answer : M → ℕ → List ℕ → List ℕ) (written : OwnWrite → M → M) (first t_to_o_size : ℕ)
+module _ {M : Type 0} (after : M → ℕ → List ℕ → M) (answer : M → ℕ → List ℕ → List ℕ) (written : OwnWrite → M → M)
+    (first t_to_o_size : ℕ)
     (start : M) where
   -- the router after the log
   abbrev pub router_of : List Logged → M

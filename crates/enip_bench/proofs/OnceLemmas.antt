@@ -135,7 +135,8 @@ ordered-rising (own ∷ owns) ordered = (
   ordered-rising owns (λ i j x y lt e f. ordered (suc i) (suc j) x y (omega arith) e f),
 )
 
-module _ {M : Type 0} (after : M → ℕ → List ℕ → M) (answer : M → ℕ → List ℕ → List ℕ) (written : OwnWrite → M → M) (first t_to_o_size : ℕ)
+module _ {M : Type 0} (after : M → ℕ → List ℕ → M) (answer : M → ℕ → List ℕ → List ℕ) (written : OwnWrite → M → M)
+    (first t_to_o_size : ℕ)
     (start : M)
     (submits : List (List ℕ)) where
   abbrev IsOnly : List Entry → ℕ → List ℕ → Type 0
@@ -177,7 +178,8 @@ module _ {M : Type 0} (after : M → ℕ → List ℕ → M) (answer : M → ℕ
             (subst (λ n. slice_get submits n ≡ Some own.request) same are.0)));
       }
   by_test own log number false e falls are is only =
-      let one : IsOnly (entries_of log) number (reply_of after answer written first t_to_o_size start log number) = only is in
+      let one : IsOnly (entries_of log) number (reply_of after answer written first t_to_o_size start log number) =
+      only is in
       only-push (entries_of log) (OwnRequest own.number) number
       (reply_of after answer written first t_to_o_size start log number) one
       (stands-own one.later own.number number

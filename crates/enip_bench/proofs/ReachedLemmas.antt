@@ -67,7 +67,8 @@ item_of world reached =
       wire = opened.wire;
       ok = opened.ok;
       items = item_run after_exec exec_answer device_written start reached.events;
-      shows = subst (λ w. Shows opened.wire w (item_run after_exec exec_answer device_written start reached.events)) (sym reached.come)
+      shows = subst (λ w. Shows opened.wire w (item_run after_exec exec_answer device_written start reached.events))
+          (sym reached.come)
           (run_shows opened.wire reached.events reached.begun start opened.ok opened.shows);
     }
 

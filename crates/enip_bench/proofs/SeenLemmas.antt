@@ -42,7 +42,8 @@ stage-same first Resting = refl
 stage-same first (Awaiting own) = refl
 stage-same first Abandoned = refl
 
-module _ {M : Type 0} (after : M → ℕ → List ℕ → M) (answer : M → ℕ → List ℕ → List ℕ) (written : OwnWrite → M → M) (t_to_o_size : ℕ)
+module _ {M : Type 0} (after : M → ℕ → List ℕ → M) (answer : M → ℕ → List ℕ → List ℕ) (written : OwnWrite → M → M)
+    (t_to_o_size : ℕ)
     (submits : List (List ℕ)) where
   abbrev router_by : M → List Entry → M
   router_by router log = router_after after answer written t_to_o_size submits router log
@@ -90,7 +91,8 @@ module _ {M : Type 0} (after : M → ℕ → List ℕ → M) (answer : M → ℕ
   reply_to-new router (DeviceWrite write ∷ log) own number is same =
       reply_to-new (written write router) log own number is same
 
-module _ {M : Type 0} (after : M → ℕ → List ℕ → M) (answer : M → ℕ → List ℕ → List ℕ) (written : OwnWrite → M → M) (first t_to_o_size : ℕ)
+module _ {M : Type 0} (after : M → ℕ → List ℕ → M) (answer : M → ℕ → List ℕ → List ℕ) (written : OwnWrite → M → M)
+    (first t_to_o_size : ℕ)
     (start : M)
     (submits : List (List ℕ)) where
   abbrev runs : List Entry → M

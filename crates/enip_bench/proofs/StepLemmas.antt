@@ -186,12 +186,14 @@ module _ {M : Type 0} (after : M → ℕ → List ℕ → M) (answer : M → ℕ
       (ap₂ (λ bytes last. bytes ++ last ∷ [])
       (map-same (answers_by world.log) (answers_by log) world.back (λ i x e. ap (item (count_of first x.number))
       (reply-kept after answer written first t_to_o_size start world.log own x.number is (sound.back.logged i x e))))
-      (ap (item (count_of first own.number)) (sym (reply-new after answer written first t_to_o_size start world.log own)))
+      (ap (item (count_of first own.number)) (sym (reply-new after answer written first t_to_o_size start world.log
+      own)))
       ∙ sym (map-push (answers_by log) world.back own)) refl refl refl
       (map-same (acceptance_of after answer written first t_to_o_size start world.log)
       (acceptance_of after answer written first t_to_o_size start log) world.accepted
       (λ i x e. ap (λ (reply : List ℕ). (x.number, reply))
-      (reply-kept after answer written first t_to_o_size start world.log own x.number is (sound.accepted.logged i x e))))
+      (reply-kept after answer written first t_to_o_size start world.log own x.number is
+      (sound.accepted.logged i x e))))
 
   at_reached : (world : TrackedWorld) (own : Own) (position : ℕ) (is_open : Bool) → IsSound o_to_t_size world →
       delivery world.last_reached world.sent position ≡ Some own →
@@ -208,7 +210,8 @@ module _ {M : Type 0} (after : M → ℕ → List ℕ → M) (answer : M → ℕ
       in
       at_target world own position (is_logged own.number world.log) sound
       (has_form o_to_t_size own.request (sound.form own.number own.request sent))
-      (held-logged after answer written first t_to_o_size start world.log own.number sound.log.falls above near) refl above
+      (held-logged after answer written first t_to_o_size start world.log own.number sound.log.falls above near) refl
+      above
   at_reached world own position false sound found = refl
 
   at_reach : (world : TrackedWorld) (position : ℕ) (found : Option Own) → IsSound o_to_t_size world →
@@ -300,7 +303,8 @@ module _ {M : Type 0} (after : M → ℕ → List ℕ → M) (answer : M → ℕ
   step_same world (Submit request) sound =
       ap (λ why. items.after_submit why (show world) request)
       (refusal-same after answer written first o_to_t_size t_to_o_size start world request sound)
-      ∙ at_submit after answer written first o_to_t_size t_to_o_size start world (refusal o_to_t_size (plain world) request)
+      ∙ at_submit after answer written first o_to_t_size t_to_o_size start world
+      (refusal o_to_t_size (plain world) request)
       request
   step_same world Resend sound = at_resend after answer written first o_to_t_size t_to_o_size start world
   step_same world (Reach position) sound =

@@ -31,7 +31,8 @@ module _ {M : Type 0} (after : M → ℕ → List ℕ → M) (answer : M → ℕ
   -- both worlds refuse the same requests, for the same reasons
   abbrev pub refusals_law : Type 0
   refusals_law =
-      (written : OwnWrite → M → M) (first o_to_t_size t_to_o_size : ℕ) (router : M) (events : List Event) (request : List ℕ) → first < 2 ^ 16 →
+      (written : OwnWrite → M → M) (first o_to_t_size t_to_o_size : ℕ) (router : M) (events : List Event)
+      (request : List ℕ) → first < 2 ^ 16 →
       10 ≤ t_to_o_size →
       submit_refusal (items_after after answer written first o_to_t_size t_to_o_size router events).originator request
       ≡ refusal o_to_t_size (numbers_after o_to_t_size events) request
@@ -65,8 +66,10 @@ module _ {M : Type 0} (after : M → ℕ → List ℕ → M) (answer : M → ℕ
   -- This holds over every router, for every request of a valid form, after these events.
   abbrev pub raised_law : Type 0
   raised_law =
-      (written : OwnWrite → M → M) (first o_to_t_size t_to_o_size abandoned : ℕ) (router : M) (request : List ℕ) → first < 2 ^ 16 →
+      (written : OwnWrite → M → M) (first o_to_t_size t_to_o_size abandoned : ℕ) (router : M) (request : List ℕ) →
+      first < 2 ^ 16 →
       10 ≤ t_to_o_size → form_refusal o_to_t_size request ≡ None → abandoned ≡ MOST_UNACCEPTED →
       IsOneTooMany after answer written first t_to_o_size router
-      (items_after after answer written first o_to_t_size t_to_o_size router (accepted_then_abandoned request abandoned))
+      (items_after after answer written first o_to_t_size t_to_o_size router
+      (accepted_then_abandoned request abandoned))
       request (abandoned + 1)

@@ -30,7 +30,8 @@ module _ {world : CountingWorld} (by : IsReached world) where
   -- this is the reply of the only execution of this number's request
   abbrev pub IsItsReply : ℕ → List ℕ → Type 0
   IsItsReply number reply =
-      IsReplyOf after_exec exec_answer device_written by.wants.o_to_t_size by.wants.t_to_o_size by.objects by.events number reply
+      IsReplyOf after_exec exec_answer device_written by.wants.o_to_t_size by.wants.t_to_o_size by.objects by.events
+      number reply
 
   -- this number's request, in a frame to the adapter
   abbrev pub request_frame : ℕ → List ℕ
@@ -59,7 +60,8 @@ module _ {world : CountingWorld} (by : IsReached world) where
   -- order. The log has each request of the connection at most once, in the order of the submits.
   pub record AreExecutedOnce : Type 0 where
     pub objects : objects_in world
-        ≡ router_after after_exec exec_answer device_written by.wants.t_to_o_size numbers_of.submits by.objects numbers_of.log
+        ≡ router_after after_exec exec_answer device_written by.wants.t_to_o_size numbers_of.submits by.objects
+        numbers_of.log
     pub once : (number : ℕ) → executions_of number numbers_of.log ≤ 1
     pub order : AreRising (own_numbers numbers_of.log)
 

@@ -42,32 +42,36 @@ module _ {M : Type 0} (after : M → ℕ → List ℕ → M) (answer : M → ℕ
       IsOnlyExecution after answer written t_to_o_size world.submits router world.log number reply
 
 module _ {M : Type 0} (after : M → ℕ → List ℕ → M) (answer : M → ℕ → List ℕ → List ℕ) where
-  -- For every list of events from the opening, any first count, any O->T size, any T->O size from 10, any router, and any change of it
-  -- by each write of the device:
-  -- the item world shows what the numbered world shows.
+  -- For every list of events from the opening, any first count, any O->T size, any T->O size from 10, any router, and
+  -- whatever each write of the device changes in the router: the item world shows what the numbered world shows.
   abbrev pub agreement_law : Type 0
   agreement_law =
-      (written : OwnWrite → M → M) (first o_to_t_size t_to_o_size : ℕ) (router : M) (events : List Event) → first < 2 ^ 16 → 10 ≤ t_to_o_size →
+      (written : OwnWrite → M → M) (first o_to_t_size t_to_o_size : ℕ) (router : M) (events : List Event) → first < 2
+      ^ 16 → 10 ≤ t_to_o_size →
       items_seen (items_after after answer written first o_to_t_size t_to_o_size router events)
       ≡ numbers_seen after answer written first t_to_o_size router (numbers_after o_to_t_size events)
 
   -- a reply that the originator accepted is the reply of its request's only execution
   abbrev pub accepted_law : Type 0
   accepted_law =
-      (written : OwnWrite → M → M) (first o_to_t_size t_to_o_size : ℕ) (router : M) (events : List Event) (position number : ℕ) (reply : List ℕ) →
+      (written : OwnWrite → M → M) (first o_to_t_size t_to_o_size : ℕ) (router : M) (events : List Event)
+      (position number : ℕ) (reply : List ℕ) →
       first < 2 ^ 16 → 10 ≤ t_to_o_size →
-      slice_get (items_after after answer written first o_to_t_size t_to_o_size router events).accepted position ≡ Some (number, reply) →
+      slice_get (items_after after answer written first o_to_t_size t_to_o_size router events).accepted position ≡
+      Some (number, reply) →
       IsReplyOf after answer written o_to_t_size t_to_o_size router events number reply
 
   -- at most one reply is accepted for each request, in the order of the submits
   abbrev pub accepted_order_law : Type 0
   accepted_order_law =
-      (written : OwnWrite → M → M) (first o_to_t_size t_to_o_size : ℕ) (router : M) (events : List Event) → first < 2 ^ 16 → 10 ≤ t_to_o_size →
+      (written : OwnWrite → M → M) (first o_to_t_size t_to_o_size : ℕ) (router : M) (events : List Event) → first < 2
+      ^ 16 → 10 ≤ t_to_o_size →
       AreRising (map (λ x. x.0) (items_after after answer written first o_to_t_size t_to_o_size router events).accepted)
 
   -- every answer to a request has the request's count and the reply of its only execution
   abbrev pub answer_law : Type 0
-  answer_law = (written : OwnWrite → M → M) (first o_to_t_size t_to_o_size : ℕ) (router : M) (events : List Event) (position number : ℕ) →
+  answer_law = (written : OwnWrite → M → M) (first o_to_t_size t_to_o_size : ℕ) (router : M) (events : List Event)
+      (position number : ℕ) →
       first < 2 ^ 16 → 10 ≤ t_to_o_size →
       slice_get (numbers_after o_to_t_size events).back position ≡ Some number →
       (reply : List ℕ) × IsReplyOf after answer written o_to_t_size t_to_o_size router events number reply
@@ -76,7 +80,8 @@ module _ {M : Type 0} (after : M → ℕ → List ℕ → M) (answer : M → ℕ
 
   -- a request is answered with the same bytes each time
   abbrev pub same_bytes_law : Type 0
-  same_bytes_law = (written : OwnWrite → M → M) (first o_to_t_size t_to_o_size : ℕ) (router : M) (events : List Event) (one other number : ℕ) →
+  same_bytes_law = (written : OwnWrite → M → M) (first o_to_t_size t_to_o_size : ℕ) (router : M) (events : List Event)
+      (one other number : ℕ) →
       first < 2 ^ 16 → 10 ≤ t_to_o_size →
       slice_get (numbers_after o_to_t_size events).back one ≡ Some number →
       slice_get (numbers_after o_to_t_size events).back other ≡ Some number →

@@ -2,8 +2,8 @@
 //!
 //! The functions do nothing: the clauses of each are the law. The events begin at an opening, when nothing is held, no
 //! request is pending, and nothing was sent. They are any list of submits, resends, in-order deliveries with any losses
-//! and repeats, other sessions' requests, closings, give-ups, and writes of the device itself. So the count may wrap any
-//! number of times.
+//! and repeats, other sessions' requests, closings, give-ups, and writes of the device itself. So the count may wrap
+//! any number of times.
 
 ghost use Rattle.cip_objects.specs.Router.{RepliesWellFormed};
 ghost use Rattle.enip_bench.specs.Bound.{bound_law, refusals_law, raised_law};
