@@ -16,6 +16,7 @@ VALUES = {
     r"\(\)": ["()"], r"bool\b": ["false", "true"], r"[iu](?:8|16|32|64|128|size)\b": ["0"], "Option<": ["None"],
     r"&('\w+ )?str\b": ['""'],
 }
+FORMAT = re.compile(OF_OWN_TYPE.pattern + r'|"(?:\\.|[^"\\])*"', re.S)
 # What stays as it is in a text: escapes, and what a value replaces.
 FIXED = re.compile(r'\\(?:x..|u\{.*?\}|.)|\{\{|\}\}|\{[^}]*\}|\bb(?=")', re.S)
 BLOCKS = ("if", "for", "while", "loop", "match", "unsafe", "switch", "do")
@@ -91,8 +92,9 @@ class Rules:
             given = parts(parts(tokens[at + 1:closing(tokens, at)], ";")[-1], ",")
             given = [(it[0].start, it[-1].end) for it in given if it]
             for (start, middle), (second, end) in zip(given, given[1:]):
-                # What has a type of its own can't be swapped.
-                if any(OF_OWN_TYPE.fullmatch(self.text, *it) for it in ((start, middle), (second, end))):
+                # What has a type of its own can't be swapped, nor can the format of a macro.
+                of_own_type = FORMAT if before.text == "!" else OF_OWN_TYPE
+                if any(of_own_type.fullmatch(self.text, *it) for it in ((start, middle), (second, end))):
                     continue
                 swapped = self.text[second:end] + self.text[middle:second] + self.text[start:middle]
                 self.add("an argument swapped with its neighbour", start, end, swapped)
@@ -113,7 +115,7 @@ class Rules:
         for number in re.finditer(r"(?<![\w.])[0-9]+(?![\w])", token.text):
             if number.start() in free:
                 start, end = token.start + number.start(), token.start + number.end()
-                self.add("a default changed", start, end, str(int(number[0]) + 1))
+                self.add("a default changed", start, end, "%0*d" % (len(number[0]), int(number[0]) + 1))
 
     def defaults(self, tokens):
         for token in tokens:
@@ -126,7 +128,9 @@ class Rules:
             for statement, is_last in statements_of(block):
                 start, end, first = statement[0].start, statement[-1].end, statement[0].text
                 for value in returned:
-                    self.add("a return too early", start, start, ("return %s; " % value).replace(" ;", ";"))
+                    early = ("return %s; " % value).replace(" ;", ";")
+                    if not self.text.startswith(early.strip(), start):
+                        self.add("a return too early", start, start, early)
                 if self.can_be_left_out(statement, is_last):
                     self.add("a statement left out", start, end, "\n" * self.text.count("\n", start, end))
 
