@@ -20,9 +20,8 @@ use Rattle.enip_adapter.specs.declared.peer.Session.{Session}
 use Rattle.enip_adapter.specs.declared.shared.Shared.{Shared}
 use Rattle.enip_adapter.specs.declared.no_reply_reason.NoReplyReason.TheVariants.{AnotherSession}
 use Rattle.enip_adapter.specs.Calls.{AdapterState, after_call, call_answer}
-use Rattle.enip_adapter.specs.Calls.Call.{Feeds, Ticks, Writes}
+use Rattle.enip_adapter.specs.Calls.Call.{Feeds, Ticks}
 use Rattle.enip_adapter.specs.Commands.{command_served}
-use Rattle.enip_adapter.specs.OwnWrites.{OwnWrite, device_written}
 use Rattle.enip_adapter.specs.Replies.{Served, leaving, no_reply, replied}
 use Rattle.enip_adapter.specs.Runs.{is_open_at_all}
 use Rattle.enip_adapter.specs.SendRRData.{routed, reply_to_body}
@@ -375,32 +374,4 @@ shut wire a target router is_open shows = record {
   second = record { found = shows.second.found; alive = shows.second.alive; blank = shows.second.blank };
   objects = shows.objects;
   connected = ends wire a.state.shared target is_open shows.connected;
-}
-
-still-connected : (wire : Wire) (a : AdapterState) (write : OwnWrite) (target : TargetState) (is_open : Bool) →
-    Connected wire a.state.shared target is_open →
-    Connected wire (after_call a (Writes write)).state.shared target is_open
-still-connected wire a write target true serves = record {
-  connection = serves.connection;
-  alone = serves.alone;
-  session = serves.session;
-  id = serves.id;
-  t_to_o_id = serves.t_to_o_id;
-  is_target = serves.is_target;
-  moment = serves.moment;
-  deadline = serves.deadline;
-  last = serves.last;
-  timeout = serves.timeout;
-}
-still-connected wire a write target false none = none
-
--- a write of the device itself leaves the connection and both sessions as they are
-pub own-written : (wire : Wire) (a : AdapterState) (target : TargetState) (router : Device) (is_open : Bool)
-    (write : OwnWrite) → AdapterShows wire a target router is_open →
-    AdapterShows wire (after_call a (Writes write)) target (device_written write router) is_open
-own-written wire a target router is_open write shows = record {
-  peer = record { found = shows.peer.found; alive = shows.peer.alive; blank = shows.peer.blank };
-  second = record { found = shows.second.found; alive = shows.second.alive; blank = shows.second.blank };
-  objects = ap (device_written write) shows.objects;
-  connected = still-connected wire a write target is_open shows.connected;
 }

@@ -3,11 +3,11 @@ use Rattle.std.proofs.Common.{◌≡◌, ℕ, ◌⊎◌, inl, inr, Bool, true, f
 use Rattle.std.proofs.lemmas.Bool.{or_cases, or_left, or_right}
 use Rattle.std.proofs.lemmas.Option.{same_Some}
 use Rattle.cip_class3.specs.declared.originator.Refused.{Refused}
-use Rattle.enip_bench.specs.Events.{Event, Submit, Resend, Reach, Back, Other, Shut, GiveUp, Write, delivery, is_unconnected_request}
+use Rattle.enip_bench.specs.Events.{Event, Submit, Resend, Reach, Back, Other, Shut, GiveUp, delivery, is_unconnected_request}
 use Rattle.enip_bench.specs.Executions.{IsArrival, Arrives}
 use Rattle.enip_bench.specs.NumberedWorld.{Entry, OwnRequest, OtherRequest, NumberedWorld, Idle, refusal, is_awaited, stands, after_submit, after_reach, after_back, numbers_at_opening, numbered_step, numbered_run}
 use Rattle.enip_bench.specs.WorldLaws.{arrival_law}
-use Rattle.enip_bench.proofs.PlainLemmas.{stands-own, stands-other, stands-write}
+use Rattle.enip_bench.proofs.PlainLemmas.{stands-own, stands-other}
 
 -- the log after an event: unchanged, except by an arrival and another session's request
 submit-log : (why : Option Refused) (world : NumberedWorld) (request : List ℕ) → (after_submit why world request).log
@@ -88,7 +88,6 @@ step-before o_to_t_size world (Other request) number is =
     inl (sym (other-log (is_unconnected_request request) world request number) ∙ is)
 step-before o_to_t_size world Shut number is = inl is
 step-before o_to_t_size world GiveUp number is = inl is
-step-before o_to_t_size world (Write write) number is = inl (sym (stands-write world.log write number) ∙ is)
 
 step-after : (o_to_t_size : ℕ) (world : NumberedWorld) (event : Event) (number : ℕ) →
     (stands number world.log ≡ true) ⊎ IsArrival world event number →
@@ -110,8 +109,6 @@ step-after o_to_t_size world Shut number (inl old) = old
 step-after o_to_t_size world Shut number (inr new) = absurd new
 step-after o_to_t_size world GiveUp number (inl old) = old
 step-after o_to_t_size world GiveUp number (inr new) = absurd new
-step-after o_to_t_size world (Write write) number (inl old) = stands-write world.log write number ∙ old
-step-after o_to_t_size world (Write write) number (inr new) = absurd new
 
 run-before : (o_to_t_size : ℕ) (events : List Event) (world : NumberedWorld) (number : ℕ) →
     stands number (numbered_run o_to_t_size world events).log ≡ true →

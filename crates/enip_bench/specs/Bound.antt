@@ -4,7 +4,6 @@ use Rattle.cip_class3.specs.Item.{item}
 use Rattle.cip_class3.specs.OriginatorRule.{MOST_UNACCEPTED, form_refusal, submit_refusal}
 use Rattle.cip_class3.specs.declared.originator.Refused.TheVariants.{TooManyAbandoned}
 use Rattle.cip_class3.specs.declared.originator.Stage.TheVariants as stages
-use Rattle.enip_adapter.specs.OwnWrites.{OwnWrite}
 use Rattle.enip_bench.specs.Events.{Event, Submit, Reach, Back, GiveUp}
 use Rattle.enip_bench.specs.ItemWorld.{ItemWorld, after_submit, item_run, items_seen}
 use Rattle.enip_bench.specs.NumberedWorld.{refusal, submits_since_accepted}
@@ -31,11 +30,16 @@ module _ {M : Type 0} (after : M → ℕ → List ℕ → M) (answer : M → ℕ
   -- both worlds refuse the same requests, for the same reasons
   abbrev pub refusals_law : Type 0
   refusals_law =
-      (written : OwnWrite → M → M) (first o_to_t_size t_to_o_size : ℕ) (router : M) (events : List Event)
-      (request : List ℕ) → first < 2 ^ 16 →
+      (first o_to_t_size t_to_o_size : ℕ) (router : M) (events : List Event) (request : List ℕ) → first < 2 ^ 16 →
       10 ≤ t_to_o_size →
-      submit_refusal (items_after after answer written first o_to_t_size t_to_o_size router events).originator request
+      submit_refusal (items_after after answer first o_to_t_size t_to_o_size router events).originator request
       ≡ refusal o_to_t_size (numbers_after o_to_t_size events) request
+
+  -- What the item world shows if one more request is taken and reaches the target, and the answer reaches the
+  -- originator.
+  abbrev pub one_more_seen : ItemWorld M → List ℕ → ℕ → Seen M
+  one_more_seen world request position =
+      items_seen (item_run after answer (after_submit None world request) (Reach position ∷ Back 1 ∷ []))
 
   -- Only the first request was executed. The last one is answered with the count and the reply of the first one, and the
   -- originator accepts that as its reply.
@@ -49,27 +53,17 @@ module _ {M : Type 0} (after : M → ℕ → List ℕ → M) (answer : M → ℕ
         stage = stages.Idle;
       }
 
-module _ {M : Type 0} (after : M → ℕ → List ℕ → M) (answer : M → ℕ → List ℕ → List ℕ) (written : OwnWrite → M → M) where
-  -- What the item world shows if one more request is taken and reaches the target, and the answer reaches the
-  -- originator.
-  abbrev pub one_more_seen : ItemWorld M → List ℕ → ℕ → Seen M
-  one_more_seen world request position =
-      items_seen (item_run after answer written (after_submit None world request) (Reach position ∷ Back 1 ∷ []))
-
   -- At the bound, one more request is refused. An originator that took it would accept the old reply to another request.
   pub record IsOneTooMany (first t_to_o_size : ℕ) (router : M) (world : ItemWorld M) (request : List ℕ)
       (last : ℕ) : Type 0 where
     pub refused : submit_refusal world.originator request ≡ Some TooManyAbandoned
-    pub answered : one_more_seen world request last ≡ old_reply_seen after answer first t_to_o_size router request last
+    pub answered : one_more_seen world request last ≡ old_reply_seen first t_to_o_size router request last
 
-module _ {M : Type 0} (after : M → ℕ → List ℕ → M) (answer : M → ℕ → List ℕ → List ℕ) where
   -- This holds over every router, for every request of a valid form, after these events.
   abbrev pub raised_law : Type 0
   raised_law =
-      (written : OwnWrite → M → M) (first o_to_t_size t_to_o_size abandoned : ℕ) (router : M) (request : List ℕ) →
-      first < 2 ^ 16 →
+      (first o_to_t_size t_to_o_size abandoned : ℕ) (router : M) (request : List ℕ) → first < 2 ^ 16 →
       10 ≤ t_to_o_size → form_refusal o_to_t_size request ≡ None → abandoned ≡ MOST_UNACCEPTED →
-      IsOneTooMany after answer written first t_to_o_size router
-      (items_after after answer written first o_to_t_size t_to_o_size router
-      (accepted_then_abandoned request abandoned))
+      IsOneTooMany first t_to_o_size router
+      (items_after after answer first o_to_t_size t_to_o_size router (accepted_then_abandoned request abandoned))
       request (abandoned + 1)

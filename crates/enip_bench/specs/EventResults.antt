@@ -7,7 +7,7 @@ use Rattle.enip_adapter.specs.Calls.Call.{Feeds}
 use Rattle.enip_client.specs.Calls.{resends}
 use Rattle.enip_client.specs.Client.{fed}
 use Rattle.enip_bench.specs.CountingWorld.{CountingWorld, output_bytes, reply_heard}
-use Rattle.enip_bench.specs.Events.{Event, Submit, Resend, Reach, Back, Other, Shut, GiveUp, Write, delivery, is_unconnected_request}
+use Rattle.enip_bench.specs.Events.{Event, Submit, Resend, Reach, Back, Other, Shut, GiveUp, delivery, is_unconnected_request}
 
 -- a request was sent, with its number and its frame's position, or refused; a frame was sent again, with its position,
 -- or nothing was pending; a frame was answered, with the answer's position, or not answered; a reply was accepted, or
@@ -53,4 +53,3 @@ event_result world (Back position) = back_result world (delivery world.last_back
 event_result world (Other request) = if is_unconnected_request request then Done else Impossible
 event_result world Shut = Done
 event_result world GiveUp = Done
-event_result world (Write write) = Done

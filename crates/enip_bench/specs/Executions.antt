@@ -1,9 +1,8 @@
 -- One request in the numbered world: when it is executed, how often, and with which reply.
 use Rattle.std.specs.Prelude.{◌≡◌, ℕ, ◌+◌, ◌-◌, ◌<◌, ◌⊎◌, true, false, if◌then◌else◌, Some, List, [], ◌∷◌, ◌++◌}
 use Rattle.std.specs.List.{AllByRecursion}
-use Rattle.enip_adapter.specs.OwnWrites.{OwnWrite}
-use Rattle.enip_bench.specs.Events.{Event, Submit, Resend, Reach, Back, Other, Shut, GiveUp, Write, delivery}
-use Rattle.enip_bench.specs.NumberedWorld.{Entry, OwnRequest, OtherRequest, DeviceWrite, NumberedWorld, numbered_step, stands, is_execution_of, request_of, router_after}
+use Rattle.enip_bench.specs.Events.{Event, Submit, Resend, Reach, Back, Other, Shut, GiveUp, delivery}
+use Rattle.enip_bench.specs.NumberedWorld.{Entry, OwnRequest, OtherRequest, NumberedWorld, numbered_step, stands, is_execution_of, request_of, router_after}
 
 -- how often the request of this number was executed
 abbrev pub executions_of : ℕ → List Entry → ℕ
@@ -15,7 +14,6 @@ abbrev pub own_numbers : List Entry → List ℕ
 own_numbers [] = []
 own_numbers (OwnRequest number ∷ log) = number ∷ own_numbers log
 own_numbers (OtherRequest request ∷ log) = own_numbers log
-own_numbers (DeviceWrite write ∷ log) = own_numbers log
 
 -- each number is below all later ones
 abbrev pub AreRising : List ℕ → Type 0
@@ -32,7 +30,6 @@ IsArrival world (Back position) number = ⊥
 IsArrival world (Other request) number = ⊥
 IsArrival world Shut number = ⊥
 IsArrival world GiveUp number = ⊥
-IsArrival world (Write write) number = ⊥
 
 -- one of the events, starting from this world, brings this number to the open target
 abbrev pub Arrives : ℕ → NumberedWorld → List Event → ℕ → Type 0
@@ -40,7 +37,7 @@ Arrives o_to_t_size world [] number = ⊥
 Arrives o_to_t_size world (event ∷ events) number =
     IsArrival world event number ⊎ Arrives o_to_t_size (numbered_step o_to_t_size world event) events number
 
-module _ {M : Type 0} (after : M → ℕ → List ℕ → M) (answer : M → ℕ → List ℕ → List ℕ) (written : OwnWrite → M → M) where
+module _ {M : Type 0} (after : M → ℕ → List ℕ → M) (answer : M → ℕ → List ℕ → List ℕ) where
   -- the log has exactly one execution of this number's request, and this is the reply of it
   pub record IsOnlyExecution (t_to_o_size : ℕ) (submits : List (List ℕ)) (router : M) (log : List Entry) (number : ℕ)
       (reply : List ℕ) : Type 0 where
@@ -49,5 +46,5 @@ module _ {M : Type 0} (after : M → ℕ → List ℕ → M) (answer : M → ℕ
     pub there : log ≡ before ++ OwnRequest number ∷ later
     pub not_before : stands number before ≡ false
     pub not_later : stands number later ≡ false
-    pub replied : reply ≡ answer (router_after after answer written t_to_o_size submits router before) (t_to_o_size - 2)
+    pub replied : reply ≡ answer (router_after after answer t_to_o_size submits router before) (t_to_o_size - 2)
         (request_of submits number)

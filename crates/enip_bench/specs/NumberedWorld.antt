@@ -6,16 +6,13 @@ use Rattle.cip_class3.specs.declared.originator.Refused.{Refused}
 use Rattle.cip_class3.specs.declared.originator.Stage.{Stage}
 use Rattle.cip_class3.specs.declared.originator.Stage.TheVariants as stages
 use Rattle.cip_bytes.specs.declared.protocol.TheConstants.{UNCONNECTED_LIMIT}
-use Rattle.enip_adapter.specs.DeviceRuns.{DeviceStep, Requested, WrittenBy}
-use Rattle.enip_adapter.specs.OwnWrites.{OwnWrite}
-use Rattle.enip_bench.specs.Events.{Event, Submit, Resend, Reach, Back, Other, Shut, GiveUp, Write, delivery, is_unconnected_request, with_any}
+use Rattle.enip_bench.specs.Events.{Event, Submit, Resend, Reach, Back, Other, Shut, GiveUp, delivery, is_unconnected_request, with_any}
 use Rattle.enip_bench.specs.Seen.{Seen}
 
--- what was executed: the request of this number, or another session's; or a write of the device itself
+-- what was executed: the request of this number, or another session's
 pub data Entry : Type 0 where
   OwnRequest : (number : ℕ) → Entry
   OtherRequest : (request : List ℕ) → Entry
-  DeviceWrite : (write : OwnWrite) → Entry
 
 -- no request is pending, the one of this number is, or the last one was given up
 pub data Progress : Type 0 where
@@ -96,7 +93,6 @@ abbrev pub stands : ℕ → List Entry → Bool
 stands number [] = false
 stands number (OwnRequest own ∷ log) = (own == number) || stands number log
 stands number (OtherRequest request ∷ log) = stands number log
-stands number (DeviceWrite write ∷ log) = stands number log
 
 -- sends the awaited number, if there is one
 abbrev pub with_awaited_sent : NumberedWorld → NumberedWorld
@@ -143,7 +139,6 @@ numbered_step o_to_t_size world (Other request) =
     if is_unconnected_request request then record world { log = world.log ++ OtherRequest request ∷ [] } else world
 numbered_step o_to_t_size world Shut = record world { is_open = false }
 numbered_step o_to_t_size world GiveUp = record world { progress = given_up world.progress }
-numbered_step o_to_t_size world (Write write) = record world { log = world.log ++ DeviceWrite write ∷ [] }
 
 -- the world after these events, in order
 abbrev pub numbered_run : ℕ → NumberedWorld → List Event → NumberedWorld
@@ -161,42 +156,31 @@ stage_of GivenUp = stages.GivenUp
 abbrev pub request_of : List (List ℕ) → ℕ → List ℕ
 request_of submits number = slice_index_or submits number []
 
--- what an entry is to the device, at this T->O size: a request with the limit on its reply, or a write of its own
-abbrev pub execution_of : ℕ → List (List ℕ) → Entry → DeviceStep
-execution_of t_to_o_size submits (OwnRequest number) = Requested (t_to_o_size - 2, request_of submits number)
-execution_of t_to_o_size submits (OtherRequest request) = Requested (UNCONNECTED_LIMIT, request)
-execution_of t_to_o_size submits (DeviceWrite write) = WrittenBy write
+-- the limit on the reply, at this T->O size, and the request of an entry
+abbrev pub execution_of : ℕ → List (List ℕ) → Entry → ℕ × List ℕ
+execution_of t_to_o_size submits (OwnRequest number) = (t_to_o_size - 2, request_of submits number)
+execution_of t_to_o_size submits (OtherRequest request) = (UNCONNECTED_LIMIT, request)
 
 -- whether the entry is the execution of this number's request
 abbrev pub is_execution_of : ℕ → Entry → Bool
 is_execution_of number (OwnRequest own) = own == number
 is_execution_of number (OtherRequest request) = false
-is_execution_of number (DeviceWrite write) = false
 
-module _ {M : Type 0} (after : M → ℕ → List ℕ → M) (answer : M → ℕ → List ℕ → List ℕ)
-    (written : OwnWrite → M → M) where
-  -- the router after a request or a write, and its reply: none to a write
-  abbrev pub router_step : M → DeviceStep → M
-  router_step router (Requested request) = after router request.0 request.1
-  router_step router (WrittenBy write) = written write router
-
-  abbrev pub step_reply : M → DeviceStep → List ℕ
-  step_reply router (Requested request) = answer router request.0 request.1
-  step_reply router (WrittenBy write) = []
-
+module _ {M : Type 0} (after : M → ℕ → List ℕ → M) (answer : M → ℕ → List ℕ → List ℕ) where
   -- the router after a run over the log, from left to right
   abbrev pub router_after : ℕ → List (List ℕ) → M → List Entry → M
   router_after t_to_o_size submits router [] = router
   router_after t_to_o_size submits router (entry ∷ log) =
-      router_after t_to_o_size submits (router_step router (execution_of t_to_o_size submits entry)) log
+      let execution = execution_of t_to_o_size submits entry in
+      router_after t_to_o_size submits (after router execution.0 execution.1) log
 
   -- the reply to this number's request: what that run answers to it
   abbrev pub reply_to : ℕ → List (List ℕ) → M → List Entry → ℕ → List ℕ
   reply_to t_to_o_size submits router [] number = []
   reply_to t_to_o_size submits router (entry ∷ log) number =
-      let execution : DeviceStep = execution_of t_to_o_size submits entry in
-      let later : List ℕ = reply_to t_to_o_size submits (router_step router execution) log number in
-      if is_execution_of number entry then step_reply router execution else later
+      let execution = execution_of t_to_o_size submits entry in
+      let later = reply_to t_to_o_size submits (after router execution.0 execution.1) log number in
+      if is_execution_of number entry then answer router execution.0 execution.1 else later
 
   -- What the numbered world shows, for a connection with this first count and T->O size, over this router. Each number
   -- is sent back with its count, modulo 65,536, and the reply of its only execution.

@@ -2,8 +2,7 @@
 //!
 //! The functions do nothing: the clauses of each are the law. The events begin at an opening, when nothing is held, no
 //! request is pending, and nothing was sent. They are any list of submits, resends, in-order deliveries with any losses
-//! and repeats, other sessions' requests, closings, give-ups, and writes of the device itself. So the count may wrap
-//! any number of times.
+//! and repeats, other sessions' requests, closings and give-ups. So the count may wrap any number of times.
 
 ghost use Rattle.cip_objects.specs.Router.{RepliesWellFormed};
 ghost use Rattle.enip_bench.specs.Bound.{bound_law, refusals_law, raised_law};
@@ -11,7 +10,7 @@ ghost use Rattle.enip_bench.specs.FrameBound.{raised_in_frames};
 ghost use Rattle.enip_bench.specs.FrameLaw.{frame_law};
 ghost use Rattle.enip_bench.specs.FrameOnce.{accepted_in_frames, accepted_order_in_frames, answers_in_frames};
 ghost use Rattle.enip_bench.specs.FrameOnce.{same_frames, once_in_frames, requests_in_frames, first_in_frames};
-ghost use Rattle.enip_bench.specs.FrameOnce.{unchanged_in_frames, written_in_frames};
+ghost use Rattle.enip_bench.specs.FrameOnce.{unchanged_in_frames};
 ghost use Rattle.enip_bench.specs.JustOpened.{opening_law};
 ghost use Rattle.enip_bench.specs.ObjectsRun.{run_law};
 ghost use Rattle.enip_bench.specs.WorldLaws.{agreement_law, once_law, order_law, window_law, arrival_law};
@@ -69,8 +68,8 @@ pub fn bound_cannot_be_raised<R: Router>()
     ensures { RepliesWellFormed R.answer → raised_law R.after R.answer }
 {}
 
-/// At the objects, a log of the numbered world is a run of requests and of what the device itself writes, in order: the
-/// same contents after it, and the same reply at each position. Without writes, it is a run of the requests alone.
+/// At the objects, a log of the numbered world is a run of requests: the same contents after it, and the same reply at
+/// each position.
 pub fn log_is_a_run()
     ensures { run_law }
 {}
@@ -78,7 +77,7 @@ pub fn log_is_a_run()
 /// Once the client has registered and opened its connection, the whole adapter and the whole client show what the
 /// numbered world shows: the objects, the bytes of every frame sent back, each accepted reply with the number of its
 /// request, and the client's stage. Between the two ends are the bytes of whole frames. A second session has requests
-/// of its own executed, of any bytes, the device itself writes into its objects, and the connection ends by timeout.
+/// of its own executed, of any bytes, and the connection ends by timeout.
 pub fn frames_agree()
     ensures { frame_law }
 {}
@@ -98,13 +97,12 @@ pub fn frames_answered_alike()
 {}
 
 /// Over whole frames, each request is executed at most once: when its first frame reaches the open adapter. Nothing
-/// else changes the objects, except requests of another session and what the device itself writes.
+/// else changes the objects, except requests of another session.
 pub fn frames_executed_once()
     ensures once { once_in_frames }
     ensures sent { requests_in_frames }
     ensures first { first_in_frames }
     ensures unchanged { unchanged_in_frames }
-    ensures written { written_in_frames }
 {}
 
 /// Over whole frames, the bound can't be raised. If a client took one more request after the same events, the adapter

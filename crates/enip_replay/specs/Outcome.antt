@@ -7,10 +7,10 @@ use Rattle.cip_class3.specs.declared.originator.Stage.{Stage}
 use Rattle.cip_class3.specs.declared.originator.Stage.TheVariants as stages
 use Rattle.cip_bytes.specs.declared.protocol.TheConstants.{COUNTER}
 use Rattle.cip_objects.specs.Contents.{Contents, bytes_at, udint_at}
-use Rattle.enip_bench.specs.Events.{Event, Submit, Resend, Reach, Back, Other, Shut, GiveUp, Write}
+use Rattle.enip_bench.specs.Events.{Event, Submit, Resend, Reach, Back, Other, Shut, GiveUp}
 use Rattle.enip_bench.specs.EventResults.{EventResult, Sends, Refuses, Resends, Reaches, Accepts, Ignores, Impossible, Done}
 
--- The line of an event, without the digits of a request. A write of the device itself has none.
+-- The line of an event, without the digits of a request.
 abbrev pub words : Event → List ℕ
 words (Submit request) = codes "submit"
 words Resend = codes "resend"
@@ -19,7 +19,6 @@ words (Back position) = codes "back " ++ decimal position
 words (Other request) = codes "other"
 words Shut = codes "shut"
 words GiveUp = codes "giveup"
-words (Write write) = []
 
 -- The outcome of an event that is simply done.
 abbrev pub done_text : Event → List ℕ

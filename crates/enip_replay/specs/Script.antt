@@ -1,7 +1,7 @@
 -- The lines of a script.
 use Rattle.std.specs.Prelude.{◌≡◌, ◌<◌, ◌^◌, ℕ, Bool, true, false, List, [], ◌∷◌, ◌++◌, Some, codes, ◌==◌}
 use Rattle.std.specs.Str.Parse.{IsNumeral, digits_value}
-use Rattle.enip_bench.specs.Events.{Event, Submit, Resend, Reach, Back, Other, Shut, GiveUp, Write}
+use Rattle.enip_bench.specs.Events.{Event, Submit, Resend, Reach, Back, Other, Shut, GiveUp}
 use Rattle.enip_commands.specs.Digits.{bytes_spelled}
 
 -- An empty line or a comment.
@@ -18,7 +18,7 @@ IsNumbered word number text = (digits : List ℕ) × (text ≡ word ++ digits) �
 abbrev pub IsSpelled : List ℕ → List ℕ → List ℕ → Type 0
 IsSpelled word bytes text = (digits : List ℕ) × (text ≡ word ++ digits) × (bytes_spelled digits ≡ Some bytes)
 
--- The event that a line means. No line means a write of the device itself.
+-- The event that a line means.
 abbrev pub Means : List ℕ → Event → Type 0
 Means text (Submit request) = IsSpelled (codes "submit ") request text
 Means text Resend = text ≡ codes "resend"
@@ -27,7 +27,6 @@ Means text (Back position) = IsNumbered (codes "back ") position text
 Means text (Other request) = IsSpelled (codes "other ") request text
 Means text Shut = text ≡ codes "shut"
 Means text GiveUp = text ≡ codes "giveup"
-Means text (Write write) = ⊥
 
 -- The line does not start with this word.
 abbrev pub BeginsOtherwise : List ℕ → List ℕ → Type 0

@@ -1,4 +1,4 @@
-use Rattle.enip_bench.proofs.FrameOnceLemmas.{once_framed, requests_framed, first_framed, unchanged_framed, written_framed}
+use Rattle.enip_bench.proofs.FrameOnceLemmas.{once_framed, requests_framed, first_framed, unchanged_framed}
 use Rattle.enip_bench.proofs.laws.frames_executed_once.Goals as goal
 
 pub returns-clause-once : goal.returns-clause-once
@@ -12,6 +12,3 @@ returns-clause-first c = first_framed
 
 pub returns-clause-unchanged : goal.returns-clause-unchanged
 returns-clause-unchanged c = unchanged_framed
-
-pub returns-clause-written : goal.returns-clause-written
-returns-clause-written c = written_framed
