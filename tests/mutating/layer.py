@@ -11,6 +11,8 @@ LAYER = "library/enip.c"
 EXPORTED = ("enip_adapter_*", "enip_endings_*", "enip_client_*", "enip_once_*", "enip_version", "enip_status_text")
 SHARED = ["-Wl,--gc-sections", "-Wl,-z,defs"]
 COMPILE = ["-std=c99", "-O2", "-fPIC", "-ffunction-sections", "-Ilibrary/include", "-c"]
+# An error of which the compiler warns can't be planted: the tests compile the layer so.
+STRICT = ["-Wall", "-Wextra", "-Wpedantic", "-Werror"]
 
 
 def errors_of_layer(random):
@@ -77,7 +79,7 @@ class Layer:
         """The object of a layer, or None if it can't be compiled."""
         source, made = self.folder / "layer.c", self.folder / "layer.o"
         source.write_text(text)
-        holds, _ = ran("cc", *COMPILE, source, "-o", made)
+        holds, _ = ran("cc", *COMPILE, *STRICT, source, "-o", made)
         return made.read_bytes() if holds else None
 
     def state(self, error):
