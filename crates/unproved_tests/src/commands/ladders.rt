@@ -139,7 +139,6 @@ fn a_writer_that_fails(rt: HostRuntime) -> Result<(), Fail> {
             Err(ReplayFailure::Program(ProgramFault::Device)),
             "{room}"
         );
-        drop(output);
         assert_eq!(rt; written.len(), room);
     }
     Ok(())
