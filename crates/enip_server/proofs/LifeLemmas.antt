@@ -7,7 +7,8 @@ use Rattle.std.proofs.lemmas.List.Quantifiers.{position-Some}
 use Rattle.std.specs.List.{AllByRecursion}
 use Rattle.enip_adapter.specs.declared.adapter.Full.{Full}
 use Rattle.enip_adapter.specs.Calls.{AdapterState, Call, after_call}
-use Rattle.enip_adapter.specs.Calls.Call.{Begins_peer}
+use Rattle.enip_adapter.specs.Calls.Call.{Begins_peer, Writes}
+use Rattle.enip_adapter.specs.OwnWrites.{OwnWrite}
 use Rattle.enip_adapter.specs.Runs.{after_calls, IsForOther}
 use Rattle.enip_server.specs.declared.peer_io.PeerIo.{PeerIo}
 use Rattle.enip_server.specs.declared.wire_counts.WireCounts.{WireCounts}
@@ -15,8 +16,9 @@ use Rattle.enip_server.specs.Wires.{KnownCalls}
 use Rattle.enip_server.specs.PeerStates.{peer_state_of}
 use Rattle.enip_server.specs.Transfers.{Transfers, GoesOnWith}
 use Rattle.enip_server.specs.Rounds.{ServerState, new_peers, new_peer_io, first_free, IsAdded, marked_ready_in, marked_ready_at}
+use Rattle.enip_server.specs.Rounds.{written_by}
 use Rattle.enip_server.specs.Runs.{IsStep, IsRun, HoldsSlot, KeepsSlot}
-use Rattle.enip_server.specs.Runs.IsStep.{Adds, MarksReady, Rounds}
+use Rattle.enip_server.specs.Runs.IsStep.{Adds, MarksReady, Rounds, Writes_own}
 use Rattle.enip_server.specs.Runs.IsRun.{Still, Goes_on}
 use Rattle.enip_server.specs.Runs.KeepsSlot.{Begins, Stays_on}
 use Rattle.enip_server.proofs.ApartLemmas.{AreSound, sound_new, sound_come, sound_of, of_woken, are_of_themselves, AreOf}
@@ -83,6 +85,9 @@ module _ {W : Type 0} (left written : W → Option (List ℕ)) (known : W → Op
       (subst (AreOf old.slots) (sym (ap (λ p. p.slots) is)) (of_woken ends old.slots slot (slice_get old.slots slot) refl))
       (omega (arith, ap (λ p. p.adapter.state.next_handle) is))
   sound_step old new (Rounds now is) sound = sound_round left written known counts now old new is sound
+  sound_step old new (Writes_own write is) sound =
+      sound_of old new sound (subst (AreOf old.slots) (sym (ap (λ p. p.slots) is)) (are_of_themselves old.slots))
+      (omega (arith, ap (λ p. p.adapter.state.next_handle) is))
 
   sound_run : (old new : ServerState W) → IsRun left written known counts old new → AreSound old → AreSound new
   sound_run old new Still sound = sound
@@ -141,6 +146,19 @@ module _ {W : Type 0} (left written : W → Option (List ℕ)) (known : W → Op
       (same_line old.slots slot io after there
       (subst (λ (p : ServerState W). slice_get p.slots slot ≡ Some (Some after)) is.1 stays))
 
+  -- the device wrote, which is a call for no peer
+  kept_written : (old new : ServerState W) (write : OwnWrite) → new ≡ written_by write old → (slot : ℕ) (io after : PeerIo W)
+      → slice_get old.slots slot ≡ Some (Some io) → slice_get new.slots slot ≡ Some (Some after)
+      → IsKept old.adapter io new.adapter after
+  kept_written old new write is slot io after there stays = record {
+    calls = Writes write ∷ [];
+    each = (tt, tt);
+    leads = ap (λ p. p.adapter) is;
+    same = ap (peer_state_of left written known counts new.adapter)
+        (same_line old.slots slot io after there
+        (subst (λ (p : ServerState W). slice_get p.slots slot ≡ Some (Some after)) is stays));
+  }
+
   -- marking a slot ready does not show in a peer's state
   woken_desk : (ends : Bool) (a : AdapterState) (slots : List (Option (PeerIo W))) (waken slot : ℕ) (found : Option (Option (PeerIo W)))
       → slice_get slots waken ≡ found → (io after : PeerIo W) → slice_get slots slot ≡ Some (Some io)
@@ -181,6 +199,8 @@ module _ {W : Type 0} (left written : W → Option (List ℕ)) (known : W → Op
       (subst (λ (p : ServerState W). slice_get p.slots slot ≡ Some (Some after)) is stays) (eqb waken slot) refl))
   step_moves old new sound (Rounds now is) slot io after there stays =
       round_moves left written known counts now old new is sound slot io after there stays
+  step_moves old new sound (Writes_own write is) slot io after there stays =
+      kept_moves old.adapter io new.adapter after (kept_written old new write is slot io after there stays)
 
   -- ---- a peer that keeps its slot
 

@@ -7,7 +7,8 @@ use Rattle.cip_manager.specs.Connection.{earliest_deadline}
 use Rattle.enip_adapter.specs.declared.adapter.Full.{Full}
 use Rattle.enip_adapter.specs.declared.adapter.Full.TheVariants.{Places}
 use Rattle.enip_adapter.specs.Calls.{AdapterState, call_answer, after_call}
-use Rattle.enip_adapter.specs.Calls.Call.{Begins_peer, Ends_peer, Ticks}
+use Rattle.enip_adapter.specs.Calls.Call.{Begins_peer, Ends_peer, Ticks, Writes}
+use Rattle.enip_adapter.specs.OwnWrites.{OwnWrite}
 use Rattle.enip_adapter.specs.Turn.Output.{Begins, Refuses}
 use Rattle.enip_server.specs.declared.peer_io.PeerIo.{PeerIo}
 use Rattle.enip_server.specs.declared.peer_io.Turn.{Turn}
@@ -154,6 +155,10 @@ IsAdded now wire old new (Err full) =
     ((first_free old.slots ≡ None) × (full ≡ Places) × (new ≡ old))
     ⊎ (((call_answer old.adapter Begins_peer).output ≡ Refuses full)
     × (new ≡ record old { adapter = after_call old.adapter Begins_peer }))
+
+-- The device's own write is a call of the adapter, and changes nothing else.
+abbrev pub written_by : {W : Type 0} → OwnWrite → ServerState W → ServerState W
+written_by write p = record p { adapter = after_call p.adapter (Writes write) }
 
 -- The wire of a slot may be ready, and the end of its stream may be reported at the same time.
 abbrev pub marked_ready_in : {W : Type 0} → Bool → PeerIo W → PeerIo W

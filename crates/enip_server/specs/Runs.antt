@@ -1,18 +1,21 @@
 -- Lists of calls of `Peers`, and one peer that keeps its slot among them.
 use Rattle.std.specs.Prelude.{ℕ, ◌≡◌, Bool, List, Option, Some, Result, slice_get}
 use Rattle.enip_adapter.specs.declared.adapter.Full.{Full}
+use Rattle.enip_adapter.specs.OwnWrites.{OwnWrite}
 use Rattle.enip_server.specs.declared.peer_io.PeerIo.{PeerIo}
 use Rattle.enip_server.specs.declared.wire_counts.WireCounts.{WireCounts}
 use Rattle.enip_server.specs.Wires.{KnownCalls}
-use Rattle.enip_server.specs.Rounds.{ServerState, IsRound, IsAdded, marked_ready}
+use Rattle.enip_server.specs.Rounds.{ServerState, IsRound, IsAdded, marked_ready, written_by}
 
--- One call: a peer is added, or refused; a wire may be ready, or at the end of its stream; a round.
+-- One call: a peer is added, or refused; a wire may be ready, or at the end of its stream; a round; or the device's own
+-- write.
 pub data IsStep {W : Type 0} (left written : W → Option (List ℕ)) (known : W → Option KnownCalls) (counts : W → WireCounts) : ServerState W → ServerState W → Type 0 where
   Adds : {old new : ServerState W} (now : ℕ) (wire : W) (result : Result ℕ Full) → IsAdded now wire old new result
       → IsStep left written known counts old new
   MarksReady : {old new : ServerState W} (slot : ℕ) (ends : Bool) → new ≡ record old { slots = marked_ready ends old.slots slot }
       → IsStep left written known counts old new
   Rounds : {old new : ServerState W} (now : ℕ) → IsRound left written known counts now old new → IsStep left written known counts old new
+  Writes_own : {old new : ServerState W} (write : OwnWrite) → new ≡ written_by write old → IsStep left written known counts old new
 
 -- Calls, one after the other.
 pub data IsRun {W : Type 0} (left written : W → Option (List ℕ)) (known : W → Option KnownCalls) (counts : W → WireCounts) : ServerState W → ServerState W → Type 0 where

@@ -19,7 +19,8 @@ pub fn turns_lose_nothing()
         × (gone : List ℕ) × AllByRecursion (IsFeedOf now peer) calls × Transfers peer calls received gone old new }
 {}
 
-/// Peers are served apart, whatever calls are made and for any number of peers. As long as a peer holds its slot, the
+/// Peers are served apart, whatever calls are made, with the device's own writes among them, and for any number of
+/// peers. As long as a peer holds its slot, the
 /// adapter is in a state that calls of it lead to, none of which ends this peer, and no byte of this peer is lost or
 /// mixed up. What was read from its wire is what these calls took of it, followed by what waits to be fed. What these
 /// calls answered it is what was written to its wire, followed by what waits to be written, in this order.

@@ -9,6 +9,8 @@
 //! - `round` gives each peer that may be ready one turn. A turn first writes what is left of an answer. Once all of it
 //!   is written, it makes one read of at most 4,096 bytes and feeds them frame by frame. Each answer is written before
 //!   the next frame is fed.
+//! - Between rounds, `adapter` reads the objects and connections, and `write_data`, `set_device_status` and
+//!   `set_device_state` write on behalf of the device itself.
 //!
 //! No call after `Peers::new` allocates memory.
 //!
@@ -30,6 +32,21 @@
 //!     }
 //!     let end = peers.round(now);
 //!     if end.ready { Some(now) } else { end.next }
+//! }
+//! ```
+//!
+//! Between two steps, the program that owns the device writes the inputs that its peers read. It returns whether they
+//! have written outputs since `seen`, a count of changes:
+//!
+//! ```
+//! fn exchange<W: Wire + Drop>(peers: &mut Peers<W>, inputs: &[u8], seen: &mut Option<u32>) -> bool {
+//!     // peers read the inputs in assembly 100
+//!     peers.write_data(100, 0, inputs);
+//!     // and write the outputs in assembly 101
+//!     let changes = peers.adapter().changes(101);
+//!     let are_new = changes != *seen;
+//!     *seen = changes;
+//!     are_new
 //! }
 //! ```
 #![tactic(auto)]

@@ -1,13 +1,15 @@
 //! The peers of an adapter, and the calls that serve them.
 //! Text: docs/PROGRAM.md, "`enip serve`".
 
-ghost use Rattle.std.specs.Prelude.{◌≡◌, ◌≤◌, length, IfOk, IfSome};
+ghost use Rattle.std.specs.Prelude.{◌≡◌, ◌≤◌, length, IfOk, IfSome, is_some};
 ghost use Rattle.std.specs.List.{list_any};
 ghost use Rattle.std.specs.Option.{option_map};
+ghost use Rattle.cip_objects.specs.DeviceWrites.{device_write};
 ghost use Rattle.enip_adapter.specs.Discovery.{discovered};
+ghost use Rattle.enip_adapter.specs.OwnWrites.{OwnWrite};
 ghost use Rattle.enip_server.specs.Rounds.{IsSlotServed, AreSlotsServed, IsRound, has_ended, ended_in};
 ghost use Rattle.enip_server.specs.Rounds.{state_of, new_peers, first_free, IsAdded, marked_ready, is_ready, earliest_of, next_moment};
-ghost use Rattle.enip_server.specs.Rounds.{due_with, due_by, moment_or_none};
+ghost use Rattle.enip_server.specs.Rounds.{due_with, due_by, moment_or_none, written_by};
 
 use crate::peer_io::{PeerIo, Turn};
 use crate::wire::Wire;
@@ -143,6 +145,45 @@ impl<W: Wire + Drop> Peers<W> {
             ready: due.ready,
             next: moment_or_none(deadline.min(due.moment)),
         }
+    }
+
+    /// The adapter, to be read between rounds: its objects, its command ledger, how often peers have written an
+    /// assembly (`Adapter::changes`), and its connections. Pass it to `Endings::update` after each round to learn which
+    /// connections ended.
+    pub fn adapter(&self) -> &Adapter
+        ensures { result.now ≡ (state_of self.now).adapter }
+    {
+        &self.adapter
+    }
+
+    /// Writes bytes into the data of an assembly, from `offset` on, on behalf of the device itself. Whether peers may
+    /// set the assembly does not matter. Peers that are served later read the bytes.
+    ///
+    /// Returns `false`, and changes nothing, if there is no such assembly or the bytes go past the end of its data. The
+    /// write is not counted in `changes`. No slot, wire, buffer or idle timeout changes.
+    pub fn write_data(&mut self, instance: u32, offset: usize, bytes: &[u8]) -> bool
+        ensures call { state_of self.new
+            ≡ written_by (OwnWrite.WritesData instance offset bytes.now) (state_of self.old) }
+        ensures told { result ≡ is_some
+            (device_write (state_of self.old).adapter.state.shared.objects.router instance offset bytes.now) }
+    {
+        self.adapter.write_data(instance, offset, bytes)
+    }
+
+    /// Sets the device's status, a WORD: attribute 5 of the Identity object, which ListIdentity shows too. Nothing else
+    /// changes.
+    pub fn set_device_status(&mut self, status: u16)
+        ensures { state_of self.new ≡ written_by (OwnWrite.SetsStatus status) (state_of self.old) }
+    {
+        self.adapter.set_device_status(status);
+    }
+
+    /// Sets the device's state, a USINT: attribute 8 of the Identity object, which ListIdentity shows too. Nothing else
+    /// changes.
+    pub fn set_device_state(&mut self, state: u8)
+        ensures { state_of self.new ≡ written_by (OwnWrite.SetsState state) (state_of self.old) }
+    {
+        self.adapter.set_device_state(state);
     }
 
     /// The answer to a datagram, written into `room`. A datagram is answered if it is exactly one ListIdentity,
