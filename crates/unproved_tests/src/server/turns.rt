@@ -10,7 +10,8 @@ use std::test::Fail;
 use test_fixtures::adapter::{ADD, ADDED, LONG, OPEN, REFUSED, REGISTER, REGISTERED, new_adapter};
 
 /// The answer to `OPEN`.
-const OPENED: &[u8] = b"\x6f\0\x2e\0\x01\0\0\0\0\0\0\0\x01\x02\x03\x04\x05\x06\x07\x08\0\0\0\0\
+pub(super) const OPENED: &[u8] =
+    b"\x6f\0\x2e\0\x01\0\0\0\0\0\0\0\x01\x02\x03\x04\x05\x06\x07\x08\0\0\0\0\
     \0\0\0\0\0\0\x02\0\0\0\0\0\xb2\0\x1e\0\xd4\0\0\0\x01\0\0\0\x44\x33\x22\x11\x01\0\x42\0\x78\x56\x34\x12\
     \x80\x84\x1e\0\x80\x84\x1e\0\0\0";
 
@@ -20,7 +21,7 @@ fn peers<'a>(alloc: Global, idle_timeout: u64) -> Result<Peers<ScriptedWire<'a>>
 }
 
 /// The texts, joined.
-fn joined(alloc: Global, texts: &[&[u8]]) -> Result<Vec<u8>, Fail> {
+pub(super) fn joined(alloc: Global, texts: &[&[u8]]) -> Result<Vec<u8>, Fail> {
     let mut bytes = Vec::new(alloc);
     for text in texts {
         bytes.extend_from_slice(text)?;
