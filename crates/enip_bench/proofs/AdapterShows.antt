@@ -20,13 +20,14 @@ use Rattle.enip_adapter.specs.declared.peer.Session.{Session}
 use Rattle.enip_adapter.specs.declared.shared.Shared.{Shared}
 use Rattle.enip_adapter.specs.declared.no_reply_reason.NoReplyReason.TheVariants.{AnotherSession}
 use Rattle.enip_adapter.specs.Calls.{AdapterState, after_call, call_answer}
-use Rattle.enip_adapter.specs.Calls.Call.{Feeds, Ticks}
+use Rattle.enip_adapter.specs.Calls.Call.{Feeds, Ticks, Writes}
 use Rattle.enip_adapter.specs.Commands.{command_served}
+use Rattle.enip_adapter.specs.OwnWrites.{OwnWrite, device_written}
 use Rattle.enip_adapter.specs.Replies.{Served, leaving, no_reply, replied}
 use Rattle.enip_adapter.specs.Runs.{is_open_at_all}
 use Rattle.enip_adapter.specs.SendRRData.{routed, reply_to_body}
 use Rattle.enip_adapter.specs.SendUnitData.{turn_of_item, served_item, item_of_body, item_reply}
-use Rattle.enip_adapter.specs.Turn.{session_after, without_connections, sent, at_moment}
+use Rattle.enip_adapter.specs.Turn.{session_after, without_connections, sent, at_moment, shared_written}
 use Rattle.enip_adapter.proofs.PeerLemmas.{session-call, held-call, connections-calls}
 use Rattle.enip_client.specs.declared.wants.Wants.{Wants}
 use Rattle.enip_client.specs.Frames.{item_frame, request_frame}
@@ -374,4 +375,31 @@ shut wire a target router is_open shows = record {
   second = record { found = shows.second.found; alive = shows.second.alive; blank = shows.second.blank };
   objects = shows.objects;
   connected = ends wire a.state.shared target is_open shows.connected;
+}
+
+-- a write of the device leaves the connection as it is
+kept : (wire : Wire) (shared : Shared) (target : TargetState) (is_open : Bool) (write : OwnWrite) →
+    Connected wire shared target is_open → Connected wire (shared_written shared write) target is_open
+kept wire shared target true write serves = record {
+  connection = serves.connection;
+  alone = serves.alone;
+  session = serves.session;
+  id = serves.id;
+  t_to_o_id = serves.t_to_o_id;
+  is_target = serves.is_target;
+  moment = serves.moment;
+  deadline = serves.deadline;
+  last = serves.last;
+  timeout = serves.timeout;
+}
+kept wire shared target false write none = none
+
+pub written_by : (wire : Wire) (a : AdapterState) (target : TargetState) (router : Device) (is_open : Bool)
+    (write : OwnWrite) → AdapterShows wire a target router is_open →
+    AdapterShows wire (after_call a (Writes write)) target (device_written write router) is_open
+written_by wire a target router is_open write shows = record {
+  peer = record { found = shows.peer.found; alive = shows.peer.alive; blank = shows.peer.blank };
+  second = record { found = shows.second.found; alive = shows.second.alive; blank = shows.second.blank };
+  objects = ap (device_written write) shows.objects;
+  connected = kept wire a.state.shared target is_open write shows.connected;
 }

@@ -3,15 +3,15 @@ use Rattle.std.proofs.Common.{◌≡◌, ℕ, ◌⊎◌, inl, inr, Bool, true, f
 use Rattle.std.proofs.lemmas.Bool.{or_cases, or_left, or_right}
 use Rattle.std.proofs.lemmas.Option.{same_Some}
 use Rattle.cip_class3.specs.declared.originator.Refused.{Refused}
-use Rattle.enip_bench.specs.Events.{Event, Submit, Resend, Reach, Back, Other, Shut, GiveUp, delivery, is_unconnected_request}
+use Rattle.enip_bench.specs.Events.{Event, Submit, Resend, Reach, Back, Other, Write, Shut, GiveUp, delivery, is_unconnected_request}
 use Rattle.enip_bench.specs.Executions.{IsArrival, Arrives}
-use Rattle.enip_bench.specs.NumberedWorld.{Entry, OwnRequest, OtherRequest, NumberedWorld, Idle, refusal, is_awaited, stands, after_submit, after_reach, after_back, numbers_at_opening, numbered_step, numbered_run}
+use Rattle.enip_bench.specs.NumberedWorld.{Entry, OwnRequest, OtherRequest, DeviceWrite, NumberedWorld, Idle, refusal, is_awaited, stands, after_submit, after_reach, after_back, numbers_at_opening, numbered_step, numbered_run}
 use Rattle.enip_bench.specs.WorldLaws.{arrival_law}
-use Rattle.enip_bench.proofs.PlainLemmas.{stands-own, stands-other}
+use Rattle.enip_bench.proofs.PlainLemmas.{stands-own, stands-other, stands-write}
 
--- the log after an event: unchanged, except by an arrival and another session's request
-submit-log : (why : Option Refused) (world : NumberedWorld) (request : List ℕ) → (after_submit why world request).log
-    ≡ world.log
+-- the log after an event: unchanged, except by an arrival, another session's request and a write of the device
+pub submit-log : (why : Option Refused) (world : NumberedWorld) (request : List ℕ) →
+    (after_submit why world request).log ≡ world.log
 submit-log None world request = refl
 submit-log (Some why) world request = refl
 
@@ -22,7 +22,8 @@ came-log : (is : Bool) (world : NumberedWorld) (position number : ℕ) →
 came-log true world position number = refl
 came-log false world position number = refl
 
-back-log : (found : Option ℕ) (world : NumberedWorld) (position : ℕ) → (after_back found world position).log ≡ world.log
+pub back-log : (found : Option ℕ) (world : NumberedWorld) (position : ℕ) →
+    (after_back found world position).log ≡ world.log
 back-log None world position = refl
 back-log (Some number) world position = came-log (is_awaited world.progress number) world position number
 
@@ -86,6 +87,7 @@ step-before o_to_t_size world (Back position) number is =
     inl (ap (stands number) (sym (back-log (delivery world.last_back world.back position) world position)) ∙ is)
 step-before o_to_t_size world (Other request) number is =
     inl (sym (other-log (is_unconnected_request request) world request number) ∙ is)
+step-before o_to_t_size world (Write write) number is = inl (sym (stands-write world.log write number) ∙ is)
 step-before o_to_t_size world Shut number is = inl is
 step-before o_to_t_size world GiveUp number is = inl is
 
@@ -105,6 +107,8 @@ step-after o_to_t_size world (Back position) number (inr new) = absurd new
 step-after o_to_t_size world (Other request) number (inl old) =
     other-log (is_unconnected_request request) world request number ∙ old
 step-after o_to_t_size world (Other request) number (inr new) = absurd new
+step-after o_to_t_size world (Write write) number (inl old) = stands-write world.log write number ∙ old
+step-after o_to_t_size world (Write write) number (inr new) = absurd new
 step-after o_to_t_size world Shut number (inl old) = old
 step-after o_to_t_size world Shut number (inr new) = absurd new
 step-after o_to_t_size world GiveUp number (inl old) = old

@@ -8,6 +8,7 @@ use Rattle.cip_class3.specs.TargetRule.{TargetStep, is_held}
 use Rattle.cip_class3.specs.declared.originator.Refused.{Refused}
 use Rattle.cip_class3.specs.declared.originator.Refused.TheVariants as refusals
 use Rattle.cip_objects.specs.Router.{IsReplyTo}
+use Rattle.enip_adapter.specs.OwnWrites.{OwnWrite}
 use Rattle.enip_bench.specs.Bound.{bound_law, abandonings, accepted_then_abandoned, refusals_law, one_more_seen, old_reply_seen, IsOneTooMany, raised_law}
 use Rattle.enip_bench.specs.Events.{Event, Submit, Reach, Back, GiveUp, delivery, with_any}
 use Rattle.enip_bench.specs.ItemWorld as items
@@ -146,15 +147,16 @@ accepted_then o_to_t_size n request most formed =
     ∙ ap (abandoned_world request) (let same : n + 0 ≡ n = omega arith in same)
 
 module _ {M : Type 0} (after : M → ℕ → List ℕ → M) (answer : M → ℕ → List ℕ → List ℕ)
+    (written : OwnWrite → M → M)
     (begins : (router : M) (room : ℕ) (request : List ℕ) → 8 ≤ room → 2 ≤ length request →
     IsReplyTo request (answer router room request))
     (within : (router : M) (room : ℕ) (request : List ℕ) → 8 ≤ room → 2 ≤ length request →
     length (answer router room request) ≤ room) where
-  pub refusals_agree : refusals_law after answer
+  pub refusals_agree : refusals_law after answer written
   refusals_agree first o_to_t_size t_to_o_size router events request below roomy =
       ap (λ (world : ItemWorld M). submit_refusal world.originator request)
-      (items_after-image after answer begins within first o_to_t_size t_to_o_size router events below roomy)
-      ∙ refusal-same after answer first o_to_t_size t_to_o_size router
+      (items_after-image after answer written begins within first o_to_t_size t_to_o_size router events below roomy)
+      ∙ refusal-same after answer written first o_to_t_size t_to_o_size router
       (tracked_run o_to_t_size tracked_at_opening events) request
       (run_sound o_to_t_size events tracked_at_opening (opening_sound o_to_t_size))
       ∙ ap (λ world. refusal o_to_t_size world request) (sym (run_plain o_to_t_size events tracked_at_opening))
@@ -162,7 +164,7 @@ module _ {M : Type 0} (after : M → ℕ → List ℕ → M) (answer : M → ℕ
   module _ (first o_to_t_size t_to_o_size n : ℕ) (router : M) (request : List ℕ) (roomy : 10 ≤ t_to_o_size)
       (below : first < 2 ^ 16) (formed : form_refusal o_to_t_size request ≡ None) (all : n ≡ MOST_UNACCEPTED) where
     abbrev show : TrackedWorld → ItemWorld M
-    show world = image after answer first t_to_o_size router o_to_t_size world
+    show world = image after answer written first t_to_o_size router o_to_t_size world
 
     abbrev old_reply : List ℕ
     old_reply = answer router (t_to_o_size - 2) request
@@ -182,7 +184,7 @@ module _ {M : Type 0} (after : M → ℕ → List ℕ → M) (answer : M → ℕ
     found = ap₂ (λ is (o : Option Own). cond is o None) (le-leb 0 (n + 1) (omega arith))
         (ap (slice_get beyond.sent) (sym (length-sent request n)) ∙ get-last (sent request n) (numbered request last))
 
-    repeated : is_held (held_of after answer first t_to_o_size router beyond.log) (count_of first last) ≡ true
+    repeated : is_held (held_of after answer written first t_to_o_size router beyond.log) (count_of first last) ≡ true
     repeated = eq-eqb (count_of first 0) (count_of first last) (sym same_count)
 
     -- the first one's reply is accepted as the last one's
@@ -190,15 +192,16 @@ module _ {M : Type 0} (after : M → ℕ → List ℕ → M) (answer : M → ℕ
         ≡ true
     old_accepted =
         ap (λ count. answers t_to_o_size count (slice_index request 0) (item (count_of first 0) old_reply)) same_count
-        ∙ is_reply-same after answer first o_to_t_size t_to_o_size router roomy begins within (request ∷ [])
+        ∙ is_reply-same after answer written first o_to_t_size t_to_o_size router roomy begins within (request ∷ [])
         (numbered request 0) 0 old_reply true refl
-        (answered-now after answer first t_to_o_size router roomy begins within (request ∷ []) router
+        (answered-now after answer written first t_to_o_size router roomy begins within (request ∷ []) router
         (numbered request 0) refl ((has_form o_to_t_size request formed).least)) refl (omega arith) (omega arith)
 
     -- what is seen after this step of the target, if the answer was accepted or not
     abbrev seen_after : TargetStep M → Seen M
     seen_after step =
-        items_seen (item_step after answer (with_step (record (show beyond) { last_reached = Some (n + 1) }) step)
+        items_seen (item_step after answer written
+        (with_step (record (show beyond) { last_reached = Some (n + 1) }) step)
         (Back 1))
 
     abbrev heard : Bool → ℕ → ℕ → Seen M
@@ -213,35 +216,37 @@ module _ {M : Type 0} (after : M → ℕ → List ℕ → M) (answer : M → ℕ
     number-last : length beyond.submits - 1 ≡ n + 1
     number-last = omega (arith, length_push (submitted request n) request, length-submitted request n)
 
-    answered : one_more_seen after answer (show (abandoned_world request n)) request (n + 1)
-        ≡ old_reply_seen after answer first t_to_o_size router request (n + 1)
+    answered : one_more_seen after answer written (show (abandoned_world request n)) request (n + 1)
+        ≡ old_reply_seen after answer written first t_to_o_size router request (n + 1)
     answered =
-        ap (λ world. items_seen (item_run after answer world (Reach (n + 1) ∷ Back 1 ∷ [])))
-        (at_submit after answer first o_to_t_size t_to_o_size router (abandoned_world request n) None request)
-        ∙ ap (λ o. items_seen (item_step after answer (items.after_reach after answer o (show beyond) (n + 1)) (Back 1)))
+        ap (λ world. items_seen (item_run after answer written world (Reach (n + 1) ∷ Back 1 ∷ [])))
+        (at_submit after answer written first o_to_t_size t_to_o_size router (abandoned_world request n) None request)
+        ∙ ap (λ o. items_seen (item_step after answer written
+        (items.after_reach after answer written o (show beyond) (n + 1)) (Back 1)))
         (delivery-map (item_of first) (Some 0) beyond.sent (n + 1) ∙ ap (option_map (item_of first)) found)
-        ∙ ap seen_after (repeats after answer first o_to_t_size t_to_o_size router roomy begins within beyond
+        ∙ ap seen_after (repeats after answer written first o_to_t_size t_to_o_size router roomy begins within beyond
         (numbered request last) (has_form o_to_t_size request formed) repeated)
         ∙ ap (λ is. heard is (length beyond.submits - 1) (count_of first 0)) old_accepted
         ∙ ap₂ (λ number count. heard true number count) number-last (count_of-first first below)
 
-    there : items_after after answer first o_to_t_size t_to_o_size router (accepted_then_abandoned request n)
+    there : items_after after answer written first o_to_t_size t_to_o_size router (accepted_then_abandoned request n)
         ≡ show (abandoned_world request n)
     there =
-        items_after-image after answer begins within first o_to_t_size t_to_o_size router
+        items_after-image after answer written begins within first o_to_t_size t_to_o_size router
         (accepted_then_abandoned request n) below roomy
         ∙ ap show (accepted_then o_to_t_size n request (omega (arith, all)) formed)
 
-    pub one_too_many : IsOneTooMany after answer first t_to_o_size router
-        (items_after after answer first o_to_t_size t_to_o_size router (accepted_then_abandoned request n)) request
+    pub one_too_many : IsOneTooMany after answer written first t_to_o_size router
+        (items_after after answer written first o_to_t_size t_to_o_size router
+        (accepted_then_abandoned request n)) request
         (n + 1)
     one_too_many = record {
       refused = ap (λ (world : ItemWorld M). submit_refusal world.originator request) there
           ∙ too_many n (is_waiting (phase_of first (course n))) (form_refusal o_to_t_size request)
           (omega (arith, all));
-      answered = ap (λ world. one_more_seen after answer world request (n + 1)) there ∙ answered;
+      answered = ap (λ world. one_more_seen after answer written world request (n + 1)) there ∙ answered;
     }
 
-  pub raised : raised_law after answer
+  pub raised : raised_law after answer written
   raised first o_to_t_size t_to_o_size abandoned router request below roomy formed all =
       one_too_many first o_to_t_size t_to_o_size abandoned router request roomy below formed all

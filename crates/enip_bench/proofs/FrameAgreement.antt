@@ -8,6 +8,7 @@ use Rattle.enip_client.specs.Client.{ClientState}
 use Rattle.enip_client.specs.Frames.{item_frame}
 use Rattle.enip_client.specs.declared.wants.Wants.{Wants}
 use Rattle.enip_wire.specs.Frames.{frame}
+use Rattle.enip_adapter.specs.OwnWrites.{device_written}
 use Rattle.enip_bench.specs.CountingWorld.{CountingWorld, counting_run, counting_seen}
 use Rattle.enip_bench.specs.FrameLaw.{in_frames, frame_law}
 use Rattle.enip_bench.specs.ItemWorld.{ItemWorld, items_at_opening, item_run, items_seen}
@@ -38,10 +39,13 @@ pub frames_agree : frame_law
 frames_agree objects listen limits wants world events is e =
     let opened : IsOpened objects wants world = opening_shows objects listen limits wants is world e in
     let start : ItemWorld Device = items_at_opening wants.first_count wants.o_to_t_size wants.t_to_o_size objects in
-    world-seen opened.wire (counting_run world events) (item_run after_exec exec_answer start events)
+    world-seen opened.wire (counting_run world events) (item_run after_exec exec_answer device_written start events)
     (run_shows opened.wire events world start opened.ok opened.shows)
-    ∙ (ap₂ (λ (asked : Wants) peer. in_frames peer asked.t_to_o_id (items_seen (item_run after_exec exec_answer start events)))
+    ∙ (ap₂ (λ (asked : Wants) peer. in_frames peer asked.t_to_o_id
+    (items_seen (item_run after_exec exec_answer device_written start events)))
     opened.asked_for (sym opened.same_peer)
     ∙ ap (in_frames world.peer wants.t_to_o_id)
-    (worlds_agree after_exec exec_answer (λ m room text h g. exec_device-begins m room text h g) (λ m room text h g. exec_device-within m room text h)
+    (worlds_agree after_exec exec_answer device_written
+    (λ m room text h g. exec_device-begins m room text h g)
+    (λ m room text h g. exec_device-within m room text h)
     wants.first_count wants.o_to_t_size wants.t_to_o_size objects events is.first_count is.t_to_o_from))

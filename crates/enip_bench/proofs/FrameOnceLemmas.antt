@@ -11,13 +11,14 @@ use Rattle.enip_client.specs.State.{o_to_t_id_in}
 use Rattle.enip_client.specs.declared.fault.SubmitFault.{SubmitFault}
 use Rattle.enip_client.specs.declared.wants.Wants.{Wants}
 use Rattle.enip_wire.specs.Frames.{frame}
+use Rattle.enip_adapter.specs.OwnWrites.{device_written}
 use Rattle.enip_bench.specs.CountingWorld as counting
 use Rattle.enip_bench.specs.CountingWorld.{CountingWorld, counting_step}
-use Rattle.enip_bench.specs.Events.{Event, Submit, Resend, Reach, Back, Other, Shut, GiveUp, delivery}
+use Rattle.enip_bench.specs.Events.{Event, Submit, Resend, Reach, Back, Other, Write, Shut, GiveUp, delivery}
 use Rattle.enip_bench.specs.Executions.{AreRising, Arrives}
 use Rattle.enip_bench.specs.FrameOnce.{objects_in, numbers_of, count_of, request_frame, answer_frame, IsAnswer, IsFirstArrival}
 use Rattle.enip_bench.specs.FrameOnce.{accepted_in_frames, accepted_order_in_frames, answers_in_frames, same_frames}
-use Rattle.enip_bench.specs.FrameOnce.{once_in_frames, requests_in_frames, first_in_frames, unchanged_in_frames}
+use Rattle.enip_bench.specs.FrameOnce.{once_in_frames, requests_in_frames, first_in_frames, written_in_frames, unchanged_in_frames}
 use Rattle.enip_bench.specs.ItemWorld.{ItemWorld, items_at_opening}
 use Rattle.enip_bench.specs.NumberedWorld.{Entry, OwnRequest, NumberedWorld, numbers_at_opening, stands, with_number, after_reach, numbered_step, numbered_run, request_of, router_after, reply_to}
 use Rattle.enip_bench.specs.ObjectsRun.{after_exec, exec_answer}
@@ -38,11 +39,13 @@ use Rattle.enip_bench.proofs.Plain.{number_of}
 use Rattle.enip_bench.proofs.PlainLemmas.{run_plain}
 use Rattle.enip_bench.proofs.PositionLemmas.{delivered, delivery-map}
 use Rattle.enip_bench.proofs.ReachedLemmas.{run_joined}
+use Rattle.enip_bench.proofs.RunLemmas.{are_steps}
 use Rattle.enip_bench.proofs.SeenLemmas.{router_after-push}
 use Rattle.enip_bench.proofs.SoundLemmas.{opening_sound, run_sound}
 use Rattle.enip_bench.proofs.Soundness.{IsSound}
 use Rattle.enip_bench.proofs.TrackedSteps.{tracked_run}
 use Rattle.enip_bench.proofs.TrackedWorld.{Own, TrackedWorld, tracked_at_opening}
+use Rattle.enip_bench.proofs.WriteLemmas.{writes}
 
 -- the objects' replies have the form of a reply
 begins : (objects : Device) (room : ℕ) (request : List ℕ) → 8 ≤ room → 2 ≤ length request →
@@ -57,8 +60,8 @@ module _ {world : CountingWorld} (by : IsReached world) where
   -- the item world after the same events
   abbrev items_of : ItemWorld Device
   items_of =
-      items_after after_exec exec_answer by.wants.first_count by.wants.o_to_t_size by.wants.t_to_o_size by.objects
-      by.events
+      items_after after_exec exec_answer device_written by.wants.first_count by.wants.o_to_t_size
+      by.wants.t_to_o_size by.objects by.events
 
   opened_of : IsOpened by.objects by.wants by.begun
   opened_of = opening_shows by.objects by.listen by.limits by.wants by.wanted by.begun by.opened
@@ -89,7 +92,8 @@ module _ {world : CountingWorld} (by : IsReached world) where
 
   -- the objects after the log
   objects-same : objects_in world
-      ≡ router_after after_exec exec_answer by.wants.t_to_o_size (numbers_of by).submits by.objects (numbers_of by).log
+      ≡ router_after after_exec exec_answer device_written by.wants.t_to_o_size (numbers_of by).submits by.objects
+      (numbers_of by).log
   objects-same =
       ap objects_in by.come
       ∙ ap (λ seen. seen.router)
@@ -97,14 +101,14 @@ module _ {world : CountingWorld} (by : IsReached world) where
 
 pub accepted_framed : accepted_in_frames
 accepted_framed world by position number reply e =
-    accepted after_exec exec_answer begins within
+    accepted after_exec exec_answer device_written begins within
     by.wants.first_count by.wants.o_to_t_size by.wants.t_to_o_size by.objects by.events position number reply
     by.wanted.first_count by.wanted.t_to_o_from (sym (ap (λ xs. slice_get xs position) (accepted-same by)) ∙ e)
 
 pub accepted_order_framed : accepted_order_in_frames
 accepted_order_framed world by =
     subst (λ (xs : List (ℕ × List ℕ)). AreRising (map (λ x. x.0) xs)) (sym (accepted-same by))
-    (accepted_order after_exec exec_answer begins within
+    (accepted_order after_exec exec_answer device_written begins within
     by.wants.first_count by.wants.o_to_t_size by.wants.t_to_o_size by.objects by.events
     by.wanted.first_count by.wanted.t_to_o_from)
 
@@ -116,15 +120,17 @@ answer_found by position bytes None e f =
     let none : ◌≡◌ {A = Option (List ℕ)} None (Some bytes)
     = sym (back-at by position
     ∙ ap (option_map (framed by))
-    (back_same after_exec exec_answer begins within by.wants.first_count by.wants.o_to_t_size by.wants.t_to_o_size
+    (back_same after_exec exec_answer device_written begins within by.wants.first_count by.wants.o_to_t_size
+    by.wants.t_to_o_size
     by.objects by.events position by.wanted.first_count by.wanted.t_to_o_from
     ∙ ap (option_map (λ n. item (count_of by n)
-    (reply_to after_exec exec_answer by.wants.t_to_o_size (numbers_of by).submits by.objects (numbers_of by).log
+    (reply_to after_exec exec_answer device_written by.wants.t_to_o_size (numbers_of by).submits by.objects
+    (numbers_of by).log
     n))) e))
     ∙ f in
     absurd (cc)
 answer_found by position bytes (Some number) e f =
-    let one = answered after_exec exec_answer begins within by.wants.first_count by.wants.o_to_t_size
+    let one = answered after_exec exec_answer device_written begins within by.wants.first_count by.wants.o_to_t_size
     by.wants.t_to_o_size by.objects by.events position number by.wanted.first_count by.wanted.t_to_o_from e in
     record {
       number = number;
@@ -143,15 +149,19 @@ pub same_framed : same_frames
 same_framed world by one other number e f =
     back-at by one
     ∙ ap (option_map (framed by))
-    (same_bytes after_exec exec_answer begins within by.wants.first_count by.wants.o_to_t_size by.wants.t_to_o_size
+    (same_bytes after_exec exec_answer device_written begins within by.wants.first_count by.wants.o_to_t_size
+    by.wants.t_to_o_size
     by.objects by.events one other number by.wanted.first_count by.wanted.t_to_o_from e f)
     ∙ sym (back-at by other)
 
 pub once_framed : once_in_frames
 once_framed world by = record {
   objects = objects-same by;
+  steps = objects-same by
+      ∙ (are_steps by.wants.t_to_o_size (numbers_of by).submits by.objects (numbers_of by).log).after;
   once = λ number. once by.wants.o_to_t_size number by.events;
   order = order by.wants.o_to_t_size by.events;
+  writes = writes by.wants.o_to_t_size by.events;
 }
 
 module _ {world : CountingWorld} (by : IsReached world) where
@@ -192,7 +202,7 @@ requests_framed world by position =
     ap (λ (w : CountingWorld). delivery w.last_reached w.sent position) (shows_of by).is
     ∙ delivery-map (frame_out wire) (items_of by).last_reached (items_of by).sent position
     ∙ ap (λ (w : ItemWorld Device). option_map (frame_out wire) (delivery w.last_reached w.sent position))
-    (items_after-image after_exec exec_answer begins within by.wants.first_count by.wants.o_to_t_size
+    (items_after-image after_exec exec_answer device_written begins within by.wants.first_count by.wants.o_to_t_size
     by.wants.t_to_o_size by.objects by.events by.wanted.first_count by.wanted.t_to_o_from)
     ∙ ap (option_map (frame_out wire))
     (delivery-map (item_of by.wants.first_count) numbers.last_reached numbers.sent position)
@@ -216,12 +226,13 @@ not_true false never = refl
 module _ {world : CountingWorld} (by : IsReached world) where
   -- the objects after a log
   abbrev logged : List Entry → Device
-  logged log = router_after after_exec exec_answer by.wants.t_to_o_size (numbers_of by).submits by.objects log
+  logged log =
+      router_after after_exec exec_answer device_written by.wants.t_to_o_size (numbers_of by).submits by.objects log
 
   -- and after these numbers
   abbrev objects_by : NumberedWorld → Device
   objects_by numbers =
-      router_after after_exec exec_answer by.wants.t_to_o_size numbers.submits by.objects numbers.log
+      router_after after_exec exec_answer device_written by.wants.t_to_o_size numbers.submits by.objects numbers.log
 
   step-objects : (event : Event) →
       objects_in (counting_step world event) ≡ objects_by (numbered_step by.wants.o_to_t_size (numbers_of by) event)
@@ -281,12 +292,14 @@ first_framed world by (Reach position) number is =
     ∙ ap (λ is_open. objects_by by (got by number position is_open)) is.arrives.0
     ∙ ap (λ stood. logged by (cond stood numbers.log (numbers.log ++ OwnRequest number ∷ [])))
     (not_stood by number is.not_before)
-    ∙ router_after-push after_exec exec_answer by.wants.t_to_o_size numbers.submits by.objects numbers.log
+    ∙ router_after-push after_exec exec_answer device_written by.wants.t_to_o_size numbers.submits by.objects
+    numbers.log
     (OwnRequest number)
     ∙ ap (λ objects. after_exec objects (by.wants.t_to_o_size - 2) (request_of numbers.submits number))
     (sym (objects-same by))
 first_framed world by (Back position) number is = absurd is.arrives
 first_framed world by (Other request) number is = absurd is.arrives
+first_framed world by (Write write) number is = absurd is.arrives
 first_framed world by Shut number is = absurd is.arrives
 first_framed world by GiveUp number is = absurd is.arrives
 
@@ -300,15 +313,19 @@ back-objects : (world : CountingWorld) (position : ℕ) (found : Option (List �
 back-objects world position None = refl
 back-objects world position (Some bytes) = refl
 
+pub written_framed : written_in_frames
+written_framed world by write = refl
+
 pub unchanged_framed : unchanged_in_frames
-unchanged_framed world by (Submit request) never alone = submit-objects world (submits world.client.state request)
-unchanged_framed world by Resend never alone = refl
-unchanged_framed world by (Reach position) never alone =
+unchanged_framed world by (Submit request) never alone own = submit-objects world (submits world.client.state request)
+unchanged_framed world by Resend never alone own = refl
+unchanged_framed world by (Reach position) never alone own =
     step-objects by (Reach position)
     ∙ reach-unchanged by position (delivery (numbers_of by).last_reached (numbers_of by).sent position) refl never
     ∙ sym (objects-same by)
-unchanged_framed world by (Back position) never alone =
+unchanged_framed world by (Back position) never alone own =
     back-objects world position (delivery world.last_back world.back position)
-unchanged_framed world by (Other request) never alone = absurd (alone request refl)
-unchanged_framed world by Shut never alone = refl
-unchanged_framed world by GiveUp never alone = refl
+unchanged_framed world by (Other request) never alone own = absurd (alone request refl)
+unchanged_framed world by (Write write) never alone own = absurd (own write refl)
+unchanged_framed world by Shut never alone own = refl
+unchanged_framed world by GiveUp never alone own = refl

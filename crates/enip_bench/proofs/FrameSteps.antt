@@ -10,19 +10,20 @@ use Rattle.cip_class3.specs.declared.originator.Refused.{Refused}
 use Rattle.cip_ledger.specs.Device.{Device}
 use Rattle.enip_wire.specs.Frames.{frame}
 use Rattle.enip_adapter.specs.Calls.{AdapterState, after_call}
-use Rattle.enip_adapter.specs.Calls.Call.{Feeds, Ticks}
+use Rattle.enip_adapter.specs.Calls.Call.{Feeds, Ticks, Writes}
 use Rattle.enip_client.specs.Calls.{submitted, item_sent}
 use Rattle.enip_client.specs.Client.{ClientState, fed}
 use Rattle.enip_client.specs.Frames.{request_frame}
 use Rattle.enip_client.specs.Hears.{accepted}
+use Rattle.enip_adapter.specs.OwnWrites.{OwnWrite, device_written}
 use Rattle.enip_bench.specs.CountingWorld as counting
 use Rattle.enip_bench.specs.CountingWorld.{CountingWorld, counting_step, counting_run, counting_seen, with_fed, LAST_MOMENT}
 use Rattle.cip_bytes.specs.declared.protocol.TheConstants.{UNCONNECTED_LIMIT}
-use Rattle.enip_bench.specs.Events.{Event, Submit, Resend, Reach, Back, Other, Shut, GiveUp, delivery, is_unconnected_request, with_any}
+use Rattle.enip_bench.specs.Events.{Event, Submit, Resend, Reach, Back, Other, Write, Shut, GiveUp, delivery, is_unconnected_request, with_any}
 use Rattle.enip_bench.specs.ItemWorld as items
 use Rattle.enip_bench.specs.ItemWorld.{ItemWorld, item_step, item_run, with_step, with_waiting_item_sent}
 use Rattle.enip_bench.specs.ObjectsRun.{after_exec, exec_answer}
-use Rattle.enip_bench.proofs.AdapterShows.{Wire, IsWire, AdapterShows, IsReached, frame_out, frame_back, reached-open, reached-shut, asked-other, shut}
+use Rattle.enip_bench.proofs.AdapterShows.{Wire, IsWire, AdapterShows, IsReached, frame_out, frame_back, reached-open, reached-shut, asked-other, written_by, shut}
 use Rattle.enip_bench.proofs.ClientShows.{ClientShows, with_originator, shows-originator, item-out, submits-allowed, resends-waiting, gives-up, IsHeardItem, heard-item}
 use Rattle.enip_bench.proofs.PositionLemmas.{Each, delivered, delivery-map, map-push, map-with_any}
 use Rattle.enip_bench.proofs.SmallLemmas.{IsShort, IsSmallOriginator, IsSmallTarget, each-any, allowed-formed, submitted-short, small-submit, small-item, small-give_up, small-step, answer-short}
@@ -132,7 +133,8 @@ at_resend wire a c world agrees =
     }
 
 at_give_up : (wire : Wire) (a : AdapterState) (c : ClientState) (world : ItemWorld Device) → Agrees wire a c world →
-    Shows wire (counting_step (shown wire a c world) GiveUp) (item_step after_exec exec_answer world GiveUp)
+    Shows wire (counting_step (shown wire a c world) GiveUp)
+    (item_step after_exec exec_answer device_written world GiveUp)
 at_give_up wire a c world agrees =
     let shows : ClientShows wire c world.originator = agrees.client_shows in
     let small : IsSmall world = agrees.small in
@@ -162,6 +164,26 @@ at_shut wire a c world agrees = record {
   is = refl;
   agrees = record {
     adapter_shows = shut wire a world.target world.router world.is_open agrees.adapter_shows;
+    client_shows = agrees.client_shows;
+    small = record {
+      ours = agrees.small.ours;
+      theirs = agrees.small.theirs;
+      sent = agrees.small.sent;
+      back = agrees.small.back;
+    };
+  };
+}
+
+at_write : (wire : Wire) (a : AdapterState) (c : ClientState) (world : ItemWorld Device) (write : OwnWrite) →
+    Agrees wire a c world →
+    Shows wire (counting_step (shown wire a c world) (Write write))
+    (record world { router = device_written write world.router })
+at_write wire a c world write agrees = record {
+  ends_at = after_call a (Writes write);
+  starts_at = c;
+  is = refl;
+  agrees = record {
+    adapter_shows = written_by wire a world.target world.router world.is_open write agrees.adapter_shows;
     client_shows = agrees.client_shows;
     small = record {
       ours = agrees.small.ours;
@@ -255,7 +277,7 @@ at_reach : (wire : Wire) (a : AdapterState) (c : ClientState) (world : ItemWorld
     (found : Option (List ℕ)) → ((bytes : List ℕ) → found ≡ Some bytes → IsShort bytes) → IsWire wire →
     Agrees wire a c world →
     Shows wire (counting.after_reach (option_map (frame_out wire) found) (shown wire a c world) position)
-    (items.after_reach after_exec exec_answer found world position)
+    (items.after_reach after_exec exec_answer device_written found world position)
 at_reach wire a c world position None short ok agrees =
     record { ends_at = a; starts_at = c; is = refl; agrees = agrees }
 at_reach wire a c world position (Some bytes) short ok agrees =
@@ -310,7 +332,8 @@ at_back wire a c world position (Some bytes) short ok agrees =
 -- this holds for each event
 step-shown : (wire : Wire) (a : AdapterState) (c : ClientState) (world : ItemWorld Device) (event : Event) → IsWire wire →
     Agrees wire a c world →
-    Shows wire (counting_step (shown wire a c world) event) (item_step after_exec exec_answer world event)
+    Shows wire (counting_step (shown wire a c world) event)
+    (item_step after_exec exec_answer device_written world event)
 step-shown wire a c world (Submit request) ok agrees =
     subst (λ lent. Shows wire (counting.after_submit lent (shown wire a c world))
     (items.after_submit (submit_refusal world.originator request) world request))
@@ -319,7 +342,8 @@ step-shown wire a c world (Submit request) ok agrees =
 step-shown wire a c world Resend ok agrees = at_resend wire a c world agrees
 step-shown wire a c world (Reach position) ok agrees =
     subst (λ found. Shows wire (counting.after_reach found (shown wire a c world) position)
-    (items.after_reach after_exec exec_answer (delivery world.last_reached world.sent position) world position))
+    (items.after_reach after_exec exec_answer device_written (delivery world.last_reached world.sent position) world
+    position))
     (sym (delivery-map (frame_out wire) world.last_reached world.sent position))
     (at_reach wire a c world position (delivery world.last_reached world.sent position)
     (λ bytes e. agrees.small.sent position bytes (delivered world.last_reached world.sent position bytes e)) ok agrees)
@@ -331,21 +355,24 @@ step-shown wire a c world (Back position) ok agrees =
     (λ bytes e. agrees.small.back position bytes (delivered world.last_back world.back position bytes e)) ok agrees)
 step-shown wire a c world (Other request) ok agrees =
     at_other wire a c world request (is_unconnected_request request) refl ok agrees
+step-shown wire a c world (Write write) ok agrees = at_write wire a c world write agrees
 step-shown wire a c world Shut ok agrees = at_shut wire a c world agrees
 step-shown wire a c world GiveUp ok agrees = at_give_up wire a c world agrees
 
 pub step_shows : (wire : Wire) (world : CountingWorld) (item_world : ItemWorld Device) (event : Event) → IsWire wire →
     Shows wire world item_world →
-    Shows wire (counting_step world event) (item_step after_exec exec_answer item_world event)
+    Shows wire (counting_step world event) (item_step after_exec exec_answer device_written item_world event)
 step_shows wire world item_world event ok shows =
-    subst (λ w. Shows wire (counting_step w event) (item_step after_exec exec_answer item_world event)) (sym shows.is)
+    subst (λ w. Shows wire (counting_step w event)
+    (item_step after_exec exec_answer device_written item_world event)) (sym shows.is)
     (step-shown wire shows.ends_at shows.starts_at item_world event ok shows.agrees)
 
 -- and for any list of events
 pub run_shows : (wire : Wire) (events : List Event) (world : CountingWorld) (item_world : ItemWorld Device) → IsWire wire →
     Shows wire world item_world →
-    Shows wire (counting_run world events) (item_run after_exec exec_answer item_world events)
+    Shows wire (counting_run world events) (item_run after_exec exec_answer device_written item_world events)
 run_shows wire [] world item_world ok shows = shows
 run_shows wire (event ∷ events) world item_world ok shows =
-    run_shows wire events (counting_step world event) (item_step after_exec exec_answer item_world event) ok
+    run_shows wire events (counting_step world event)
+    (item_step after_exec exec_answer device_written item_world event) ok
     (step_shows wire world item_world event ok shows)

@@ -4,9 +4,10 @@ use Rattle.cip_class3.specs.Item.{item}
 use Rattle.cip_class3.specs.TargetRule.{KeptReply}
 use Rattle.cip_class3.specs.OriginatorRule.{Phase, Idle, Waiting, GivenUp}
 use Rattle.cip_bytes.specs.declared.protocol.TheConstants.{UNCONNECTED_LIMIT}
+use Rattle.enip_adapter.specs.OwnWrites.{OwnWrite}
 use Rattle.enip_bench.specs.ItemWorld.{ItemWorld}
 use Rattle.enip_bench.proofs.CountLemmas.{count_of}
-use Rattle.enip_bench.proofs.TrackedWorld.{Own, Logged, OwnLogged, OtherLogged, Course, Resting, Awaiting, Abandoned, TrackedWorld}
+use Rattle.enip_bench.proofs.TrackedWorld.{Own, Logged, OwnLogged, OtherLogged, WriteLogged, Course, Resting, Awaiting, Abandoned, TrackedWorld}
 
 -- the item of a request
 abbrev pub item_of : ℕ → Own → List ℕ
@@ -17,13 +18,15 @@ phase_of first Resting = Idle
 phase_of first (Awaiting own) = Waiting (count_of first own.number) own.request
 phase_of first Abandoned = GivenUp
 
-module _ {M : Type 0} (after : M → ℕ → List ℕ → M) (answer : M → ℕ → List ℕ → List ℕ) (first t_to_o_size : ℕ)
+module _ {M : Type 0} (after : M → ℕ → List ℕ → M) (answer : M → ℕ → List ℕ → List ℕ)
+    (written : OwnWrite → M → M) (first t_to_o_size : ℕ)
     (start : M) where
   -- the router after the log
   abbrev pub router_of : List Logged → M
   router_of [] = start
   router_of (OwnLogged own ∷ log) = after (router_of log) (t_to_o_size - 2) own.request
   router_of (OtherLogged request ∷ log) = after (router_of log) UNCONNECTED_LIMIT request
+  router_of (WriteLogged write ∷ log) = written write (router_of log)
 
   -- the reply to the request of this number
   abbrev pub reply_of : List Logged → ℕ → List ℕ
@@ -31,6 +34,7 @@ module _ {M : Type 0} (after : M → ℕ → List ℕ → M) (answer : M → ℕ
   reply_of (OwnLogged own ∷ log) number =
       if own.number == number then answer (router_of log) (t_to_o_size - 2) own.request else reply_of log number
   reply_of (OtherLogged request ∷ log) number = reply_of log number
+  reply_of (WriteLogged write ∷ log) number = reply_of log number
 
   -- the newest own request is held
   abbrev pub held_of : List Logged → Option KeptReply
@@ -41,6 +45,7 @@ module _ {M : Type 0} (after : M → ℕ → List ℕ → M) (answer : M → ℕ
         reply = answer (router_of log) (t_to_o_size - 2) own.request;
       })
   held_of (OtherLogged request ∷ log) = held_of log
+  held_of (WriteLogged write ∷ log) = held_of log
 
   -- the item with the reply to a request
   abbrev pub answer_of : List Logged → Own → List ℕ

@@ -35,3 +35,4 @@ pub mod Soundness
 pub mod StepLemmas
 pub mod TrackedSteps
 pub mod TrackedWorld
+pub mod WriteLemmas

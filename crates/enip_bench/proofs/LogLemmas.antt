@@ -3,18 +3,20 @@ use Rattle.std.proofs.Common.{◌≡◌, ℕ, ◌+◌, ◌<◌, ◌≤◌, inl, 
 use Rattle.std.proofs.lemmas.Bool.{or_cases, or_left, or_right, both_ways, cases_lt, false_from_ne_true}
 use Rattle.std.proofs.lemmas.Option.{slice_get_within}
 use Rattle.enip_bench.proofs.PositionLemmas.{get-kept}
-use Rattle.enip_bench.proofs.TrackedWorld.{Own, Logged, OwnLogged, OtherLogged, is_logged}
+use Rattle.enip_bench.proofs.TrackedWorld.{Own, Logged, OwnLogged, OtherLogged, WriteLogged, is_logged}
 
 -- one more than the newest own number, or 0 if there is none
 abbrev pub next_logged : List Logged → ℕ
 next_logged [] = 0
 next_logged (OwnLogged own ∷ log) = own.number + 1
 next_logged (OtherLogged request ∷ log) = next_logged log
+next_logged (WriteLogged write ∷ log) = next_logged log
 
 abbrev pub Falls : List Logged → Type 0
 Falls [] = Unit {0}
 Falls (OwnLogged own ∷ log) = (next_logged log ≤ own.number) × Falls log
 Falls (OtherLogged request ∷ log) = Falls log
+Falls (WriteLogged write ∷ log) = Falls log
 
 -- the request is that of the submit with this number
 abbrev pub IsSubmitted : List (List ℕ) → Own → Type 0
@@ -24,6 +26,7 @@ abbrev pub AreSubmitted : List (List ℕ) → List Logged → Type 0
 AreSubmitted submits [] = Unit {0}
 AreSubmitted submits (OwnLogged own ∷ log) = IsSubmitted submits own × AreSubmitted submits log
 AreSubmitted submits (OtherLogged request ∷ log) = AreSubmitted submits log
+AreSubmitted submits (WriteLogged write ∷ log) = AreSubmitted submits log
 
 pub logged_below : (log : List Logged) (number : ℕ) → Falls log → is_logged number log ≡ true → number < next_logged log
 logged_below [] number falls e = absurd (cc)
@@ -32,6 +35,7 @@ logged_below (OwnLogged own ∷ log) number falls e = elim (or_cases (own.number
   | inr h ↦ omega (arith, falls.0, logged_below log number falls.1 h)
 ]
 logged_below (OtherLogged request ∷ log) number falls e = logged_below log number falls e
+logged_below (WriteLogged write ∷ log) number falls e = logged_below log number falls e
 
 -- a number above the newest one is not in the log
 pub not_logged : (log : List Logged) (number : ℕ) → Falls log → next_logged log ≤ number → is_logged number log ≡ false
@@ -43,6 +47,7 @@ newest_logged [] number e = absurd (omega arith)
 newest_logged (OwnLogged own ∷ log) number e =
     or_left (own.number == number) (is_logged number log) (eq-eqb own.number number (omega arith))
 newest_logged (OtherLogged request ∷ log) number e = newest_logged log number e
+newest_logged (WriteLogged write ∷ log) number e = newest_logged log number e
 
 -- a number that is not in the log, and not below the newest one, is above it
 pub new_above : (log : List Logged) (number : ℕ) → next_logged log ≤ number + 1 → is_logged number log ≡ false →
@@ -58,6 +63,7 @@ next_logged-within submits [] are = omega arith
 next_logged-within submits (OwnLogged own ∷ log) are =
     omega (arith, slice_get_within submits own.number own.request are.0)
 next_logged-within submits (OtherLogged request ∷ log) are = next_logged-within submits log are
+next_logged-within submits (WriteLogged write ∷ log) are = next_logged-within submits log are
 
 pub submitted-kept : (submits : List (List ℕ)) (request : List ℕ) (log : List Logged) → AreSubmitted submits log →
     AreSubmitted (submits ++ request ∷ []) log
@@ -65,6 +71,7 @@ submitted-kept submits request [] are = tt
 submitted-kept submits request (OwnLogged own ∷ log) are =
     (get-kept submits request own.request own.number are.0, submitted-kept submits request log are.1)
 submitted-kept submits request (OtherLogged other ∷ log) are = submitted-kept submits request log are
+submitted-kept submits request (WriteLogged write ∷ log) are = submitted-kept submits request log are
 
 -- what is in the log stays there when another is executed
 pub logged-kept : (log : List Logged) (own : Own) (number : ℕ) → is_logged number log ≡ true →

@@ -3,19 +3,20 @@ use Rattle.std.proofs.Common.{◌≡◌, ℕ, zero, suc, ◌+◌, ◌-◌, ◌<�
 use Rattle.std.proofs.lemmas.Bool.{or_from}
 use Rattle.std.proofs.lemmas.Option.{get_or_from_slice_get}
 use Rattle.std.specs.List.{AllByRecursion}
+use Rattle.enip_adapter.specs.OwnWrites.{OwnWrite}
 use Rattle.enip_bench.specs.Executions.{executions_of, own_numbers, AreRising, IsOnlyExecution}
-use Rattle.enip_bench.specs.NumberedWorld.{Entry, OwnRequest, OtherRequest, stands, submits_since_accepted}
+use Rattle.enip_bench.specs.NumberedWorld.{Entry, OwnRequest, OtherRequest, DeviceWrite, stands, submits_since_accepted}
 use Rattle.enip_bench.specs.WorldLaws.{once_law, order_law, window_law}
 use Rattle.enip_bench.proofs.Image.{router_of, reply_of}
 use Rattle.enip_bench.proofs.LogLemmas.{next_logged, Falls, AreSubmitted, not_logged}
 use Rattle.enip_bench.proofs.Plain.{number_of, entries_of}
-use Rattle.enip_bench.proofs.PlainLemmas.{stands-own, stands-other, stands-logged, run_plain}
+use Rattle.enip_bench.proofs.PlainLemmas.{stands-own, stands-other, stands-write, stands-logged, run_plain}
 use Rattle.enip_bench.proofs.PositionLemmas.{Each, Ordered}
 use Rattle.enip_bench.proofs.SeenLemmas.{router-same}
 use Rattle.enip_bench.proofs.SoundLemmas.{opening_sound, run_sound}
 use Rattle.enip_bench.proofs.Soundness.{IsSound}
 use Rattle.enip_bench.proofs.TrackedSteps.{tracked_run}
-use Rattle.enip_bench.proofs.TrackedWorld.{Own, Logged, OwnLogged, OtherLogged, is_logged, TrackedWorld, tracked_at_opening}
+use Rattle.enip_bench.proofs.TrackedWorld.{Own, Logged, OwnLogged, OtherLogged, WriteLogged, is_logged, TrackedWorld, tracked_at_opening}
 
 all-push : (P : ℕ → Type 0) (xs : List ℕ) (x : ℕ) → AllByRecursion P xs → P x → AllByRecursion P (xs ++ x ∷ [])
 all-push P [] x all here = (here, tt)
@@ -31,12 +32,21 @@ own_numbers-own : (log : List Entry) (number : ℕ) → own_numbers (log ++ OwnR
 own_numbers-own [] number = refl
 own_numbers-own (OwnRequest before ∷ log) number = ap (λ xs. before ∷ xs) (own_numbers-own log number)
 own_numbers-own (OtherRequest request ∷ log) number = own_numbers-own log number
+own_numbers-own (DeviceWrite write ∷ log) number = own_numbers-own log number
 
 own_numbers-other : (log : List Entry) (request : List ℕ) → own_numbers (log ++ OtherRequest request ∷ [])
     ≡ own_numbers log
 own_numbers-other [] request = refl
 own_numbers-other (OwnRequest before ∷ log) request = ap (λ xs. before ∷ xs) (own_numbers-other log request)
 own_numbers-other (OtherRequest before ∷ log) request = own_numbers-other log request
+own_numbers-other (DeviceWrite write ∷ log) request = own_numbers-other log request
+
+own_numbers-write : (log : List Entry) (write : OwnWrite) → own_numbers (log ++ DeviceWrite write ∷ [])
+    ≡ own_numbers log
+own_numbers-write [] write = refl
+own_numbers-write (OwnRequest before ∷ log) write = ap (λ xs. before ∷ xs) (own_numbers-write log write)
+own_numbers-write (OtherRequest request ∷ log) write = own_numbers-write log write
+own_numbers-write (DeviceWrite before ∷ log) write = own_numbers-write log write
 
 all-below : (log : List Logged) (bound : ℕ) → Falls log → next_logged log ≤ bound →
     AllByRecursion (λ y. y < bound) (own_numbers (entries_of log))
@@ -48,6 +58,9 @@ all-below (OwnLogged own ∷ log) bound falls within =
 all-below (OtherLogged request ∷ log) bound falls within =
     subst (AllByRecursion (λ y. y < bound)) (sym (own_numbers-other (entries_of log) request))
     (all-below log bound falls within)
+all-below (WriteLogged write ∷ log) bound falls within =
+    subst (AllByRecursion (λ y. y < bound)) (sym (own_numbers-write (entries_of log) write))
+    (all-below log bound falls within)
 
 log-rising : (log : List Logged) → Falls log → AreRising (own_numbers (entries_of log))
 log-rising [] falls = tt
@@ -57,6 +70,8 @@ log-rising (OwnLogged own ∷ log) falls =
     (all-below log own.number falls.1 falls.0))
 log-rising (OtherLogged request ∷ log) falls =
     subst AreRising (sym (own_numbers-other (entries_of log) request)) (log-rising log falls)
+log-rising (WriteLogged write ∷ log) falls =
+    subst AreRising (sym (own_numbers-write (entries_of log) write)) (log-rising log falls)
 
 pub order : order_law
 order o_to_t_size events =
@@ -80,6 +95,8 @@ not_above (OwnRequest own ∷ log) number above =
     (not_above log number above.1)
 not_above (OtherRequest request ∷ log) number above =
     none_test false (executions_of number log) (λ e. absurd (cc)) (not_above log number above)
+not_above (DeviceWrite write ∷ log) number above =
+    none_test false (executions_of number log) (λ e. absurd (cc)) (not_above log number above)
 
 at_most_once : (log : List Entry) (number : ℕ) → AreRising (own_numbers log) → executions_of number log ≤ 1
 at_most_once [] number rising = omega arith
@@ -89,6 +106,8 @@ at_most_once (OwnRequest own ∷ log) number rising =
     rising.0))
     (at_most_once log number rising.1)
 at_most_once (OtherRequest request ∷ log) number rising =
+    one_test false (executions_of number log) (λ e. absurd (cc)) (at_most_once log number rising)
+at_most_once (DeviceWrite write ∷ log) number rising =
     one_test false (executions_of number log) (λ e. absurd (cc)) (at_most_once log number rising)
 
 pub once : once_law
@@ -116,11 +135,12 @@ ordered-rising (own ∷ owns) ordered = (
   ordered-rising owns (λ i j x y lt e f. ordered (suc i) (suc j) x y (omega arith) e f),
 )
 
-module _ {M : Type 0} (after : M → ℕ → List ℕ → M) (answer : M → ℕ → List ℕ → List ℕ) (first t_to_o_size : ℕ)
+module _ {M : Type 0} (after : M → ℕ → List ℕ → M) (answer : M → ℕ → List ℕ → List ℕ)
+    (written : OwnWrite → M → M) (first t_to_o_size : ℕ)
     (start : M)
     (submits : List (List ℕ)) where
   abbrev IsOnly : List Entry → ℕ → List ℕ → Type 0
-  IsOnly log number reply = IsOnlyExecution after answer t_to_o_size submits start log number reply
+  IsOnly log number reply = IsOnlyExecution after answer written t_to_o_size submits start log number reply
 
   -- one more entry, of something else, is appended
   only-push : (log : List Entry) (entry : Entry) (number : ℕ) (reply : List ℕ) (only : IsOnly log number reply) →
@@ -139,10 +159,10 @@ module _ {M : Type 0} (after : M → ℕ → List ℕ → M) (answer : M → ℕ
       (next_logged log ≤ own.number) × Falls log →
       AreSubmitted submits (OwnLogged own ∷ log) → (is || is_logged number log) ≡ true →
       (is_logged number log ≡ true →
-      IsOnly (entries_of log) number (reply_of after answer first t_to_o_size start log number)) →
+      IsOnly (entries_of log) number (reply_of after answer written first t_to_o_size start log number)) →
       IsOnly (entries_of log ++ OwnRequest own.number ∷ []) number
-      (cond is (answer (router_of after answer first t_to_o_size start log) (t_to_o_size - 2) own.request)
-      (reply_of after answer first t_to_o_size start log number))
+      (cond is (answer (router_of after answer written first t_to_o_size start log) (t_to_o_size - 2) own.request)
+      (reply_of after answer written first t_to_o_size start log number))
   by_test own log number true e falls are is only =
       let same : own.number ≡ number = eqb-true own.number number e in
       let above : next_logged log ≤ number = omega (arith, falls.0) in
@@ -153,27 +173,34 @@ module _ {M : Type 0} (after : M → ℕ → List ℕ → M) (answer : M → ℕ
         not_before = stands-logged log number ∙ not_logged log number falls.1 above;
         not_later = refl;
         replied = ap₂ (λ m q. answer m (t_to_o_size - 2) q)
-            (sym (router-same after answer first t_to_o_size start submits log are.1))
+            (sym (router-same after answer written first t_to_o_size start submits log are.1))
             (sym (get_or_from_slice_get submits number own.request []
             (subst (λ n. slice_get submits n ≡ Some own.request) same are.0)));
       }
   by_test own log number false e falls are is only =
-      let one : IsOnly (entries_of log) number (reply_of after answer first t_to_o_size start log number) = only is in
+      let one : IsOnly (entries_of log) number
+      (reply_of after answer written first t_to_o_size start log number) = only is in
       only-push (entries_of log) (OwnRequest own.number) number
-      (reply_of after answer first t_to_o_size start log number) one
+      (reply_of after answer written first t_to_o_size start log number) one
       (stands-own one.later own.number number
       ∙ or_from (own.number == number) (stands number one.later) e one.not_later)
 
   -- each executed request was executed once, and its reply is that of its execution
   pub only_execution : (log : List Logged) (number : ℕ) → Falls log → AreSubmitted submits log → is_logged number log
       ≡ true →
-      IsOnly (entries_of log) number (reply_of after answer first t_to_o_size start log number)
+      IsOnly (entries_of log) number (reply_of after answer written first t_to_o_size start log number)
   only_execution [] number falls are is = absurd (cc)
   only_execution (OwnLogged own ∷ log) number falls are is =
       by_test own log number (own.number == number) refl falls are is (only_execution log number falls.1 are.1)
   only_execution (OtherLogged request ∷ log) number falls are is =
-      let one : IsOnly (entries_of log) number (reply_of after answer first t_to_o_size start log number) =
+      let one : IsOnly (entries_of log) number (reply_of after answer written first t_to_o_size start log number) =
       only_execution log number falls are is in
       only-push (entries_of log) (OtherRequest request) number
-      (reply_of after answer first t_to_o_size start log number) one
+      (reply_of after answer written first t_to_o_size start log number) one
       (stands-other one.later request number ∙ one.not_later)
+  only_execution (WriteLogged write ∷ log) number falls are is =
+      let one : IsOnly (entries_of log) number (reply_of after answer written first t_to_o_size start log number) =
+      only_execution log number falls are is in
+      only-push (entries_of log) (DeviceWrite write) number
+      (reply_of after answer written first t_to_o_size start log number) one
+      (stands-write one.later write number ∙ one.not_later)

@@ -1,13 +1,14 @@
 -- Each event has the same effect on the numbered world as on the tracked world.
 use Rattle.std.proofs.Common.{◌≡◌, ℕ, Bool, true, false, cond, ◌||◌, ◌==◌, Option, Some, None, option_map, List, [], ◌∷◌, ◌++◌, map, refl, ap, sym, ◌∙◌}
 use Rattle.cip_class3.specs.declared.originator.Refused.{Refused}
-use Rattle.enip_bench.specs.Events.{Event, Submit, Resend, Reach, Back, Other, Shut, GiveUp, delivery, is_unconnected_request, with_any}
+use Rattle.enip_adapter.specs.OwnWrites.{OwnWrite}
+use Rattle.enip_bench.specs.Events.{Event, Submit, Resend, Reach, Back, Other, Write, Shut, GiveUp, delivery, is_unconnected_request, with_any}
 use Rattle.enip_bench.specs.NumberedWorld as numbered
-use Rattle.enip_bench.specs.NumberedWorld.{Entry, OwnRequest, OtherRequest, NumberedWorld, refusal, awaited, is_awaited, stands, with_awaited_sent, with_number, numbered_step, numbered_run}
+use Rattle.enip_bench.specs.NumberedWorld.{Entry, OwnRequest, OtherRequest, DeviceWrite, NumberedWorld, refusal, awaited, is_awaited, stands, with_awaited_sent, with_number, numbered_step, numbered_run}
 use Rattle.enip_bench.proofs.Plain.{number_of, entries_of, progress_of, plain}
 use Rattle.enip_bench.proofs.PositionLemmas.{delivery-map, map-push, map-with_any}
 use Rattle.enip_bench.proofs.TrackedSteps.{own_awaited, is_own_awaited, abandoned, with_own_sent, next_own, after_submit, with_execution, reached, after_reach, came_back, after_back, after_other, tracked_step, tracked_run}
-use Rattle.enip_bench.proofs.TrackedWorld.{Own, Logged, OwnLogged, OtherLogged, Course, Resting, Awaiting, Abandoned, is_logged, TrackedWorld}
+use Rattle.enip_bench.proofs.TrackedWorld.{Own, Logged, OwnLogged, OtherLogged, WriteLogged, Course, Resting, Awaiting, Abandoned, is_logged, TrackedWorld}
 
 -- numbered worlds with the same parts
 same_numbers : (a b : NumberedWorld) → a.submits ≡ b.submits → a.sent ≡ b.sent → a.back ≡ b.back → a.last_reached
@@ -39,6 +40,7 @@ stands-own (OwnRequest before ∷ log) own number =
     ap (λ is. (before == number) || is) (stands-own log own number)
     ∙ or_swap (before == number) (own == number) (stands number log)
 stands-own (OtherRequest request ∷ log) own number = stands-own log own number
+stands-own (DeviceWrite write ∷ log) own number = stands-own log own number
 
 pub stands-other : (log : List Entry) (request : List ℕ) (number : ℕ) →
     stands number (log ++ OtherRequest request ∷ []) ≡ stands number log
@@ -46,12 +48,23 @@ stands-other [] request number = refl
 stands-other (OwnRequest before ∷ log) request number =
     ap (λ is. (before == number) || is) (stands-other log request number)
 stands-other (OtherRequest before ∷ log) request number = stands-other log request number
+stands-other (DeviceWrite write ∷ log) request number = stands-other log request number
+
+pub stands-write : (log : List Entry) (write : OwnWrite) (number : ℕ) →
+    stands number (log ++ DeviceWrite write ∷ []) ≡ stands number log
+stands-write [] write number = refl
+stands-write (OwnRequest before ∷ log) write number =
+    ap (λ is. (before == number) || is) (stands-write log write number)
+stands-write (OtherRequest request ∷ log) write number = stands-write log write number
+stands-write (DeviceWrite before ∷ log) write number = stands-write log write number
 
 pub stands-logged : (log : List Logged) (number : ℕ) → stands number (entries_of log) ≡ is_logged number log
 stands-logged [] number = refl
 stands-logged (OwnLogged own ∷ log) number =
     stands-own (entries_of log) own.number number ∙ ap (λ is. (own.number == number) || is) (stands-logged log number)
 stands-logged (OtherLogged request ∷ log) number = stands-other (entries_of log) request number
+    ∙ stands-logged log number
+stands-logged (WriteLogged write ∷ log) number = stands-write (entries_of log) write number
     ∙ stands-logged log number
 
 awaited-same : (course : Course) → awaited (progress_of course) ≡ option_map number_of (own_awaited course)
@@ -152,6 +165,7 @@ step_plain o_to_t_size world (Back position) =
     (delivery-map number_of world.last_back world.back position)
     ∙ at_back world position (delivery world.last_back world.back position)
 step_plain o_to_t_size world (Other request) = at_other world request (is_unconnected_request request)
+step_plain o_to_t_size world (Write write) = refl
 step_plain o_to_t_size world Shut = refl
 step_plain o_to_t_size world GiveUp =
     ap (λ progress. record (plain world) { progress = progress }) (at_give_up world world.course)

@@ -13,6 +13,7 @@ use Rattle.enip_client.specs.declared.fault.SubmitFault.TheVariants as submit_fa
 use Rattle.enip_client.specs.declared.state.State.{State}
 use Rattle.cip_class3.specs.declared.originator.Refused.{Refused}
 use Rattle.enip_client.specs.Hears.{accepted}
+use Rattle.enip_adapter.specs.OwnWrites.{device_written}
 use Rattle.enip_bench.specs.CountingWorld.{CountingWorld, reply_heard, counting_step, counting_run, counting_seen}
 use Rattle.enip_bench.specs.Events.{Event, delivery}
 use Rattle.enip_bench.specs.FrameLaw.{headline, ShowsNumbers}
@@ -65,8 +66,9 @@ item_of world reached =
     record {
       wire = opened.wire;
       ok = opened.ok;
-      items = item_run after_exec exec_answer start reached.events;
-      shows = subst (λ w. Shows opened.wire w (item_run after_exec exec_answer start reached.events)) (sym reached.come)
+      items = item_run after_exec exec_answer device_written start reached.events;
+      shows = subst (λ w. Shows opened.wire w
+          (item_run after_exec exec_answer device_written start reached.events)) (sym reached.come)
           (run_shows opened.wire reached.events reached.begun start opened.ok opened.shows);
     }
 

@@ -6,14 +6,15 @@ use Rattle.std.proofs.lemmas.Option.{slice_get_within}
 use Rattle.cip_class3.proofs.Counts.{IsAllowed, first_refusal-none}
 use Rattle.cip_class3.specs.OriginatorRule.{form_refusal}
 use Rattle.cip_class3.specs.declared.originator.Refused.{Refused}
-use Rattle.enip_bench.specs.Events.{Event, Submit, Resend, Reach, Back, Other, Shut, GiveUp, delivery, is_unconnected_request}
+use Rattle.enip_adapter.specs.OwnWrites.{OwnWrite}
+use Rattle.enip_bench.specs.Events.{Event, Submit, Resend, Reach, Back, Other, Write, Shut, GiveUp, delivery, is_unconnected_request}
 use Rattle.enip_bench.proofs.LogLemmas.{next_logged, Falls, IsSubmitted, AreSubmitted, logged_below, new_above, next_logged-within, submitted-kept, logged-kept}
 use Rattle.enip_bench.specs.NumberedWorld.{after_last, submits_since_accepted, is_awaiting, refusal}
 use Rattle.enip_bench.proofs.Plain.{number_of, plain}
 use Rattle.enip_bench.proofs.PositionLemmas.{map-push, get-kept, get-last, each-push, ordered-push, delivered, delivered_later, delivered-push, not_lower}
 use Rattle.enip_bench.proofs.Soundness.{IsSentSound, IsBackSound, IsSound}
 use Rattle.enip_bench.proofs.TrackedSteps.{is_own_awaited, abandoned, with_own_sent, next_own, after_submit, with_execution, reached, after_reach, came_back, after_back, after_other, tracked_step, tracked_run}
-use Rattle.enip_bench.proofs.TrackedWorld.{Own, Logged, OwnLogged, Course, Resting, Awaiting, Abandoned, is_logged, TrackedWorld, tracked_at_opening}
+use Rattle.enip_bench.proofs.TrackedWorld.{Own, Logged, OwnLogged, WriteLogged, Course, Resting, Awaiting, Abandoned, is_logged, TrackedWorld, tracked_at_opening}
 
 pub opening_sound : (o_to_t_size : ℕ) → IsSound o_to_t_size tracked_at_opening
 opening_sound o_to_t_size = record {
@@ -359,6 +360,18 @@ at_other o_to_t_size world request true sound = record {
 }
 at_other o_to_t_size world request false sound = sound
 
+at_write : (o_to_t_size : ℕ) (world : TrackedWorld) (write : OwnWrite) → IsSound o_to_t_size world →
+    IsSound o_to_t_size (record world { log = WriteLogged write ∷ world.log })
+at_write o_to_t_size world write sound = record {
+  form = sound.form;
+  log = record { falls = sound.log.falls; submitted = sound.log.submitted };
+  sent = record { submitted = sound.sent.submitted; order = sound.sent.order; above = sound.sent.above };
+  back = record { logged = sound.back.logged; order = sound.back.order; near = sound.back.near };
+  accepted = record { logged = sound.accepted.logged; order = sound.accepted.order };
+  course = sound.course;
+  window = record { since = sound.window.since; span = sound.window.span; bound = sound.window.bound };
+}
+
 at_shut : (o_to_t_size : ℕ) (world : TrackedWorld) → IsSound o_to_t_size world →
     IsSound o_to_t_size (record world { is_open = false })
 at_shut o_to_t_size world sound = record {
@@ -397,6 +410,7 @@ step_sound o_to_t_size world (Back position) sound =
     at_back o_to_t_size world position (delivery world.last_back world.back position) sound refl
 step_sound o_to_t_size world (Other request) sound =
     at_other o_to_t_size world request (is_unconnected_request request) sound
+step_sound o_to_t_size world (Write write) sound = at_write o_to_t_size world write sound
 step_sound o_to_t_size world Shut sound = at_shut o_to_t_size world sound
 step_sound o_to_t_size world GiveUp sound = at_give_up o_to_t_size world world.course sound
 

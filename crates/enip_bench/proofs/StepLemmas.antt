@@ -13,7 +13,8 @@ use Rattle.cip_class3.specs.declared.target.Received.TheVariants.{Repeated, Exec
 use Rattle.cip_message.specs.Reply.{reply_service}
 use Rattle.cip_objects.specs.Router.{IsReplyTo}
 use Rattle.cip_bytes.specs.declared.protocol.TheConstants.{UNCONNECTED_LIMIT}
-use Rattle.enip_bench.specs.Events.{Event, Submit, Resend, Reach, Back, Other, Shut, GiveUp, delivery, is_unconnected_request, with_any}
+use Rattle.enip_adapter.specs.OwnWrites.{OwnWrite}
+use Rattle.enip_bench.specs.Events.{Event, Submit, Resend, Reach, Back, Other, Write, Shut, GiveUp, delivery, is_unconnected_request, with_any}
 use Rattle.enip_bench.specs.ItemWorld as items
 use Rattle.enip_bench.specs.ItemWorld.{ItemWorld, item_step, item_run, with_waiting_item_sent, with_step}
 use Rattle.enip_bench.proofs.CountLemmas.{count_of, count_of-below, count_of-next, count_of-differs}
@@ -47,9 +48,9 @@ same_items a b target router is_open originator sent back last_reached last_back
 }
 
 module _ {M : Type 0} (after : M → ℕ → List ℕ → M) (answer : M → ℕ → List ℕ → List ℕ)
-    (first o_to_t_size t_to_o_size : ℕ) (start : M) where
+    (written : OwnWrite → M → M) (first o_to_t_size t_to_o_size : ℕ) (start : M) where
   abbrev shown : TrackedWorld → ItemWorld M
-  shown world = image after answer first t_to_o_size start o_to_t_size world
+  shown world = image after answer written first t_to_o_size start o_to_t_size world
 
   waiting-awaited : (course : Course) → waiting_item (phase_of first course)
       ≡ option_map (item_of first) (own_awaited course)
@@ -93,7 +94,7 @@ module _ {M : Type 0} (after : M → ℕ → List ℕ → M) (answer : M → ℕ
       refl refl refl refl
 
   at_give_up : (world : TrackedWorld) (course : Course) →
-      item_step after answer (shown (record world { course = course })) GiveUp
+      item_step after answer written (shown (record world { course = course })) GiveUp
       ≡ shown (record world { course = abandoned course })
   at_give_up world Resting = refl
   at_give_up world (Awaiting own) = refl
@@ -101,27 +102,27 @@ module _ {M : Type 0} (after : M → ℕ → List ℕ → M) (answer : M → ℕ
 
   at_other : (world : TrackedWorld) (request : List ℕ) (is : Bool) →
       cond is (record (shown world) {
-        router = after (router_of after answer first t_to_o_size start world.log) UNCONNECTED_LIMIT request;
+        router = after (router_of after answer written first t_to_o_size start world.log) UNCONNECTED_LIMIT request;
       }) (shown world)
       ≡ shown (after_other is world request)
   at_other world request true = refl
   at_other world request false = refl
 
 module _ {M : Type 0} (after : M → ℕ → List ℕ → M) (answer : M → ℕ → List ℕ → List ℕ)
-    (first o_to_t_size t_to_o_size : ℕ) (start : M)
+    (written : OwnWrite → M → M) (first o_to_t_size t_to_o_size : ℕ) (start : M)
     (roomy : 10 ≤ t_to_o_size)
     (begins : (router : M) (room : ℕ) (request : List ℕ) → 8 ≤ room → 2 ≤ length request →
     IsReplyTo request (answer router room request))
     (within : (router : M) (room : ℕ) (request : List ℕ) → 8 ≤ room → 2 ≤ length request →
     length (answer router room request) ≤ room) where
   abbrev show : TrackedWorld → ItemWorld M
-  show world = image after answer first t_to_o_size start o_to_t_size world
+  show world = image after answer written first t_to_o_size start o_to_t_size world
 
   abbrev replies : List Logged → ℕ → List ℕ
-  replies log number = reply_of after answer first t_to_o_size start log number
+  replies log number = reply_of after answer written first t_to_o_size start log number
 
   abbrev answers_by : List Logged → Own → List ℕ
-  answers_by log own = answer_of after answer first t_to_o_size start log own
+  answers_by log own = answer_of after answer written first t_to_o_size start log own
 
   abbrev target : TrackedWorld → TargetState
   target world = (show world).target
@@ -133,22 +134,22 @@ module _ {M : Type 0} (after : M → ℕ → List ℕ → M) (answer : M → ℕ
   is_deliverable own form = record { sequence_count = count_of-below first own.number; request = form.least; size = form.fits }
 
   pub repeats : (world : TrackedWorld) (own : Own) → IsOfForm o_to_t_size own.request →
-      is_held (held_of after answer first t_to_o_size start world.log) (count_of first own.number) ≡ true →
+      is_held (held_of after answer written first t_to_o_size start world.log) (count_of first own.number) ≡ true →
       target_step after answer (target world) (show world).router (item_of first own)
       ≡ step_of Repeated (target world) (show world).router
   repeats world own form same =
       let sized : has_accepted_size (target world) (item_of first own) ≡ true =
       has_accepted_size-item (target world) (deliverable own) (is_deliverable own form) in
-      let held : is_held (held_of after answer first t_to_o_size start world.log)
+      let held : is_held (held_of after answer written first t_to_o_size start world.log)
       (sequence_count_of (item_of first own)) ≡ true =
-      ap (is_held (held_of after answer first t_to_o_size start world.log))
+      ap (is_held (held_of after answer written first t_to_o_size start world.log))
       (sequence_count_of-item (count_of first own.number) own.request (count_of-below first own.number)) ∙ same in
       rw (sized, held) refl
 
   -- what the open target does when a number arrives
   at_target : (world : TrackedWorld) (own : Own) (position : ℕ) (is : Bool) → IsSound o_to_t_size world →
       IsOfForm o_to_t_size own.request →
-      is_held (held_of after answer first t_to_o_size start world.log) (count_of first own.number) ≡ is →
+      is_held (held_of after answer written first t_to_o_size start world.log) (count_of first own.number) ≡ is →
       is_logged own.number world.log ≡ is →
       next_logged world.log ≤ own.number + 1 →
       with_step (record (show world) { last_reached = Some position })
@@ -165,11 +166,11 @@ module _ {M : Type 0} (after : M → ℕ → List ℕ → M) (answer : M → ℕ
       (step_of Repeated (target world) (show world).router)) (show moved)
       refl refl refl refl refl
       (ap (λ bytes. map (answers_by world.log) world.back ++ bytes ∷ [])
-      (kept-newest after answer first t_to_o_size start world.log own.number sound.log.falls above is)
+      (kept-newest after answer written first t_to_o_size start world.log own.number sound.log.falls above is)
       ∙ sym (map-push (answers_by world.log) world.back own)) refl refl refl refl
   at_target world own position false sound form held is above =
       let log : List Logged = OwnLogged own ∷ world.log in
-      let router : M = router_of after answer first t_to_o_size start world.log in
+      let router : M = router_of after answer written first t_to_o_size start world.log in
       let moved : TrackedWorld = record world
       { last_reached = Some position; log = log; back = world.back ++ own ∷ [] } in
       let kept : KeptReply = record {
@@ -184,13 +185,15 @@ module _ {M : Type 0} (after : M → ℕ → List ℕ → M) (answer : M → ℕ
       refl refl
       (ap₂ (λ bytes last. bytes ++ last ∷ [])
       (map-same (answers_by world.log) (answers_by log) world.back (λ i x e. ap (item (count_of first x.number))
-      (reply-kept after answer first t_to_o_size start world.log own x.number is (sound.back.logged i x e))))
-      (ap (item (count_of first own.number)) (sym (reply-new after answer first t_to_o_size start world.log own)))
+      (reply-kept after answer written first t_to_o_size start world.log own x.number is (sound.back.logged i x e))))
+      (ap (item (count_of first own.number))
+      (sym (reply-new after answer written first t_to_o_size start world.log own)))
       ∙ sym (map-push (answers_by log) world.back own)) refl refl refl
-      (map-same (acceptance_of after answer first t_to_o_size start world.log)
-      (acceptance_of after answer first t_to_o_size start log) world.accepted
+      (map-same (acceptance_of after answer written first t_to_o_size start world.log)
+      (acceptance_of after answer written first t_to_o_size start log) world.accepted
       (λ i x e. ap (λ (reply : List ℕ). (x.number, reply))
-      (reply-kept after answer first t_to_o_size start world.log own x.number is (sound.accepted.logged i x e))))
+      (reply-kept after answer written first t_to_o_size start world.log own x.number is
+      (sound.accepted.logged i x e))))
 
   at_reached : (world : TrackedWorld) (own : Own) (position : ℕ) (is_open : Bool) → IsSound o_to_t_size world →
       delivery world.last_reached world.sent position ≡ Some own →
@@ -207,12 +210,13 @@ module _ {M : Type 0} (after : M → ℕ → List ℕ → M) (answer : M → ℕ
       in
       at_target world own position (is_logged own.number world.log) sound
       (has_form o_to_t_size own.request (sound.form own.number own.request sent))
-      (held-logged after answer first t_to_o_size start world.log own.number sound.log.falls above near) refl above
+      (held-logged after answer written first t_to_o_size start world.log own.number sound.log.falls above near)
+      refl above
   at_reached world own position false sound found = refl
 
   at_reach : (world : TrackedWorld) (position : ℕ) (found : Option Own) → IsSound o_to_t_size world →
       delivery world.last_reached world.sent position ≡ found →
-      items.after_reach after answer (option_map (item_of first) found) (show world) position
+      items.after_reach after answer written (option_map (item_of first) found) (show world) position
       ≡ show (after_reach found world position)
   at_reach world position None sound e = refl
   at_reach world position (Some own) sound e = at_reached world own position world.is_open sound e
@@ -251,7 +255,7 @@ module _ {M : Type 0} (after : M → ℕ → List ℕ → M) (answer : M → ℕ
       let is : is_logged own.number world.log ≡ true =
       sound.back.logged position own (delivered world.last_back world.back position own found) in
       let answered : IsAnswered t_to_o_size world.submits own.number (replies world.log own.number) =
-      reply-answers after answer first t_to_o_size start roomy begins within o_to_t_size world.submits world.log
+      reply-answers after answer written first t_to_o_size start roomy begins within o_to_t_size world.submits world.log
       own.number sound.form sound.log.submitted is in
       is_reply-same world.submits waiting own.number (replies world.log own.number) (waiting.number == own.number)
       refl answered course.1
@@ -282,7 +286,7 @@ module _ {M : Type 0} (after : M → ℕ → List ℕ → M) (answer : M → ℕ
       same_items (came true here own position) (show (came_back true here own position)) refl refl refl refl refl refl
       refl refl refl
       (ap (λ (n : ℕ). (show here).accepted ++ (n, replies world.log own.number) ∷ []) number
-      ∙ sym (map-push (acceptance_of after answer first t_to_o_size start world.log) world.accepted own))
+      ∙ sym (map-push (acceptance_of after answer written first t_to_o_size start world.log) world.accepted own))
   came-same world Abandoned own position true e sound = absurd (cc)
 
   at_back : (world : TrackedWorld) (position : ℕ) (found : Option Own) → IsSound o_to_t_size world →
@@ -295,15 +299,15 @@ module _ {M : Type 0} (after : M → ℕ → List ℕ → M) (answer : M → ℕ
       ∙ came-same world world.course own position (is_own_awaited world.course own.number) refl sound.course
 
   pub step_same : (world : TrackedWorld) (event : Event) → IsSound o_to_t_size world →
-      item_step after answer (show world) event ≡ show (tracked_step o_to_t_size world event)
+      item_step after answer written (show world) event ≡ show (tracked_step o_to_t_size world event)
   step_same world (Submit request) sound =
       ap (λ why. items.after_submit why (show world) request)
-      (refusal-same after answer first o_to_t_size t_to_o_size start world request sound)
-      ∙ at_submit after answer first o_to_t_size t_to_o_size start world (refusal o_to_t_size (plain world) request)
-      request
-  step_same world Resend sound = at_resend after answer first o_to_t_size t_to_o_size start world
+      (refusal-same after answer written first o_to_t_size t_to_o_size start world request sound)
+      ∙ at_submit after answer written first o_to_t_size t_to_o_size start world
+      (refusal o_to_t_size (plain world) request) request
+  step_same world Resend sound = at_resend after answer written first o_to_t_size t_to_o_size start world
   step_same world (Reach position) sound =
-      ap (λ found. items.after_reach after answer found (show world) position)
+      ap (λ found. items.after_reach after answer written found (show world) position)
       (delivery-map (item_of first) world.last_reached world.sent position)
       ∙ at_reach world position (delivery world.last_reached world.sent position) sound refl
   step_same world (Back position) sound =
@@ -311,13 +315,14 @@ module _ {M : Type 0} (after : M → ℕ → List ℕ → M) (answer : M → ℕ
       (delivery-map (answers_by world.log) world.last_back world.back position)
       ∙ at_back world position (delivery world.last_back world.back position) sound refl
   step_same world (Other request) sound =
-      at_other after answer first o_to_t_size t_to_o_size start world request (is_unconnected_request request)
+      at_other after answer written first o_to_t_size t_to_o_size start world request (is_unconnected_request request)
+  step_same world (Write write) sound = refl
   step_same world Shut sound = refl
-  step_same world GiveUp sound = at_give_up after answer first o_to_t_size t_to_o_size start world world.course
+  step_same world GiveUp sound = at_give_up after answer written first o_to_t_size t_to_o_size start world world.course
 
   pub run_same : (events : List Event) (world : TrackedWorld) → IsSound o_to_t_size world →
-      item_run after answer (show world) events ≡ show (tracked_run o_to_t_size world events)
+      item_run after answer written (show world) events ≡ show (tracked_run o_to_t_size world events)
   run_same [] world sound = refl
   run_same (event ∷ events) world sound =
-      ap (λ w. item_run after answer w events) (step_same world event sound)
+      ap (λ w. item_run after answer written w events) (step_same world event sound)
       ∙ run_same events (tracked_step o_to_t_size world event) (step_sound o_to_t_size world event sound)

@@ -1,10 +1,10 @@
 -- The tracked world, event by event.
 use Rattle.std.proofs.Common.{ℕ, ◌+◌, Bool, true, false, ◌==◌, Option, Some, None, List, [], ◌∷◌, ◌++◌, length}
 use Rattle.cip_class3.specs.declared.originator.Refused.{Refused}
-use Rattle.enip_bench.specs.Events.{Event, Submit, Resend, Reach, Back, Other, Shut, GiveUp, delivery, is_unconnected_request, with_any}
+use Rattle.enip_bench.specs.Events.{Event, Submit, Resend, Reach, Back, Other, Write, Shut, GiveUp, delivery, is_unconnected_request, with_any}
 use Rattle.enip_bench.specs.NumberedWorld.{refusal}
 use Rattle.enip_bench.proofs.Plain.{plain}
-use Rattle.enip_bench.proofs.TrackedWorld.{Own, Logged, OwnLogged, OtherLogged, Course, Resting, Awaiting, Abandoned, is_logged, TrackedWorld}
+use Rattle.enip_bench.proofs.TrackedWorld.{Own, Logged, OwnLogged, OtherLogged, WriteLogged, Course, Resting, Awaiting, Abandoned, is_logged, TrackedWorld}
 
 abbrev pub own_awaited : Course → Option Own
 own_awaited Resting = None
@@ -75,6 +75,7 @@ tracked_step o_to_t_size world (Reach position) =
 tracked_step o_to_t_size world (Back position) =
     after_back (delivery world.last_back world.back position) world position
 tracked_step o_to_t_size world (Other request) = after_other (is_unconnected_request request) world request
+tracked_step o_to_t_size world (Write write) = record world { log = WriteLogged write ∷ world.log }
 tracked_step o_to_t_size world Shut = record world { is_open = false }
 tracked_step o_to_t_size world GiveUp = record world { course = abandoned world.course }
 

@@ -1,6 +1,7 @@
 -- The numbered world in a form for proofs: each number has its request with it, the log is newest first, and the
 -- submits since the last accepted reply are counted.
 use Rattle.std.proofs.Common.{ℕ, Bool, true, false, ◌||◌, ◌==◌, Option, None, List, [], ◌∷◌}
+use Rattle.enip_adapter.specs.OwnWrites.{OwnWrite}
 
 -- a number and its request
 pub record Own : Type 0 where
@@ -10,6 +11,7 @@ pub record Own : Type 0 where
 pub data Logged : Type 0 where
   OwnLogged : (own : Own) → Logged
   OtherLogged : (request : List ℕ) → Logged
+  WriteLogged : (write : OwnWrite) → Logged
 
 pub data Course : Type 0 where
   Resting : Course
@@ -46,3 +48,4 @@ abbrev pub is_logged : ℕ → List Logged → Bool
 is_logged number [] = false
 is_logged number (OwnLogged own ∷ log) = (own.number == number) || is_logged number log
 is_logged number (OtherLogged request ∷ log) = is_logged number log
+is_logged number (WriteLogged write ∷ log) = is_logged number log

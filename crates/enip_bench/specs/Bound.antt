@@ -4,6 +4,7 @@ use Rattle.cip_class3.specs.Item.{item}
 use Rattle.cip_class3.specs.OriginatorRule.{MOST_UNACCEPTED, form_refusal, submit_refusal}
 use Rattle.cip_class3.specs.declared.originator.Refused.TheVariants.{TooManyAbandoned}
 use Rattle.cip_class3.specs.declared.originator.Stage.TheVariants as stages
+use Rattle.enip_adapter.specs.OwnWrites.{OwnWrite}
 use Rattle.enip_bench.specs.Events.{Event, Submit, Reach, Back, GiveUp}
 use Rattle.enip_bench.specs.ItemWorld.{ItemWorld, after_submit, item_run, items_seen}
 use Rattle.enip_bench.specs.NumberedWorld.{refusal, submits_since_accepted}
@@ -26,20 +27,21 @@ abandonings request (suc n) = Submit request ∷ GiveUp ∷ abandonings request 
 abbrev pub accepted_then_abandoned : List ℕ → ℕ → List Event
 accepted_then_abandoned request n = Submit request ∷ Reach 0 ∷ Back 0 ∷ abandonings request n
 
-module _ {M : Type 0} (after : M → ℕ → List ℕ → M) (answer : M → ℕ → List ℕ → List ℕ) where
+module _ {M : Type 0} (after : M → ℕ → List ℕ → M) (answer : M → ℕ → List ℕ → List ℕ)
+    (written : OwnWrite → M → M) where
   -- both worlds refuse the same requests, for the same reasons
   abbrev pub refusals_law : Type 0
   refusals_law =
       (first o_to_t_size t_to_o_size : ℕ) (router : M) (events : List Event) (request : List ℕ) → first < 2 ^ 16 →
       10 ≤ t_to_o_size →
-      submit_refusal (items_after after answer first o_to_t_size t_to_o_size router events).originator request
+      submit_refusal (items_after after answer written first o_to_t_size t_to_o_size router events).originator request
       ≡ refusal o_to_t_size (numbers_after o_to_t_size events) request
 
   -- What the item world shows if one more request is taken and reaches the target, and the answer reaches the
   -- originator.
   abbrev pub one_more_seen : ItemWorld M → List ℕ → ℕ → Seen M
   one_more_seen world request position =
-      items_seen (item_run after answer (after_submit None world request) (Reach position ∷ Back 1 ∷ []))
+      items_seen (item_run after answer written (after_submit None world request) (Reach position ∷ Back 1 ∷ []))
 
   -- Only the first request was executed. The last one is answered with the count and the reply of the first one, and the
   -- originator accepts that as its reply.
@@ -65,5 +67,6 @@ module _ {M : Type 0} (after : M → ℕ → List ℕ → M) (answer : M → ℕ
       (first o_to_t_size t_to_o_size abandoned : ℕ) (router : M) (request : List ℕ) → first < 2 ^ 16 →
       10 ≤ t_to_o_size → form_refusal o_to_t_size request ≡ None → abandoned ≡ MOST_UNACCEPTED →
       IsOneTooMany first t_to_o_size router
-      (items_after after answer first o_to_t_size t_to_o_size router (accepted_then_abandoned request abandoned))
+      (items_after after answer written first o_to_t_size t_to_o_size router
+      (accepted_then_abandoned request abandoned))
       request (abandoned + 1)

@@ -3,7 +3,7 @@ use Rattle.std.specs.Prelude.{ℕ, ◌+◌, ◌-◌, if◌then◌else◌, Option
 use Rattle.cip_class3.specs.OriginatorRule.{stage_of}
 use Rattle.cip_ledger.specs.Device.{Device}
 use Rattle.enip_adapter.specs.Calls.{AdapterState, after_call, call_answer}
-use Rattle.enip_adapter.specs.Calls.Call.{Feeds, Ticks}
+use Rattle.enip_adapter.specs.Calls.Call.{Feeds, Ticks, Writes}
 use Rattle.enip_adapter.specs.Turn.Output.{NoReply, Sends, Begins, Refuses}
 use Rattle.enip_adapter.specs.Turn.{Output}
 use Rattle.enip_client.specs.Calls.{Lent, submits, resends, after_giving_up}
@@ -13,7 +13,7 @@ use Rattle.enip_client.specs.Hears.{HeardEvent}
 use Rattle.enip_client.specs.Hears.HeardEvent.{Accepted}
 use Rattle.enip_client.specs.declared.fault.SubmitFault.{SubmitFault}
 use Rattle.enip_wire.specs.Frames.{Frame, frame}
-use Rattle.enip_bench.specs.Events.{Event, Submit, Resend, Reach, Back, Other, Shut, GiveUp, delivery, is_unconnected_request, with_any}
+use Rattle.enip_bench.specs.Events.{Event, Submit, Resend, Reach, Back, Other, Write, Shut, GiveUp, delivery, is_unconnected_request, with_any}
 use Rattle.enip_bench.specs.Seen.{Seen}
 
 -- Both ends; the handles of the adapter's two peers, the client's first; the bytes of the frames in each direction, and
@@ -99,6 +99,7 @@ counting_step world Resend = after_resend (resends world.client.state) world
 counting_step world (Reach position) = after_reach (delivery world.last_reached world.sent position) world position
 counting_step world (Back position) = after_back (delivery world.last_back world.back position) world position
 counting_step world (Other request) = if is_unconnected_request request then after_other world request else world
+counting_step world (Write write) = record world { adapter = after_call world.adapter (Writes write) }
 counting_step world Shut = record world { adapter = after_call world.adapter (Ticks LAST_MOMENT) }
 counting_step world GiveUp =
     record world { client = with_state world.client (after_giving_up world.client.state) }

@@ -1,13 +1,16 @@
 -- The outcome of an event.
-use Rattle.std.specs.Prelude.{ℕ, if◌then◌else◌, Option, Some, None, option_map, List, length}
+use Rattle.std.specs.Prelude.{ℕ, if◌then◌else◌, Bool, true, Option, Some, None, option_map, is_some, List, length}
 use Rattle.cip_class3.specs.OriginatorRule.{submit_refusal}
 use Rattle.cip_class3.specs.declared.originator.Refused.{Refused}
+use Rattle.cip_objects.specs.Contents.{Contents}
+use Rattle.cip_objects.specs.DeviceWrites.{device_write}
 use Rattle.enip_adapter.specs.Calls.{call_answer}
 use Rattle.enip_adapter.specs.Calls.Call.{Feeds}
+use Rattle.enip_adapter.specs.OwnWrites.{OwnWrite, WritesData, SetsStatus, SetsState}
 use Rattle.enip_client.specs.Calls.{resends}
 use Rattle.enip_client.specs.Client.{fed}
 use Rattle.enip_bench.specs.CountingWorld.{CountingWorld, output_bytes, reply_heard}
-use Rattle.enip_bench.specs.Events.{Event, Submit, Resend, Reach, Back, Other, Shut, GiveUp, delivery, is_unconnected_request}
+use Rattle.enip_bench.specs.Events.{Event, Submit, Resend, Reach, Back, Other, Write, Shut, GiveUp, delivery, is_unconnected_request}
 
 -- a request was sent, with its number and its frame's position, or refused; a frame was sent again, with its position,
 -- or nothing was pending; a frame was answered, with the answer's position, or not answered; a reply was accepted, or
@@ -44,6 +47,12 @@ abbrev pub back_result : CountingWorld → Option (List ℕ) → EventResult
 back_result world None = Impossible
 back_result world (Some bytes) = reply_result (reply_heard (fed world.client bytes).heard_event)
 
+-- whether the device can write this: there is such an assembly, and the bytes don't go past the end of its data
+abbrev pub is_possible_write : OwnWrite → Contents → Bool
+is_possible_write (WritesData instance offset bytes) objects = is_some (device_write objects instance offset bytes)
+is_possible_write (SetsStatus status) objects = true
+is_possible_write (SetsState state) objects = true
+
 -- the outcome of an event in this world
 abbrev pub event_result : CountingWorld → Event → EventResult
 event_result world (Submit request) = submit_result world (submit_refusal world.client.state.originator request)
@@ -51,5 +60,7 @@ event_result world Resend = Resends (position_of_any (resends world.client.state
 event_result world (Reach position) = reach_result world (delivery world.last_reached world.sent position)
 event_result world (Back position) = back_result world (delivery world.last_back world.back position)
 event_result world (Other request) = if is_unconnected_request request then Done else Impossible
+event_result world (Write write) =
+    if is_possible_write write world.adapter.state.shared.objects.router then Done else Impossible
 event_result world Shut = Done
 event_result world GiveUp = Done

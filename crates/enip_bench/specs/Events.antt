@@ -1,6 +1,7 @@
 -- The events between the two ends of an open class 3 connection, and which of them are possible.
 use Rattle.std.specs.Prelude.{ℕ, nat_le, Bool, true, ◌&&◌, if◌then◌else◌, Option, Some, None, List, [], ◌∷◌, ◌++◌, length, slice_get}
 use Rattle.cip_bytes.specs.declared.protocol.TheConstants.{SMALLEST_REQUEST, UNCONNECTED_LIMIT}
+use Rattle.enip_adapter.specs.OwnWrites.{OwnWrite}
 
 -- an event, as seen from outside: a call of the originator, a delivery by position, or another event at the target
 pub data Event : Type 0 where
@@ -14,6 +15,8 @@ pub data Event : Type 0 where
   Back : (position : ℕ) → Event
   -- another session sends an unconnected request
   Other : (request : List ℕ) → Event
+  -- the device itself writes into its objects
+  Write : (write : OwnWrite) → Event
   -- the target's end of the connection is closed
   Shut : Event
   -- the originator gives up the pending request

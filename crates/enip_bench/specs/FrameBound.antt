@@ -8,6 +8,7 @@ use Rattle.enip_adapter.specs.declared.shared.Listen.{Listen}
 use Rattle.enip_client.specs.Calls.{submits, submitted}
 use Rattle.enip_client.specs.declared.fault.SubmitFault.TheVariants.{Refused}
 use Rattle.enip_client.specs.declared.wants.Wants.{Wants}
+use Rattle.enip_adapter.specs.OwnWrites.{device_written}
 use Rattle.enip_bench.specs.Bound.{accepted_then_abandoned, old_reply_seen}
 use Rattle.enip_bench.specs.CountingOpening.{IsWanted, opening}
 use Rattle.enip_bench.specs.CountingWorld.{CountingWorld, after_submit, counting_run, counting_seen}
@@ -31,7 +32,7 @@ pub record IsOneTooManyInFrames (objects : Device) (wants : Wants) (session : �
   pub refused : submits world.client.state request ≡ Err (Refused TooManyAbandoned)
   pub answered : one_more_shown world request last
       ≡ in_frames session wants.t_to_o_id
-      (old_reply_seen after_exec exec_answer wants.first_count wants.t_to_o_size objects request last)
+      (old_reply_seen after_exec exec_answer device_written wants.first_count wants.t_to_o_size objects request last)
 
 -- This holds from every opening without a refusal, for every request of a valid form, after a request was executed and
 -- its reply accepted, and the greatest number of requests was submitted, given up and lost.

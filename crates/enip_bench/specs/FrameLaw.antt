@@ -6,6 +6,7 @@ use Rattle.enip_adapter.specs.declared.shared.Listen.{Listen}
 use Rattle.enip_client.specs.Frames.{item_frame}
 use Rattle.enip_client.specs.declared.wants.Wants.{Wants}
 use Rattle.enip_wire.specs.Frames.{frame}
+use Rattle.enip_adapter.specs.OwnWrites.{device_written}
 use Rattle.enip_bench.specs.CountingOpening.{IsWanted, opening}
 use Rattle.enip_bench.specs.CountingWorld.{CountingWorld, counting_run, counting_seen}
 use Rattle.enip_bench.specs.Events.{Event}
@@ -23,7 +24,7 @@ in_frames session id seen = record seen { back = map (λ item. frame (item_frame
 abbrev pub numbers_in_frames : Device → Wants → ℕ → List Event → Seen Device
 numbers_in_frames objects wants session events =
     in_frames session wants.t_to_o_id
-    (numbers_seen after_exec exec_answer wants.first_count wants.t_to_o_size objects
+    (numbers_seen after_exec exec_answer device_written wants.first_count wants.t_to_o_size objects
     (numbers_after wants.o_to_t_size events))
 
 -- For every list of events from an opening without a refusal, over any objects and limits: the whole adapter and the

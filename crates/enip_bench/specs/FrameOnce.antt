@@ -5,11 +5,13 @@ use Rattle.cip_ledger.specs.Device.{Device}
 use Rattle.enip_client.specs.Frames.{item_frame}
 use Rattle.enip_client.specs.State.{o_to_t_id_in}
 use Rattle.enip_wire.specs.Frames.{frame}
+use Rattle.enip_adapter.specs.DeviceRuns.{device_after}
+use Rattle.enip_adapter.specs.OwnWrites.{OwnWrite, device_written}
 use Rattle.enip_bench.specs.CountingWorld.{CountingWorld, counting_step}
-use Rattle.enip_bench.specs.Events.{Event, Other, delivery}
-use Rattle.enip_bench.specs.Executions.{executions_of, own_numbers, AreRising, IsArrival, Arrives}
+use Rattle.enip_bench.specs.Events.{Event, Other, Write, delivery}
+use Rattle.enip_bench.specs.Executions.{executions_of, own_numbers, AreRising, writes_in, writes_among, IsArrival, Arrives}
 use Rattle.enip_bench.specs.NumberedWorld.{NumberedWorld, numbers_at_opening, request_of, router_after}
-use Rattle.enip_bench.specs.ObjectsRun.{after_exec, exec_answer}
+use Rattle.enip_bench.specs.ObjectsRun.{after_exec, exec_answer, steps_of_log}
 use Rattle.enip_bench.specs.Reached.{IsReached}
 use Rattle.enip_bench.specs.WorldLaws.{numbers_after, IsReplyOf}
 
@@ -29,7 +31,8 @@ module _ {world : CountingWorld} (by : IsReached world) where
   -- this is the reply of the only execution of this number's request
   abbrev pub IsItsReply : ℕ → List ℕ → Type 0
   IsItsReply number reply =
-      IsReplyOf after_exec exec_answer by.wants.o_to_t_size by.wants.t_to_o_size by.objects by.events number reply
+      IsReplyOf after_exec exec_answer device_written by.wants.o_to_t_size by.wants.t_to_o_size by.objects by.events
+      number reply
 
   -- this number's request, in a frame to the adapter
   abbrev pub request_frame : ℕ → List ℕ
@@ -54,13 +57,18 @@ module _ {world : CountingWorld} (by : IsReached world) where
     pub arrives : IsArrival numbers_of event number
     pub not_before : Arrives by.wants.o_to_t_size numbers_at_opening by.events number → ⊥
 
-  -- The objects are those of the opening after the requests of the log were executed. The log has each request of the
-  -- connection at most once, in the order of the submits.
+  -- The objects are those of the opening after the log: the requests that were executed, and the device's own writes,
+  -- in order. The log has each request of the connection at most once, in the order of the submits, and each write of
+  -- the events once.
   pub record AreExecutedOnce : Type 0 where
     pub objects : objects_in world
-        ≡ router_after after_exec exec_answer by.wants.t_to_o_size numbers_of.submits by.objects numbers_of.log
+        ≡ router_after after_exec exec_answer device_written by.wants.t_to_o_size numbers_of.submits by.objects
+        numbers_of.log
     pub once : (number : ℕ) → executions_of number numbers_of.log ≤ 1
+    pub steps : objects_in world
+        ≡ device_after by.objects (steps_of_log by.wants.t_to_o_size numbers_of.submits numbers_of.log)
     pub order : AreRising (own_numbers numbers_of.log)
+    pub writes : writes_in numbers_of.log ≡ writes_among by.events
 
 -- a reply that the client accepted is the reply of its request's only execution
 abbrev pub accepted_in_frames : Type 0
@@ -99,8 +107,14 @@ first_in_frames = (world : CountingWorld) (by : IsReached world) (event : Event)
     objects_in (counting_step world event)
     ≡ after_exec (objects_in world) (by.wants.t_to_o_size - 2) (request_of (numbers_of by).submits number)
 
+-- a write of the device changes the objects as it says
+abbrev pub written_in_frames : Type 0
+written_in_frames = (world : CountingWorld) → IsReached world → (write : OwnWrite) →
+    objects_in (counting_step world (Write write)) ≡ device_written write (objects_in world)
+
 -- nothing else changes the objects, except a request of another session
 abbrev pub unchanged_in_frames : Type 0
 unchanged_in_frames = (world : CountingWorld) (by : IsReached world) (event : Event) →
     ((number : ℕ) → IsFirstArrival by event number → ⊥) → ((request : List ℕ) → event ≡ Other request → ⊥) →
+    ((write : OwnWrite) → event ≡ Write write → ⊥) →
     objects_in (counting_step world event) ≡ objects_in world

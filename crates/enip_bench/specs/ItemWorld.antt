@@ -5,7 +5,8 @@ use Rattle.cip_class3.specs.OriginatorRule.{OriginatorState, originator_at_openi
 use Rattle.cip_class3.specs.Deliveries.{answer_to}
 use Rattle.cip_class3.specs.declared.originator.Refused.{Refused}
 use Rattle.cip_bytes.specs.declared.protocol.TheConstants.{UNCONNECTED_LIMIT}
-use Rattle.enip_bench.specs.Events.{Event, Submit, Resend, Reach, Back, Other, Shut, GiveUp, delivery, is_unconnected_request, with_any}
+use Rattle.enip_adapter.specs.OwnWrites.{OwnWrite}
+use Rattle.enip_bench.specs.Events.{Event, Submit, Resend, Reach, Back, Other, Write, Shut, GiveUp, delivery, is_unconnected_request, with_any}
 use Rattle.enip_bench.specs.Seen.{Seen}
 
 -- Both ends and the router behind the target; the items in each direction, and the last position delivered; how many
@@ -66,7 +67,8 @@ abbrev pub with_step : {M : Type 0} → ItemWorld M → TargetStep M → ItemWor
 with_step world step =
     record world { target = step.target; router = step.router; back = with_any (answer_to step) world.back }
 
-module _ {M : Type 0} (after : M → ℕ → List ℕ → M) (answer : M → ℕ → List ℕ → List ℕ) where
+module _ {M : Type 0} (after : M → ℕ → List ℕ → M) (answer : M → ℕ → List ℕ → List ℕ)
+    (written : OwnWrite → M → M) where
   -- the target gets an item; a closed target does nothing
   abbrev pub after_reach : Option (List ℕ) → ItemWorld M → ℕ → ItemWorld M
   after_reach None world position = world
@@ -83,6 +85,7 @@ module _ {M : Type 0} (after : M → ℕ → List ℕ → M) (answer : M → ℕ
   item_step world (Other request) =
       let served : ItemWorld M = record world { router = after world.router UNCONNECTED_LIMIT request } in
       if is_unconnected_request request then served else world
+  item_step world (Write write) = record world { router = written write world.router }
   item_step world Shut = record world { is_open = false }
   item_step world GiveUp = record world { originator = after_give_up world.originator }
 

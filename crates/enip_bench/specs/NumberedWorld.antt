@@ -6,13 +6,15 @@ use Rattle.cip_class3.specs.declared.originator.Refused.{Refused}
 use Rattle.cip_class3.specs.declared.originator.Stage.{Stage}
 use Rattle.cip_class3.specs.declared.originator.Stage.TheVariants as stages
 use Rattle.cip_bytes.specs.declared.protocol.TheConstants.{UNCONNECTED_LIMIT}
-use Rattle.enip_bench.specs.Events.{Event, Submit, Resend, Reach, Back, Other, Shut, GiveUp, delivery, is_unconnected_request, with_any}
+use Rattle.enip_adapter.specs.OwnWrites.{OwnWrite}
+use Rattle.enip_bench.specs.Events.{Event, Submit, Resend, Reach, Back, Other, Write, Shut, GiveUp, delivery, is_unconnected_request, with_any}
 use Rattle.enip_bench.specs.Seen.{Seen}
 
--- what was executed: the request of this number, or another session's
+-- what changed the router: the request of this number, another session's, or a write of the device itself
 pub data Entry : Type 0 where
   OwnRequest : (number : ℕ) → Entry
   OtherRequest : (request : List ℕ) → Entry
+  DeviceWrite : (write : OwnWrite) → Entry
 
 -- no request is pending, the one of this number is, or the last one was given up
 pub data Progress : Type 0 where
@@ -20,8 +22,8 @@ pub data Progress : Type 0 where
   WaitingFor : (number : ℕ) → Progress
   GivenUp : Progress
 
--- The requests taken, numbered from 0; the numbers in each direction, and the last position delivered; what was
--- executed, oldest first; whether the target's end is open; which request is pending; and the numbers whose reply was
+-- The requests taken, numbered from 0; the numbers in each direction, and the last position delivered; what changed the
+-- router, oldest first; whether the target's end is open; which request is pending; and the numbers whose reply was
 -- accepted. This world has no counts and keeps no bytes.
 pub record NumberedWorld : Type 0 where
   pub submits : List (List ℕ)
@@ -93,6 +95,7 @@ abbrev pub stands : ℕ → List Entry → Bool
 stands number [] = false
 stands number (OwnRequest own ∷ log) = (own == number) || stands number log
 stands number (OtherRequest request ∷ log) = stands number log
+stands number (DeviceWrite write ∷ log) = stands number log
 
 -- sends the awaited number, if there is one
 abbrev pub with_awaited_sent : NumberedWorld → NumberedWorld
@@ -137,6 +140,7 @@ numbered_step o_to_t_size world (Back position) =
     after_back (delivery world.last_back world.back position) world position
 numbered_step o_to_t_size world (Other request) =
     if is_unconnected_request request then record world { log = world.log ++ OtherRequest request ∷ [] } else world
+numbered_step o_to_t_size world (Write write) = record world { log = world.log ++ DeviceWrite write ∷ [] }
 numbered_step o_to_t_size world Shut = record world { is_open = false }
 numbered_step o_to_t_size world GiveUp = record world { progress = given_up world.progress }
 
@@ -156,31 +160,39 @@ stage_of GivenUp = stages.GivenUp
 abbrev pub request_of : List (List ℕ) → ℕ → List ℕ
 request_of submits number = slice_index_or submits number []
 
--- the limit on the reply, at this T->O size, and the request of an entry
-abbrev pub execution_of : ℕ → List (List ℕ) → Entry → ℕ × List ℕ
-execution_of t_to_o_size submits (OwnRequest number) = (t_to_o_size - 2, request_of submits number)
-execution_of t_to_o_size submits (OtherRequest request) = (UNCONNECTED_LIMIT, request)
-
 -- whether the entry is the execution of this number's request
 abbrev pub is_execution_of : ℕ → Entry → Bool
 is_execution_of number (OwnRequest own) = own == number
 is_execution_of number (OtherRequest request) = false
+is_execution_of number (DeviceWrite write) = false
 
-module _ {M : Type 0} (after : M → ℕ → List ℕ → M) (answer : M → ℕ → List ℕ → List ℕ) where
+module _ {M : Type 0} (after : M → ℕ → List ℕ → M) (answer : M → ℕ → List ℕ → List ℕ)
+    (written : OwnWrite → M → M) where
+  -- the router after an entry, and its answer to it, at this T->O size; a write has no answer
+  abbrev pub after_entry : ℕ → List (List ℕ) → M → Entry → M
+  after_entry t_to_o_size submits router (OwnRequest number) =
+      after router (t_to_o_size - 2) (request_of submits number)
+  after_entry t_to_o_size submits router (OtherRequest request) = after router UNCONNECTED_LIMIT request
+  after_entry t_to_o_size submits router (DeviceWrite write) = written write router
+
+  abbrev pub entry_answer : ℕ → List (List ℕ) → M → Entry → List ℕ
+  entry_answer t_to_o_size submits router (OwnRequest number) =
+      answer router (t_to_o_size - 2) (request_of submits number)
+  entry_answer t_to_o_size submits router (OtherRequest request) = answer router UNCONNECTED_LIMIT request
+  entry_answer t_to_o_size submits router (DeviceWrite write) = []
+
   -- the router after a run over the log, from left to right
   abbrev pub router_after : ℕ → List (List ℕ) → M → List Entry → M
   router_after t_to_o_size submits router [] = router
   router_after t_to_o_size submits router (entry ∷ log) =
-      let execution = execution_of t_to_o_size submits entry in
-      router_after t_to_o_size submits (after router execution.0 execution.1) log
+      router_after t_to_o_size submits (after_entry t_to_o_size submits router entry) log
 
   -- the reply to this number's request: what that run answers to it
   abbrev pub reply_to : ℕ → List (List ℕ) → M → List Entry → ℕ → List ℕ
   reply_to t_to_o_size submits router [] number = []
   reply_to t_to_o_size submits router (entry ∷ log) number =
-      let execution = execution_of t_to_o_size submits entry in
-      let later = reply_to t_to_o_size submits (after router execution.0 execution.1) log number in
-      if is_execution_of number entry then answer router execution.0 execution.1 else later
+      let later = reply_to t_to_o_size submits (after_entry t_to_o_size submits router entry) log number in
+      if is_execution_of number entry then entry_answer t_to_o_size submits router entry else later
 
   -- What the numbered world shows, for a connection with this first count and T->O size, over this router. Each number
   -- is sent back with its count, modulo 65,536, and the reply of its only execution.

@@ -2,10 +2,11 @@
 use Rattle.std.specs.Prelude.{◌≡◌, ℕ, ◌+◌, List, [], ◌∷◌, replicate, slice_index, refl}
 use Rattle.cip_bytes.specs.Numbers.{le}
 use Rattle.cip_class3.specs.declared.originator.Stage.TheVariants as stages
-use Rattle.enip_bench.specs.Events.{Event, Submit, Resend, Reach, Back, Other, Shut, GiveUp}
+use Rattle.enip_adapter.specs.OwnWrites.{OwnWrite, WritesData, SetsStatus, SetsState}
+use Rattle.enip_bench.specs.Events.{Event, Submit, Resend, Reach, Back, Other, Write, Shut, GiveUp}
 use Rattle.enip_bench.specs.Executions.{executions_of}
 use Rattle.enip_bench.specs.ItemWorld.{items_seen}
-use Rattle.enip_bench.specs.NumberedWorld.{numbers_seen}
+use Rattle.enip_bench.specs.NumberedWorld.{OwnRequest, DeviceWrite, numbers_seen}
 use Rattle.enip_bench.specs.Seen.{Seen}
 use Rattle.enip_bench.specs.WorldLaws.{items_after, numbers_after}
 
@@ -24,12 +25,18 @@ sum_after sum room request = sum + slice_index request 6
 abbrev pub sum_answer : ℕ → ℕ → List ℕ → List ℕ
 sum_answer sum room request = added (sum + slice_index request 6)
 
+-- the device's status is the sum
+abbrev pub sum_written : OwnWrite → ℕ → ℕ
+sum_written (WritesData instance offset bytes) sum = sum
+sum_written (SetsStatus status) sum = status
+sum_written (SetsState state) sum = sum
+
 -- what each world shows, with sizes of 500 bytes, from sum 0
 abbrev pub by_items : ℕ → List Event → Seen ℕ
-by_items first events = items_seen (items_after sum_after sum_answer first 500 500 0 events)
+by_items first events = items_seen (items_after sum_after sum_answer sum_written first 500 500 0 events)
 
 abbrev pub by_numbers : ℕ → List Event → Seen ℕ
-by_numbers first events = numbers_seen sum_after sum_answer first 500 0 (numbers_after 500 events)
+by_numbers first events = numbers_seen sum_after sum_answer sum_written first 500 0 (numbers_after 500 events)
 
 -- A request reaches the target twice and is executed once. While it is pending, no other is taken. Its reply is
 -- accepted, and the late duplicate of the reply is ignored.
@@ -137,3 +144,29 @@ closing-items = refl
 
 pub closing-numbers : by_numbers 1 closing ≡ closing_seen
 closing-numbers = refl
+
+-- The device writes between the two arrivals of a request. The second one is answered with the reply of its execution,
+-- from before the write. The next request is executed after it.
+abbrev pub writing : List Event
+writing =
+    Submit (add 5) ∷ Reach 0 ∷ Write (SetsStatus 20) ∷ Reach 0 ∷ Back 1 ∷ Submit (add 7) ∷ Write (SetsState 3) ∷ Reach 1
+    ∷ Back 2 ∷ []
+
+abbrev pub writing_seen : Seen ℕ
+writing_seen = record {
+  router = 27;
+  back = (1 ∷ 0 ∷ added 5) ∷ (1 ∷ 0 ∷ added 5) ∷ (2 ∷ 0 ∷ added 27) ∷ [];
+  accepted = (0, added 5) ∷ (1, added 27) ∷ [];
+  stage = stages.Idle;
+}
+
+pub writing-items : by_items 1 writing ≡ writing_seen
+writing-items = refl
+
+pub writing-numbers : by_numbers 1 writing ≡ writing_seen
+writing-numbers = refl
+
+-- the log has both requests and both writes, in order
+pub writing-log : (numbers_after 500 writing).log
+    ≡ OwnRequest 0 ∷ DeviceWrite (SetsStatus 20) ∷ DeviceWrite (SetsState 3) ∷ OwnRequest 1 ∷ []
+writing-log = refl

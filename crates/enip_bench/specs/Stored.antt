@@ -3,11 +3,12 @@ use Rattle.std.specs.Prelude.{◌≡◌, ◌<◌, ◌≤◌, ℕ, ⊤, Bool, if�
 use Rattle.cip_ledger.specs.Device.{Device, device_of}
 use Rattle.enip_adapter.specs.Calls.{AdapterState, after_call}
 use Rattle.enip_adapter.specs.Calls.Call.{Begins_peer}
+use Rattle.enip_adapter.specs.OwnWrites.{OwnWrite, WritesData, SetsStatus, SetsState}
 use Rattle.enip_client.specs.Client.{ClientState}
 use Rattle.enip_client.specs.Hears.{HeardEvent}
 use Rattle.enip_bench.specs.CountingOpening.{Setup, ARefusal, Ends, begins}
 use Rattle.enip_bench.specs.CountingWorld.{CountingWorld, reply_heard, counting_step}
-use Rattle.enip_bench.specs.Events.{Event, Submit, Resend, Reach, Back, Other, Shut, GiveUp}
+use Rattle.enip_bench.specs.Events.{Event, Submit, Resend, Reach, Back, Other, Write, Shut, GiveUp}
 use Rattle.enip_bench.specs.Reached.{IsReached}
 use Rattle.enip_bench.specs.Seen.{Seen}
 use Rattle.enip_bench.specs.EventResults.{EventResult, Sends, Refuses, Resends, Reaches, Accepts, Ignores, Impossible, Done, event_result}
@@ -17,6 +18,8 @@ use Rattle.enip_bench.specs.declared.bench.InFlight.{InFlight}
 use Rattle.enip_bench.specs.declared.bench.Seen.{Seen as SeenInCode}
 use Rattle.enip_bench.specs.declared.event.Event.{Event as EventInCode}
 use Rattle.enip_bench.specs.declared.event.Event.TheVariants as events
+use Rattle.enip_bench.specs.declared.event.OwnWrite.{OwnWrite as WriteInCode}
+use Rattle.enip_bench.specs.declared.event.OwnWrite.TheVariants as writes
 use Rattle.enip_bench.specs.declared.event.StepKind.{StepKind}
 use Rattle.enip_bench.specs.declared.event.StepKind.TheVariants as step_kinds
 use Rattle.enip_bench.specs.declared.event.Step.{Step}
@@ -44,12 +47,18 @@ world_in world = record {
   accepted = acceptances_in world.accepted.items;
 }
 
+abbrev pub write_in : WriteInCode → OwnWrite
+write_in (writes.Data instance offset bytes) = WritesData instance offset bytes.items
+write_in (writes.Status status) = SetsStatus status
+write_in (writes.State state) = SetsState state
+
 abbrev pub event_in : EventInCode → Event
 event_in (events.Submit request) = Submit request.items
 event_in events.Resend = Resend
 event_in (events.Reach position) = Reach position
 event_in (events.Back position) = Back position
 event_in (events.Other request) = Other request.items
+event_in (events.Write write) = Write (write_in write)
 event_in events.Shut = Shut
 event_in events.GiveUp = GiveUp
 

@@ -5,6 +5,17 @@ ghost use Rattle.enip_bench.specs.Stored.{event_result_in, event_result_with};
 
 use cip_class3::Refused;
 
+/// A write of the device itself into its objects.
+#[derive(Debug, Drop)]
+pub enum OwnWrite {
+    /// These bytes, from this offset on, into the data of this assembly.
+    Data(u32, usize, Vec<u8>),
+    /// The device's status: attribute 5 of the Identity object.
+    Status(u16),
+    /// The device's state: attribute 8 of the Identity object.
+    State(u8),
+}
+
 /// An event at or between the two ends. A position is an index into the frames of that direction, from 0.
 #[derive(Debug, Drop)]
 pub enum Event {
@@ -18,6 +29,8 @@ pub enum Event {
     Back(usize),
     /// The second session sends this request, of 2 to 504 bytes, as an unconnected message.
     Other(Vec<u8>),
+    /// The device itself writes.
+    Write(OwnWrite),
     /// Every connection times out.
     Shut,
     /// The client gives up the pending request.
@@ -39,7 +52,8 @@ pub enum Step<'a> {
     Accepted(&'a [u8]),
     /// The frame held nothing that the client waited for.
     Ignored,
-    /// The event is impossible: no such frame, one out of order, or a request of another size. Nothing changed.
+    /// The event is impossible: no such frame, one out of order, a request of another size, or a write that the data of
+    /// no assembly has room for. Nothing changed.
     Impossible,
     /// The event was done.
     Done,

@@ -2,18 +2,20 @@
 //!
 //! The functions do nothing: the clauses of each are the law. The events begin at an opening, when nothing is held, no
 //! request is pending, and nothing was sent. They are any list of submits, resends, in-order deliveries with any losses
-//! and repeats, other sessions' requests, closings and give-ups. So the count may wrap any number of times.
+//! and repeats, other sessions' requests, writes of the device itself, closings and give-ups. So the count may wrap any
+//! number of times. A router's change by a write of the device is any function (`written`).
 
 ghost use Rattle.cip_objects.specs.Router.{RepliesWellFormed};
+ghost use Rattle.enip_adapter.specs.OwnWrites.{OwnWrite};
 ghost use Rattle.enip_bench.specs.Bound.{bound_law, refusals_law, raised_law};
 ghost use Rattle.enip_bench.specs.FrameBound.{raised_in_frames};
 ghost use Rattle.enip_bench.specs.FrameLaw.{frame_law};
 ghost use Rattle.enip_bench.specs.FrameOnce.{accepted_in_frames, accepted_order_in_frames, answers_in_frames};
 ghost use Rattle.enip_bench.specs.FrameOnce.{same_frames, once_in_frames, requests_in_frames, first_in_frames};
-ghost use Rattle.enip_bench.specs.FrameOnce.{unchanged_in_frames};
+ghost use Rattle.enip_bench.specs.FrameOnce.{written_in_frames, unchanged_in_frames};
 ghost use Rattle.enip_bench.specs.JustOpened.{opening_law};
-ghost use Rattle.enip_bench.specs.ObjectsRun.{run_law};
-ghost use Rattle.enip_bench.specs.WorldLaws.{agreement_law, once_law, order_law, window_law, arrival_law};
+ghost use Rattle.enip_bench.specs.ObjectsRun.{steps_law, run_law};
+ghost use Rattle.enip_bench.specs.WorldLaws.{agreement_law, once_law, order_law, writes_law, window_law, arrival_law};
 ghost use Rattle.enip_bench.specs.WorldLaws.{accepted_law, accepted_order_law, answer_law, same_bytes_law};
 
 use cip_objects::Router;
@@ -21,13 +23,19 @@ use cip_objects::Router;
 /// Both ends, by their rules, show what the numbered world shows: the router's state, every item sent back, each
 /// accepted reply with the number of its request, and the originator's stage.
 pub fn worlds_agree<R: Router>()
-    ensures { RepliesWellFormed R.answer → agreement_law R.after R.answer }
+    ensures { RepliesWellFormed R.answer → (written : OwnWrite → R → R) →
+        agreement_law R.after R.answer written }
 {}
 
 /// In the numbered world, no request is executed twice, and requests are executed in the order of their numbers.
 pub fn executed_once()
     ensures once { once_law }
     ensures order { order_law }
+{}
+
+/// In the numbered world, the log has each write of the device itself once, in the order of the events.
+pub fn written_once()
+    ensures { writes_law }
 {}
 
 /// In the numbered world, a request is executed if and only if it reached the target while the target was open.
@@ -38,14 +46,18 @@ pub fn executed_on_arrival()
 /// A reply that the originator accepts is the reply of its request's only execution. At most one reply is accepted for
 /// each request.
 pub fn accepted_once<R: Router>()
-    ensures reply { RepliesWellFormed R.answer → accepted_law R.after R.answer }
-    ensures order { RepliesWellFormed R.answer → accepted_order_law R.after R.answer }
+    ensures reply { RepliesWellFormed R.answer → (written : OwnWrite → R → R) →
+        accepted_law R.after R.answer written }
+    ensures order { RepliesWellFormed R.answer → (written : OwnWrite → R → R) →
+        accepted_order_law R.after R.answer written }
 {}
 
 /// Every answer to a request has the request's count and the reply of its only execution, so the same bytes each time.
 pub fn answered_alike<R: Router>()
-    ensures reply { RepliesWellFormed R.answer → answer_law R.after R.answer }
-    ensures same_bytes { RepliesWellFormed R.answer → same_bytes_law R.after R.answer }
+    ensures reply { RepliesWellFormed R.answer → (written : OwnWrite → R → R) →
+        answer_law R.after R.answer written }
+    ensures same_bytes { RepliesWellFormed R.answer → (written : OwnWrite → R → R) →
+        same_bytes_law R.after R.answer written }
 {}
 
 /// Fewer requests were submitted since the last accepted reply than there are counts.
@@ -58,26 +70,29 @@ pub fn fewer_than_counts()
 /// list of events.
 pub fn refused_at_the_bound<R: Router>()
     ensures bound { bound_law }
-    ensures refusals { RepliesWellFormed R.answer → refusals_law R.after R.answer }
+    ensures refusals { RepliesWellFormed R.answer → (written : OwnWrite → R → R) →
+        refusals_law R.after R.answer written }
 {}
 
 /// The bound can't be raised. Suppose a request is executed and its reply accepted, and 65,535 more are submitted,
 /// given up and lost. If one more were taken, it would have the count of the first one. An open target would not
 /// execute it, but send the first one's reply again, and the originator would accept that as the reply to the last one.
 pub fn bound_cannot_be_raised<R: Router>()
-    ensures { RepliesWellFormed R.answer → raised_law R.after R.answer }
+    ensures { RepliesWellFormed R.answer → (written : OwnWrite → R → R) →
+        raised_law R.after R.answer written }
 {}
 
-/// At the objects, a log of the numbered world is a run of requests: the same contents after it, and the same reply at
-/// each position.
+/// At the objects, a log of the numbered world is a run of requests and of the device's own writes, in order: the same
+/// contents after it, and the same reply at each position. Without such writes it is a run of requests alone.
 pub fn log_is_a_run()
-    ensures { run_law }
+    ensures steps { steps_law }
+    ensures run { run_law }
 {}
 
 /// Once the client has registered and opened its connection, the whole adapter and the whole client show what the
 /// numbered world shows: the objects, the bytes of every frame sent back, each accepted reply with the number of its
 /// request, and the client's stage. Between the two ends are the bytes of whole frames. A second session has requests
-/// of its own executed, of any bytes, and the connection ends by timeout.
+/// of its own executed, of any bytes, the device itself writes, and the connection ends by timeout.
 pub fn frames_agree()
     ensures { frame_law }
 {}
@@ -97,11 +112,13 @@ pub fn frames_answered_alike()
 {}
 
 /// Over whole frames, each request is executed at most once: when its first frame reaches the open adapter. Nothing
-/// else changes the objects, except requests of another session.
+/// else changes the objects, except requests of another session and the device's own writes, each of which changes them
+/// once, in order.
 pub fn frames_executed_once()
     ensures once { once_in_frames }
     ensures sent { requests_in_frames }
     ensures first { first_in_frames }
+    ensures written { written_in_frames }
     ensures unchanged { unchanged_in_frames }
 {}
 

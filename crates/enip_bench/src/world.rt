@@ -7,15 +7,17 @@
 ghost use Rattle.std.specs.Prelude.{ℕ, ◌≡◌, ◌≤◌, [], length};
 ghost use Rattle.std.specs.Option.{option_map};
 ghost use Rattle.enip_bench.specs.CountingWorld.{reply_heard};
-ghost use Rattle.enip_bench.specs.Events.{Submit, Resend, Reach, Back, Other, Shut, GiveUp, delivery, is_unconnected_request};
+ghost use Rattle.enip_bench.specs.EventResults.{is_possible_write};
+ghost use Rattle.enip_bench.specs.Events.{Submit, Resend, Reach, Back, Other, Write, Shut, GiveUp};
+ghost use Rattle.enip_bench.specs.Events.{delivery, is_unconnected_request};
 ghost use Rattle.enip_bench.specs.Reached.{IsReached};
-ghost use Rattle.enip_bench.specs.Stored.{world_in, event_in, IsStepped, IsStepDone};
+ghost use Rattle.enip_bench.specs.Stored.{world_in, event_in, write_in, IsStepped, IsStepDone};
 ghost use Rattle.enip_bench.specs.Stored.{IsCapacityFor, reply_put};
 ghost use Rattle.enip_adapter.specs.Calls.{after_call};
-ghost use Rattle.enip_adapter.specs.Calls.Call.{Feeds};
+ghost use Rattle.enip_adapter.specs.Calls.Call.{Feeds, Writes};
 ghost use Rattle.enip_client.specs.Client.{fed};
 
-use crate::event::{Event, StepKind};
+use crate::event::{Event, OwnWrite, StepKind};
 use crate::frames::Frames;
 use bytes::BytesMut;
 use cip_bytes::protocol::{SMALLEST_REQUEST, UNCONNECTED_LIMIT};
@@ -66,6 +68,7 @@ impl World {
             Event::Reach(position) => self.reach(*position),
             Event::Back(position) => self.deliver_back(*position),
             Event::Other(request) => Ok(self.execute_other(request)),
+            Event::Write(write) => Ok(self.write(write)),
             Event::Shut => Ok(self.shut()),
             Event::GiveUp => Ok(self.give_up()),
         }
@@ -162,6 +165,18 @@ impl World {
         StepKind::Done
     }
 
+    /// Writes into the objects, on behalf of the device itself.
+    fn write(&mut self, write: &OwnWrite) -> StepKind
+        ensures step_kind { IsStepDone (world_in self.old) (Write (write_in write.now)) (world_in self.new) result }
+        ensures submits { self.new.submits ≡ self.old.submits }
+        ensures sent { self.new.sent ≡ self.old.sent }
+    {
+        if !write_objects(&mut self.adapter, write) {
+            return StepKind::Impossible;
+        }
+        StepKind::Done
+    }
+
     /// Times out every connection.
     fn shut(&mut self) -> StepKind
         ensures step_kind { IsStepDone (world_in self.old) Shut (world_in self.new) result }
@@ -202,6 +217,24 @@ pub(crate) fn feed_unanswered(adapter: &mut Adapter, peer: &Peer, frame: &[u8])
     ensures { adapter.new ≡ after_call adapter.old (Feeds 0 peer.now frame.now) }
 {
     adapter.feed(0, peer, frame);
+}
+
+/// Writes into the adapter's objects, on behalf of the device itself. Returns whether it fits them.
+fn write_objects(adapter: &mut Adapter, write: &OwnWrite) -> bool
+    ensures adapter { adapter.new ≡ after_call adapter.old (Writes (write_in write.now)) }
+    ensures fits { result ≡ is_possible_write (write_in write.now) adapter.old.state.shared.objects.router }
+{
+    match write {
+        OwnWrite::Data(instance, offset, bytes) => adapter.write_data(*instance, *offset, bytes),
+        OwnWrite::Status(status) => {
+            adapter.set_device_status(*status);
+            true
+        }
+        OwnWrite::State(state) => {
+            adapter.set_device_state(*state);
+            true
+        }
+    }
 }
 
 /// The frame that a delivery brings. `None` if no frame has this position, or a later one was delivered already.

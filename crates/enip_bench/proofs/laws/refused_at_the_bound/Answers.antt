@@ -5,5 +5,5 @@ pub returns-clause-bound : goal.returns-clause-bound
 returns-clause-bound g c = bound
 
 pub returns-clause-refusals : goal.returns-clause-refusals
-returns-clause-refusals g c form =
-    refusals_agree g.R.Router.after g.R.Router.answer form.begins form.within
+returns-clause-refusals g c form written =
+    refusals_agree g.R.Router.after g.R.Router.answer written form.begins form.within
