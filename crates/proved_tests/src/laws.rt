@@ -34,6 +34,7 @@ fn the_laws_of_the_objects() {
 fn the_laws_of_the_bench() {
     enip_bench::laws::worlds_agree::<Objects>();
     enip_bench::laws::executed_once();
+    enip_bench::laws::written_once();
     enip_bench::laws::executed_on_arrival();
     enip_bench::laws::accepted_once::<Objects>();
     enip_bench::laws::answered_alike::<Objects>();

@@ -3,7 +3,7 @@
 use cip_class3::Refused;
 use cip_objects::{AssemblyConfig, Config, CounterConfig, Objects};
 use enip_adapter::{Adapter, Limits, Listen};
-use enip_bench::{Bench, Event, Seen, Step};
+use enip_bench::{Bench, Event, OwnWrite, Seen, Step};
 use enip_client::{Client, Wants};
 use std::alloc::{AllocError, Global};
 use std::test::Fail;
@@ -117,7 +117,7 @@ pub fn counter(bench: &Bench, attribute: u16) -> Result<u32, Fail> {
     Ok(u32::from_le_bytes(bytes))
 }
 
-/// An event with a borrowed request.
+/// An event with a borrowed request, or with borrowed data.
 #[derive(Clone, Copy)]
 pub enum Row {
     Submit(&'static [u8]),
@@ -125,6 +125,9 @@ pub enum Row {
     Reach(usize),
     Back(usize),
     Other(&'static [u8]),
+    WriteData(u32, usize, &'static [u8]),
+    WriteStatus(u16),
+    WriteState(u8),
     Shut,
     GiveUp,
 }
@@ -137,6 +140,12 @@ impl Row {
             Row::Reach(position) => Event::Reach(position),
             Row::Back(position) => Event::Back(position),
             Row::Other(request) => Event::Other(Vec::from_slice(alloc, request)?),
+            Row::WriteData(instance, offset, bytes) => {
+                let bytes = Vec::from_slice(alloc, bytes)?;
+                Event::Write(OwnWrite::Data(instance, offset, bytes))
+            }
+            Row::WriteStatus(status) => Event::Write(OwnWrite::Status(status)),
+            Row::WriteState(state) => Event::Write(OwnWrite::State(state)),
             Row::Shut => Event::Shut,
             Row::GiveUp => Event::GiveUp,
         })
