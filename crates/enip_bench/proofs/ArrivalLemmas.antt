@@ -5,7 +5,7 @@ use Rattle.std.proofs.lemmas.Option.{same_Some}
 use Rattle.cip_class3.specs.declared.originator.Refused.{Refused}
 use Rattle.enip_bench.specs.Events.{Event, Submit, Resend, Reach, Back, Other, Write, Shut, GiveUp, delivery, is_unconnected_request}
 use Rattle.enip_bench.specs.Executions.{IsArrival, Arrives}
-use Rattle.enip_bench.specs.NumberedWorld.{Entry, OwnRequest, OtherRequest, DeviceWrite, NumberedWorld, Idle, refusal, is_awaited, stands, after_submit, after_reach, after_back, numbers_at_opening, numbered_step, numbered_run}
+use Rattle.enip_bench.specs.NumberedWorld.{Entry, OwnRequest, OtherRequest, NumberedWorld, Idle, refusal, is_awaited, stands, after_submit, after_reach, after_back, numbers_at_opening, numbered_step, numbered_run}
 use Rattle.enip_bench.specs.WorldLaws.{arrival_law}
 use Rattle.enip_bench.proofs.PlainLemmas.{stands-own, stands-other, stands-write}
 
