@@ -112,7 +112,7 @@ abbrev pub written_in_frames : Type 0
 written_in_frames = (world : CountingWorld) → IsReached world → (write : OwnWrite) →
     objects_in (counting_step world (Write write)) ≡ device_written write (objects_in world)
 
--- nothing else changes the objects, except a request of another session
+-- nothing else changes the objects, except a request of another session or a write of the device
 abbrev pub unchanged_in_frames : Type 0
 unchanged_in_frames = (world : CountingWorld) (by : IsReached world) (event : Event) →
     ((number : ℕ) → IsFirstArrival by event number → ⊥) → ((request : List ℕ) → event ≡ Other request → ⊥) →
