@@ -130,7 +130,8 @@ after_back (Some number) world position =
     let accepting : NumberedWorld = record moved { progress = Idle; accepted = world.accepted ++ number ∷ [] } in
     if is_awaited world.progress number then accepting else moved
 
--- the world after an event, at this O->T size; an impossible one changes nothing
+-- the world after an event, at this O->T size; an impossible one changes nothing (a write that the objects refuse is in
+-- the log, and changes nothing there)
 abbrev pub numbered_step : ℕ → NumberedWorld → Event → NumberedWorld
 numbered_step o_to_t_size world (Submit request) = after_submit (refusal o_to_t_size world request) world request
 numbered_step o_to_t_size world Resend = with_awaited_sent world
