@@ -52,8 +52,8 @@ pub enum Step<'a> {
     Accepted(&'a [u8]),
     /// The frame held nothing that the client waited for.
     Ignored,
-    /// The event is impossible: no such frame, one out of order, a request of another size, or a write to no assembly or
-    /// past the end of its data. Nothing changed.
+    /// The event is impossible: no such frame, one out of order, a request of another size, or a write to no assembly
+    /// or past the end of its data. Nothing changed.
     Impossible,
     /// The event was done.
     Done,
