@@ -1,0 +1,4 @@
+pub mod Numbers
+pub mod Lookup
+pub mod Sound
+pub mod Contents
