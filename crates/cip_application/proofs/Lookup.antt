@@ -27,6 +27,7 @@ pub first_at : (xs : List AttributeValues) (n i : ℕ) → i < length xs → ((d
 first_at [] n i lt here before = absurd (omega arith)
 first_at (x ∷ xs) n zero lt here before = record {
   within = lt;
+  numbered = here;
   here = λ d. ap (λ t. cond t (Some x) (attribute_at n xs)) (eqb-same x.number n (here x));
   replaced = λ a e. ap (λ t. cond t (a ∷ xs) (x ∷ with_attribute a xs)) (eqb-same x.number a.number (let h = here x in omega arith));
 }
@@ -35,6 +36,7 @@ first_at (x ∷ xs) n (suc i) lt here before =
     let other = before 0 x (omega arith) in
     record {
       within = lt;
+      numbered = here;
       here = λ d. ap (λ t. cond t (Some x) (attribute_at n xs)) (eqb-other x.number n other) ∙ f.here d;
       replaced = λ a e. ap (λ t. cond t (a ∷ xs) (x ∷ with_attribute a xs)) (eqb-other x.number a.number (λ s. other (omega arith))) ∙ ap (λ l. x ∷ l) (f.replaced a e);
     }
@@ -56,3 +58,9 @@ placed_at (x ∷ xs) a (suc i) lt here before =
     let h = before 0 x (omega arith) in
     ap (λ l. x ∷ l) (placed_at xs a i (omega arith) here (λ k d lt. before (suc k) d (omega arith)))
     ∙ ap (λ t. cond t (a ∷ x ∷ xs) (x ∷ with_placed a xs)) (sym (lt-false a.number x.number h))
+
+-- inside a list the default does not matter
+pub same_get : {A : Type 0} (xs : List A) (k : ℕ) (d e : A) → k < length xs → get_or xs k d ≡ get_or xs k e
+same_get [] k d e lt = absurd (omega arith)
+same_get (x ∷ xs) zero d e lt = refl
+same_get (x ∷ xs) (suc k) d e lt = same_get xs k d e (omega arith)

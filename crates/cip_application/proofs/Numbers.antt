@@ -1,5 +1,5 @@
 -- The numbers of a value, one after another.
-use Rattle.std.proofs.Common.{◌≡◌, ℕ, zero, suc, ◌+◌, ◌-◌, ◌*◌, ◌/◌, ◌%◌, ◌<◌, ◌≤◌, ◌&&◌, true, List, [], ◌∷◌, length, drop, refl, sym, ap, ◌∙◌, arith}
+use Rattle.std.proofs.Common.{◌≡◌, ℕ, zero, suc, ◌+◌, ◌-◌, ◌*◌, ◌/◌, ◌%◌, ◌<◌, ◌≤◌, ◌&&◌, Bool, true, List, [], ◌∷◌, length, drop, refl, sym, ap, ◌∙◌, arith}
 use Rattle.std.specs.List.{list_all}
 use Rattle.std.proofs.Math.Nat.{mod-lt}
 use Rattle.std.proofs.lemmas.Nat.{div-add-mod', div-mul-add, div_below}
@@ -36,3 +36,10 @@ within_step r bytes some le = ap (list_all (is_within r)) (numbers_step (width_o
 -- fewer bytes than one number has
 pub within_end : (r : NumberRange) (bytes : List ℕ) → length bytes < width_of r.number → are_within r bytes ≡ true
 within_end r bytes short = ap (list_all (is_within r)) (numbers_end (width_of r.number) bytes short)
+
+-- the same of a front that was read
+pub within_front : (r : NumberRange) (bytes : List ℕ) (w bits : ℕ) (t : Bool) → w ≡ width_of r.number → 1 ≤ w → w ≤ length bytes → bits ≡ little_number w bytes → t ≡ is_within r bits → are_within r bytes ≡ t && are_within r (drop w bytes)
+within_front r bytes w bits t e some le b h =
+    within_step r bytes (omega arith) (omega arith)
+    ∙ ap (λ n. is_within r (little_number n bytes) && are_within r (drop n bytes)) (sym e)
+    ∙ ap (λ u. u && are_within r (drop w bytes)) (ap (is_within r) (sym b) ∙ sym h)

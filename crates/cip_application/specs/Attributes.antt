@@ -1,5 +1,5 @@
 -- An attribute of an application object: what the configuration fixed, its value, and how often peers set it.
-use Rattle.std.specs.Prelude.{ℕ, ◌+◌, ◌%◌, ◌^◌, Bool, ◌==◌, nat_lt, if◌then◌else◌, List, [], ◌∷◌, Option, Some, None}
+use Rattle.std.specs.Prelude.{ℕ, ◌+◌, ◌%◌, ◌^◌, Bool, false, not, ◌&&◌, ◌==◌, nat_lt, if◌then◌else◌, List, [], ◌∷◌, Option, Some, None}
 use Rattle.std.specs.Prelude.{option_map, Result, Ok, Err}
 use Rattle.cip_bytes.specs.Reading.{◌>>◌}
 use Rattle.cip_application.specs.declared.attribute.SetFault.{SetFault}
@@ -21,6 +21,11 @@ abbrev pub attribute_at : ℕ → List AttributeValues → Option AttributeValue
 attribute_at number [] = None
 attribute_at number (a ∷ attributes) =
     if a.number == number then Some a else attribute_at number attributes
+
+-- Whether peers can set the attribute without a question to the owner of the device.
+abbrev pub can_be_set : Option AttributeValues → Bool
+can_be_set None = false
+can_be_set (Some a) = a.settable && not a.checked
 
 -- The attributes with this one in place of the first with its number.
 abbrev pub with_attribute : AttributeValues → List AttributeValues → List AttributeValues

@@ -1,5 +1,5 @@
 -- The application objects that a configuration describes, and its checks: the first that fails refuses it.
-use Rattle.std.specs.Prelude.{◌≡◌, ◌<◌, ◌≤◌, ℕ, ◌%◌, Bool, false, not, ◌==◌, ◌&&◌, ◌||◌, nat_lt, if◌then◌else◌, List, [], ◌∷◌, length}
+use Rattle.std.specs.Prelude.{◌≡◌, ◌<◌, ℕ, ◌%◌, Bool, false, not, ◌==◌, ◌&&◌, ◌||◌, nat_lt, if◌then◌else◌, List, [], ◌∷◌, length}
 use Rattle.std.specs.Prelude.{map, sum, Option, Some, None, is_err}
 use Rattle.std.specs.List.{list_any}
 use Rattle.std.specs.String.{string_bytes}
@@ -17,7 +17,7 @@ use Rattle.cip_bytes.specs.declared.protocol.TheConstants.{IDENTITY, MESSAGE_ROU
 use Rattle.cip_bytes.specs.declared.protocol.TheConstants.{COUNTER}
 use Rattle.cip_application.specs.Attributes.{AttributeValues, in_order}
 use Rattle.cip_application.specs.Numbers.{width_of, is_at_most}
-use Rattle.cip_application.specs.Objects.{ObjectValues}
+use Rattle.cip_application.specs.Objects.{ObjectValues, position_of}
 use Rattle.cip_application.specs.Values.{capacity, check_value}
 
 -- The numbers of the faults, as printed.
@@ -137,18 +137,20 @@ object_of_config o = record {
 abbrev pub objects_of_config : List ObjectConfig → List ObjectValues
 objects_of_config objects = map object_of_config objects
 
--- No object has a class of the adapter's own, and none is a class itself.
+-- No object has a class of the adapter's own, none is a class itself, and no two have the same class and instance
+-- number.
 abbrev pub AreOwn : Bool → List ObjectValues → Type 0
 AreOwn counter [] = Unit {0}
 AreOwn counter (o ∷ objects) =
-    (is_taken_class counter o.class ≡ false) × (0 < o.class) × (0 < o.instance) × AreOwn counter objects
+    (is_taken_class counter o.class ≡ false) × (0 < o.class) × (0 < o.instance)
+    × (position_of o.class o.instance objects ≡ None) × AreOwn counter objects
 
--- The number is at most that of the next attribute.
+-- The number is less than that of the next attribute.
 abbrev pub IsBefore : ℕ → List AttributeValues → Type 0
 IsBefore number [] = Unit {0}
-IsBefore number (a ∷ attributes) = number ≤ a.number
+IsBefore number (a ∷ attributes) = number < a.number
 
--- The numbers of an object's attributes do not fall.
+-- The numbers of an object's attributes rise.
 abbrev pub AreInOrder : List AttributeValues → Type 0
 AreInOrder [] = Unit {0}
 AreInOrder (a ∷ attributes) = IsBefore a.number attributes × AreInOrder attributes

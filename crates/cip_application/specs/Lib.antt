@@ -5,4 +5,5 @@ pub mod Configuration
 pub mod Attributes
 pub mod Objects
 pub mod Whole
+pub mod Laws
 pub mod Rows

@@ -101,6 +101,7 @@ class_of class objects = summary_of (instances_of class objects)
 -- The first attribute with this number is at this index: it is the one that is read, and the one that is replaced.
 pub record IsAttributeAt (attributes : List AttributeValues) (number index : ℕ) : Type 0 where
   pub within : index < length attributes
+  pub numbered : (d : AttributeValues) → (slice_index_or attributes index d).number ≡ number
   pub here : (d : AttributeValues) → attribute_at number attributes ≡ Some (slice_index_or attributes index d)
   pub replaced : (a : AttributeValues) → a.number ≡ number
       → with_attribute a attributes ≡ slice_set attributes index a

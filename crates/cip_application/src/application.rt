@@ -1,11 +1,10 @@
 //! The application objects of a device: a list of objects to a caller.
 //! Text: docs/PROTOCOL.md, "Objects".
-ghost use Rattle.std.specs.Prelude.{◌≡◌, ◌≤◌, ◌<◌, IfOk, IfErr, IfSome, OnErr, Some, None, length, option_map};
+ghost use Rattle.std.specs.Prelude.{◌≡◌, ◌≤◌, ◌<◌, IfOk, IfErr, IfSome, OnErr, OnOk, Ok, Err, Some, None, length, option_map};
 ghost use Rattle.std.specs.Prelude.{option_copied, option_and_then, unwrap_or, is_some, slice_index_or, map};
 ghost use Rattle.std.specs.List.{All};
 ghost use Rattle.std.specs.Box.{boxed_slice_items};
-ghost use Rattle.cip_bytes.specs.Reading.{map_ok};
-ghost use Rattle.cip_application.specs.Attributes.{AttributeValues};
+ghost use Rattle.cip_application.specs.Attributes.{AttributeValues, attribute_at, can_be_set};
 ghost use Rattle.cip_application.specs.Configuration.{fault_of, objects_of_config, object_of_config, AreOwn, AreInOrder};
 ghost use Rattle.cip_application.specs.Objects.{ObjectValues, position_of, object_in, value_in, value_of, service_in};
 ghost use Rattle.cip_application.specs.Objects.{objects_set, objects_write, changes_of, class_of};
@@ -129,6 +128,14 @@ impl ApplicationObjects {
         self.objects[position].value_at(index)
     }
 
+    /// Whether peers can set an attribute of the object at an index without a question to the owner of the device.
+    pub fn is_settable(&self, position: usize, number: u16) -> bool
+        requires { position < length self.now }
+        ensures { result ≡ can_be_set (attribute_at number (object_in self.now position).attributes) }
+    {
+        self.objects[position].is_settable(number)
+    }
+
     /// Sets an attribute of the object at an index to these data, for a peer. A set that is executed is counted.
     ///
     /// # Errors
@@ -136,7 +143,8 @@ impl ApplicationObjects {
     /// The first check that fails, in the order of `SetFault`. Nothing changes then.
     pub fn set(&mut self, position: usize, number: u16, data: &[u8]) -> Result<(), SetFault>
         requires { position < length self.old }
-        ensures set { map_ok (λ _. self.new) result ≡ objects_set self.old position number data.now }
+        ensures set { OnOk result (objects_set self.old position number data.now ≡ Ok self.new) }
+        ensures fault { IfErr result (λ fault. objects_set self.old position number data.now ≡ Err fault) }
         ensures refused { OnErr result (self.new ≡ self.old) }
     {
         self.objects[position].set(number, data)

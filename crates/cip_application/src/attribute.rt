@@ -1,8 +1,7 @@
 //! An attribute of an application object: its value in memory of a fixed size, and how often peers set it.
 //! Text: docs/PROTOCOL.md, "Objects".
-ghost use Rattle.std.specs.Prelude.{◌≡◌, ◌≤◌, ◌+◌, ◌<◌, IfOk, OnErr, length, unwrap_or, is_some, insert, take, None};
-ghost use Rattle.std.specs.Prelude.{is_ok, ◌==◌, ◌&&◌, nat_le};
-ghost use Rattle.cip_bytes.specs.Reading.{map_ok};
+ghost use Rattle.std.specs.Prelude.{◌≡◌, ◌≤◌, ◌+◌, ◌<◌, IfOk, IfErr, OnErr, OnOk, Ok, Err, length, unwrap_or, is_some, insert, take, None};
+ghost use Rattle.std.specs.Prelude.{is_ok, ◌==◌, ◌&&◌, nat_le, not};
 ghost use Rattle.cip_application.specs.Values.{capacity, with_bytes_at};
 ghost use Rattle.cip_application.specs.Attributes.{AttributeValues, attribute_set, attribute_write, with_placed};
 ghost use Rattle.cip_application.specs.Attributes.{attribute_at, one_more};
@@ -123,6 +122,13 @@ impl Attribute {
         &self.content[..self.size]
     }
 
+    /// Whether peers can set it without a question to the owner of the device.
+    pub(crate) fn is_settable(&self) -> bool
+        ensures { result ≡ self.now.settable && not self.now.checked }
+    {
+        self.settable && !self.checked
+    }
+
     /// How often peers set it, modulo 2^32.
     pub(crate) fn changes(&self) -> u32
         ensures { result ≡ self.now.changes }
@@ -136,7 +142,8 @@ impl Attribute {
     ///
     /// The first check that fails, in the order of the faults. Nothing changes then.
     pub(crate) fn set(&mut self, data: &[u8]) -> Result<(), SetFault>
-        ensures set { map_ok (λ _. self.new) result ≡ attribute_set self.old data.now }
+        ensures set { OnOk result (attribute_set self.old data.now ≡ Ok self.new) }
+        ensures fault { IfErr result (λ fault. attribute_set self.old data.now ≡ Err fault) }
         ensures refused { OnErr result (self.new ≡ self.old) }
     {
         if !self.settable {

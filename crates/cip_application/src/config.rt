@@ -147,7 +147,7 @@ impl<T: Drop> From<AllocFailed<T>> for ObjectFault {
 /// The first check of a configuration that fails. Running out of memory is not one of them. `counter` says whether
 /// the adapter has its counter, so that no object can have the counter's class.
 #[tactic(auto, unfolding(crate::specs::Configuration::fault_of))]
-pub(crate) fn fault(counter: bool, objects: &[ObjectConfig]) -> Option<ObjectFault>
+pub fn fault(counter: bool, objects: &[ObjectConfig]) -> Option<ObjectFault>
     ensures { result ≡ fault_of counter objects.now }
 {
     // The first check that fails is reported, in the order of the numbers 10 to 12 (our choice).

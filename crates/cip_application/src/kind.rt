@@ -7,7 +7,7 @@ use crate::attribute::SetFault;
 use crate::number::NumberRange;
 
 /// The most bytes of an attribute's value (our choice).
-pub(crate) const VALUE_LIMIT: usize = 500;
+pub const VALUE_LIMIT: usize = 500;
 
 /// What values an attribute has.
 #[derive(Clone, Copy, Debug)]

@@ -17,11 +17,12 @@ mod application;
 mod attribute;
 mod config;
 mod kind;
+pub mod laws;
 mod number;
 mod object;
 
 pub use application::{ApplicationObjects, ClassSummary};
 pub use attribute::SetFault;
-pub use config::{AttributeConfig, ObjectConfig, ObjectFault, ServiceConfig};
-pub use kind::AttributeKind;
+pub use config::{AttributeConfig, ObjectConfig, ObjectFault, ServiceConfig, fault};
+pub use kind::{AttributeKind, VALUE_LIMIT};
 pub use number::{NumberRange, NumberType};

@@ -168,7 +168,7 @@ impl NumberRange {
             if !self.contains(LittleEndian::read_uint(rest, width)) {
                 return false;
             }
-            rest = &rest[width..];
+            rest = rest.split_at(width).1;
         }
         true
     }

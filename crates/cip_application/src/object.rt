@@ -1,11 +1,10 @@
 //! An application object: its attributes in the order of their numbers, and its own services.
 //! Text: docs/PROTOCOL.md, "Objects".
-ghost use Rattle.std.specs.Prelude.{◌≡◌, ◌≤◌, ◌<◌, ◌+◌, IfOk, IfSome, OnErr, MatchOption, Some, None, length, map};
+ghost use Rattle.std.specs.Prelude.{◌≡◌, ◌≤◌, ◌<◌, ◌+◌, IfOk, IfErr, IfSome, OnErr, OnOk, Ok, Err, MatchOption, Some, None, length, map};
 ghost use Rattle.std.specs.Prelude.{option_map, option_copied, unwrap_or, is_some, insert, slice_index_or};
 ghost use Rattle.std.specs.List.{All};
 ghost use Rattle.std.specs.Box.{boxed_slice_items};
-ghost use Rattle.cip_bytes.specs.Reading.{map_ok};
-ghost use Rattle.cip_application.specs.Attributes.{AttributeValues, attribute_at, with_placed, in_order};
+ghost use Rattle.cip_application.specs.Attributes.{AttributeValues, attribute_at, can_be_set, with_placed, in_order};
 ghost use Rattle.cip_application.specs.Configuration.{attribute_of_config, object_of_config};
 ghost use Rattle.cip_application.specs.Objects.{value_in, service_in, object_set, object_write, IsAttributeAt};
 ghost use Rattle.cip_application.specs.Values.{capacity};
@@ -99,6 +98,16 @@ impl Object {
         Some(self.attributes[index].value())
     }
 
+    /// Whether peers can set the attribute with this number without a question to the owner of the device.
+    pub(crate) fn is_settable(&self, number: u16) -> bool
+        ensures { result ≡ can_be_set (attribute_at number self.now.attributes) }
+    {
+        match attribute_index(&self.attributes, number) {
+            Some(index) => self.attributes[index].is_settable(),
+            None => false,
+        }
+    }
+
     /// How often peers set the attribute with this number, modulo 2^32.
     pub(crate) fn changes(&self, number: u16) -> Option<u32>
         ensures { result ≡ option_map (λ a. a.changes) (attribute_at number self.now.attributes) }
@@ -113,7 +122,8 @@ impl Object {
     ///
     /// The first check that fails, in the order of the faults. Nothing changes then.
     pub(crate) fn set(&mut self, number: u16, data: &[u8]) -> Result<(), SetFault>
-        ensures set { map_ok (λ _. self.new) result ≡ object_set self.old number data.now }
+        ensures set { OnOk result (object_set self.old number data.now ≡ Ok self.new) }
+        ensures fault { IfErr result (λ fault. object_set self.old number data.now ≡ Err fault) }
         ensures refused { OnErr result (self.new ≡ self.old) }
     {
         let Some(index) = attribute_index(&self.attributes, number) else {
