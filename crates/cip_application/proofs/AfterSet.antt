@@ -1,5 +1,5 @@
 -- What is read after a set.
-use Rattle.std.proofs.Common.{◌≡◌, ℕ, zero, suc, ◌+◌, ◌<◌, eqb, Bool, true, false, cond, List, [], ◌∷◌, length, get_or, set, Option, Some, None, Result, Ok, Err, option_map, ok_or, refl, sym, ap, ◌∙◌, arith}
+use Rattle.std.proofs.Common.{◌≡◌, ℕ, zero, suc, ◌<◌, eqb, Bool, true, false, cond, List, [], ◌∷◌, length, get_or, set, Option, Some, None, Result, Ok, Err, option_map, ok_or, refl, sym, ap, ◌∙◌, arith}
 use Rattle.std.proofs.lemmas.Bool.Decides.{nat_tests}
 use Rattle.std.proofs.lemmas.Bool.{eqb-true}
 use Rattle.cip_bytes.specs.Reading.{◌>>=◌, ◌>>◌, map_ok}
@@ -10,7 +10,7 @@ use Rattle.cip_application.specs.Check.{demand}
 use Rattle.cip_application.specs.Laws.{get_after_set_law, set_leaves_others_law}
 use Rattle.cip_application.specs.Objects.{ObjectValues, value_in, object_with, object_set, object_in, objects_set}
 use Rattle.cip_application.specs.Values.{check_value}
-use Rattle.cip_application.proofs.Lookup.{eqb-same, eqb-other, same_get}
+use Rattle.cip_application.proofs.Lookup.{eqb-same, eqb-other}
 
 apart : (a b : ℕ) → eqb a b ≡ false → a ≡ b → ⊥
 apart a b e h = grind (arith, nat_tests)

@@ -1,5 +1,5 @@
 -- What holds of a configuration that no check refuses.
-use Rattle.std.proofs.Common.{◌≡◌, ℕ, zero, suc, ◌+◌, ◌<◌, ◌≤◌, eqb, Bool, true, false, cond, ◌||◌, ◌&&◌, nat_lt, nat_le, List, [], ◌∷◌, length, get_or, map, sum, Option, Some, None, Result, Ok, Err, is_err, slice_index, option_map, refl, ap, ◌∙◌, arith}
+use Rattle.std.proofs.Common.{◌≡◌, ℕ, zero, suc, ◌+◌, ◌<◌, ◌≤◌, eqb, Bool, true, false, cond, ◌||◌, ◌&&◌, nat_lt, nat_le, List, [], ◌∷◌, length, get_or, map, Option, Some, None, Result, Ok, Err, is_err, slice_index, option_map, refl, ap, ◌∙◌, arith}
 use Rattle.std.proofs.lemmas.Bool.Decides.{nat_tests}
 use Rattle.std.specs.List.{list_any, All}
 use Rattle.cip_bytes.specs.Reading.{◌>>◌}
@@ -14,7 +14,7 @@ use Rattle.cip_application.specs.Check.{demand}
 use Rattle.cip_application.specs.Attributes.{AttributeValues, attribute_at, with_placed, in_order}
 use Rattle.cip_application.specs.Objects.{position_of}
 use Rattle.cip_application.specs.Values.{capacity, is_allowed, check_value}
-use Rattle.cip_application.specs.Configuration.{is_taken_class, has_invalid_name, is_invalid_object, has_object, are_invalid_objects, has_invalid_range, is_invalid_kind, is_invalid_attribute, are_invalid_attributes, has_invalid_attributes, total_capacity, has_invalid_services, fault_of, attribute_of_config, object_of_config, AreOwn, IsBefore, AreInOrder}
+use Rattle.cip_application.specs.Configuration.{is_taken_class, has_invalid_name, is_invalid_object, has_object, are_invalid_objects, has_invalid_range, is_invalid_kind, is_invalid_attribute, are_invalid_attributes, has_invalid_attributes, total_capacity, fault_of, attribute_of_config, object_of_config, AreOwn, IsBefore, AreInOrder}
 use Rattle.cip_application.specs.Whole.{IsSound}
 
 none_cond : (b : Bool) (x : ObjectFault) (r : Option ObjectFault) → cond b (Some x) r ≡ None → (b ≡ false) × (r ≡ None)

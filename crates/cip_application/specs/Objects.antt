@@ -1,7 +1,7 @@
 -- The application objects, and what is read and written of them by class, instance and attribute (Volume 1, object
 -- model). The first object of a class and an instance number serves, and the first attribute of a number.
 use Rattle.std.specs.Prelude.{◌≡◌, ◌<◌, ℕ, ◌+◌, Bool, ◌==◌, ◌&&◌, if◌then◌else◌, List, [], ◌∷◌, length, max, slice_index_or}
-use Rattle.std.specs.Prelude.{slice_set, Option, Some, None, option_map, option_and_then, ok_or, Result, Ok, Err}
+use Rattle.std.specs.Prelude.{slice_set, Option, Some, None, option_map, option_and_then, ok_or, Result, Ok}
 use Rattle.cip_bytes.specs.Reading.{◌>>=◌, map_ok}
 use Rattle.cip_application.specs.declared.application.ClassSummary.{ClassSummary}
 use Rattle.cip_application.specs.declared.attribute.SetFault.{SetFault}
