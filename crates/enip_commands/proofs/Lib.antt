@@ -7,3 +7,4 @@ pub mod JsonLemmas
 pub mod CommandFileLemmas
 pub mod TurnLemmas
 pub mod HexLemmas
+pub mod InputLemmas
