@@ -426,3 +426,11 @@ end_kept does refuses input old new before between after (Ok done) so kept = all
 end_kept does refuses input old new before between after (Err (Line n why)) so kept = refused_kept does refuses input old before between after n so kept
 end_kept does refuses input old new before between after (Err Device) so kept = tt
 end_kept does refuses input old new before between after (Err Memory) so kept = tt
+
+-- If no line is refused, a device or memory failed.
+pub never_refused : {S : Type 0} (does : LineEffect S) (input : Option (List ℕ)) (old new : S) (before after : Option (List ℕ))
+    (result : Result (Unit {0}) ProgramFault) → IsTakenToEnd does (λ _. ⊥) input old new before after result → IfErr result IsOfDevices
+never_refused does input old new before after (Ok done) so = tt
+never_refused does input old new before after (Err (Line n why)) so = absurd so.refused
+never_refused does input old new before after (Err Device) so = tt
+never_refused does input old new before after (Err Memory) so = tt

@@ -8,3 +8,4 @@ pub mod CommandFileLemmas
 pub mod TurnLemmas
 pub mod HexLemmas
 pub mod InputLemmas
+pub mod AnswerLemmas

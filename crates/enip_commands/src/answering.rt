@@ -6,7 +6,7 @@ ghost use Rattle.std.specs.Io.KnownBytes.{Appends, Keeps};
 ghost use Rattle.enip_adapter.specs.Calls.{Call, call_meaning, call_answer, after_call};
 ghost use Rattle.enip_commands.specs.Answering.{Desk, desk_of, new_desk, peer_at, ended, IsFed, IsFedTo, IsPieceRun};
 ghost use Rattle.enip_commands.specs.Answering.{IsBegunWith, IsLinePrinted, IsAnswered, IsAnsweredBy, IsRefusedPiece};
-ghost use Rattle.enip_commands.specs.Answering.{answer_line, closed_line, full_line, output_line};
+ghost use Rattle.enip_commands.specs.Answering.{answer_line, closed_line, full_line, output_line, entry_after};
 ghost use Rattle.enip_commands.specs.Digits.{bytes_spelled};
 ghost use Rattle.enip_commands.specs.InputLines.{AreAllRun, StopsAtLine};
 ghost use Rattle.enip_commands.specs.Lines.{spells_bytes, IsRefusedLine};
@@ -61,6 +61,19 @@ enum PeerEntry {
     Closed(Peer),
 }
 
+impl PeerEntry {
+    /// The state of a peer that has begun, after a piece was fed to it.
+    fn after_feed(peer: Peer, is_closed: bool) -> PeerEntry
+        ensures { result ≡ entry_after peer is_closed }
+    {
+        if is_closed {
+            PeerEntry::Closed(peer)
+        } else {
+            PeerEntry::Taken(peer)
+        }
+    }
+}
+
 /// The adapter with its peers, and scratch buffers.
 #[derive(Drop)]
 struct Answerer {
@@ -102,9 +115,9 @@ impl Answerer {
 
     /// Does what a line says. Returns false if it is a piece that spells no byte.
     fn run<W: Write>(&mut self, line: Line<'_>, output: &mut W) -> Result<bool, ProgramFault>
-        ensures run { IfOk result (λ runs. runs ≡ true → IsLinePrinted line (desk_of self.old) (desk_of self.new)
+        ensures run { IfOk result (λ runs. runs ≡ true → IsLinePrinted line.entry (desk_of self.old) (desk_of self.new)
             (W.contents output.old) (W.contents output.new)) }
-        ensures refused { IfOk result (λ runs. runs ≡ false → IsRefusedPiece line
+        ensures refused { IfOk result (λ runs. runs ≡ false → IsRefusedPiece line.entry
             × Keeps (W.contents output.old) (W.contents output.new)) }
         ensures failed { IfErr result IsOfDevices }
     {
@@ -136,7 +149,7 @@ impl Answerer {
         digits: &[u8],
         output: &mut W,
     ) -> Result<bool, ProgramFault>
-        ensures run { IfOk result (λ runs. runs ≡ true → IsLinePrinted (Line.Piece number digits)
+        ensures run { IfOk result (λ runs. runs ≡ true → IsLinePrinted (Line.Piece number digits.entry)
             (desk_of self.old) (desk_of self.new) (W.contents output.old) (W.contents output.new)) }
         ensures refused { IfOk result (λ runs. runs ≡ false → (spells_bytes digits.now ≡ false)
             × Keeps (W.contents output.old) (W.contents output.new)) }
@@ -210,11 +223,7 @@ impl Answerer {
             &mut self.text,
             output,
         )?;
-        self.peers[number.index()] = if is_closed {
-            PeerEntry::Closed(peer)
-        } else {
-            PeerEntry::Taken(peer)
-        };
+        self.peers[number.index()] = PeerEntry::after_feed(peer, is_closed);
         Ok(())
     }
 }

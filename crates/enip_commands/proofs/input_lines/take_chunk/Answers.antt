@@ -7,7 +7,7 @@ pub returns-in_err-take_line : goal.returns-in_err-take_line
 returns-in_err-take_line g c bytes first before taken =
     let p = err_from_is_err_and c.from_residual.result c.from_residual.ensures.1 in
     let found = first_line c.in-Some.end c.loop-end.rest.now c.split_at.result.0.now c.split_at.result.1.now c.split_at.ensures.front
-        c.split_at.ensures.back c.in-Some.ensures.0.high c.in-Some.ensures.0.before c.in-Some.ensures.1 in
+    c.split_at.ensures.back c.in-Some.ensures.0.high c.in-Some.ensures.0.before c.in-Some.ensures.1 in
     rw (p.1, p.2)
     (line_stops g.T.TakeLines.does g.T.TakeLines.refuses c.args.chunk.now c.args.line.now.items c.args.number c.args.taker.now c.loop-end.taker
     c.take_line.new.taker (g.W.Write.contents c.args.output.now) (g.W.Write.contents c.loop-end.output) (g.W.Write.contents c.take_line.new.output)
@@ -17,7 +17,7 @@ returns-in_err-take_line g c bytes first before taken =
 pub loop-end-preserved : goal.loop-end-preserved
 loop-end-preserved g c =
     let found = first_line c.in-Some.end c.loop-end.rest.now c.split_at.result.0.now c.split_at.result.1.now c.split_at.ensures.front
-        c.split_at.ensures.back c.in-Some.ensures.0.high c.in-Some.ensures.0.before c.in-Some.ensures.1 in
+    c.split_at.ensures.back c.in-Some.ensures.0.high c.in-Some.ensures.0.before c.in-Some.ensures.1 in
     rw (bytes_from 1 c.split_at.result.1.now)
     (line_done g.T.TakeLines.does c.args.chunk.now c.args.line.now.items c.args.number c.args.taker.now c.loop-end.taker c.take_line.new.taker
     (g.W.Write.contents c.args.output.now) (g.W.Write.contents c.loop-end.output) (g.W.Write.contents c.take_line.new.output)

@@ -1,4 +1,3 @@
-use Rattle.std.proofs.Common.{◌≡◌, ◌<◌, length}
 use Rattle.enip_commands.proofs.InputLemmas.{Reading}
 use Rattle.enip_commands.proofs.input_lines.take_chunks.Given as goal
 
