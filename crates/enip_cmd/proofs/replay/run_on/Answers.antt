@@ -1,5 +1,5 @@
 use Rattle.enip_cmd.proofs.StatusLemmas.{replay_fails}
-use Rattle.enip_cmd.proofs.replay.run.Goals as goal
+use Rattle.enip_cmd.proofs.replay.run_on.Goals as goal
 
 pub returns-in_err-replay-clause-refused : goal.returns-in_err-replay-clause-refused
 returns-in_err-replay-clause-refused g c =

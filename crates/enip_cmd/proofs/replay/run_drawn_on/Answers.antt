@@ -1,5 +1,5 @@
 use Rattle.enip_cmd.proofs.StatusLemmas.{replay_fails}
-use Rattle.enip_cmd.proofs.replay.run_drawn.Goals as goal
+use Rattle.enip_cmd.proofs.replay.run_drawn_on.Goals as goal
 
 pub returns-in_err-draw_replay-clause-refused : goal.returns-in_err-draw_replay-clause-refused
 returns-in_err-draw_replay-clause-refused g c =
