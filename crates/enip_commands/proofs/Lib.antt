@@ -7,3 +7,5 @@ pub mod JsonLemmas
 pub mod CommandFileLemmas
 pub mod TurnLemmas
 pub mod HexLemmas
+pub mod InputLemmas
+pub mod AnswerLemmas

@@ -1,5 +1,5 @@
 -- How the program ends.
-use Rattle.std.specs.Prelude.{◌≡◌, ℕ, List, ⊤, Result, Ok, Err}
+use Rattle.std.specs.Prelude.{◌≡◌, ℕ, ⊤, Result, Ok, Err}
 use Rattle.std.specs.declared.io.ErrorKind.{ErrorKind}
 use Rattle.std.specs.declared.io.ErrorKind.TheVariants.{OutOfMemory}
 use Rattle.enip_commands.specs.declared.fault.ProgramFault.{ProgramFault}
@@ -44,11 +44,6 @@ IsOfDevices _ = ⊥
 abbrev pub EndsAt : Type 0 → ℕ → ProgramFault → Type 0
 EndsAt refused number (Line n why) = (n ≡ number) × refused
 EndsAt refused number fault = IsOfDevices fault
-
--- The same for a line of any number and text.
-abbrev pub EndsBy : (ℕ → List ℕ → Type 0) → ProgramFault → Type 0
-EndsBy refuses (Line number why) = (text : List ℕ) × refuses number text
-EndsBy refuses fault = IsOfDevices fault
 
 -- A failed stream as a fault of the program.
 abbrev pub fault_of_kind : ErrorKind → ProgramFault

@@ -2,7 +2,7 @@
 //!
 //! A line is printed part by part, up to the first fault in it. A fault in a line does not end the program.
 
-ghost use Rattle.std.specs.Prelude.{◌≡◌, IfErr};
+ghost use Rattle.std.specs.Prelude.{◌≡◌, IfErr, ⊤};
 ghost use Rattle.enip_commands.specs.Statuses.{IsOfDevices, IsStopOfDevices};
 
 use crate::digits::{decode, print_digits};
@@ -32,13 +32,14 @@ pub fn show_frames<R: Read + Drop, W: Write + Drop>(
 ) -> Result<(), ProgramFault>
     ensures { IfErr result IsOfDevices }
 {
+    let mut input = input;
+    let mut output = BufWriter::new(alloc, output)?;
     let mut printer = Printer {
-        output: BufWriter::new(alloc, output)?,
         digits: Vec::new(alloc),
         bytes: Vec::new(alloc),
         reader: FrameReader::new(alloc)?,
     };
-    read_lines(alloc, input, &mut printer)
+    read_lines(alloc, &mut input, &mut printer, &mut output)
 }
 
 /// Why the rest of a line is not printed. The text follows `fault `.
@@ -117,18 +118,17 @@ impl From<ReplyFault> for ShowFailure {
     }
 }
 
-/// The output, and the buffers for one line.
+/// The buffers for one line.
 #[derive(Drop)]
-struct Printer<W: Write + Drop> {
-    output: BufWriter<W>,
+struct Printer {
     digits: Vec<u8>,
     bytes: Vec<u8>,
     reader: FrameReader,
 }
 
-impl<W: Write + Drop> Printer<W> {
+impl Printer {
     /// Prints a line up to its first fault, which is the error.
-    fn show_line(&mut self, text: &[u8]) -> Result<(), ShowFailure>
+    fn show_line<W: Write>(&mut self, text: &[u8], output: &mut W) -> Result<(), ShowFailure>
         ensures { IfErr result IsStopOfDevices }
     {
         if !decode(text, &mut self.digits, &mut self.bytes)? {
@@ -137,36 +137,38 @@ impl<W: Write + Drop> Printer<W> {
         self.reader.clear();
         let taken = self.reader.push(self.bytes.as_slice());
         match self.reader.state() {
-            Held::Frame(frame) if taken == self.bytes.len() => show_frame(&mut self.output, frame),
+            Held::Frame(frame) if taken == self.bytes.len() => show_frame(output, frame),
             _ => Err(ShowFailure::Header),
         }
     }
 
     /// Prints a line up to its first fault, and the fault.
-    fn print_line(&mut self, text: &[u8]) -> Result<(), ProgramFault>
+    fn print_line<W: Write>(&mut self, text: &[u8], output: &mut W) -> Result<(), ProgramFault>
         ensures { IfErr result IsOfDevices }
     {
-        match self.show_line(text) {
+        match self.show_line(text, output) {
             Ok(()) => Ok(()),
             Err(ShowFailure::Program(fault)) => Err(fault),
             Err(stop) => {
-                writeln!(self.output, "fault {stop}")?;
+                writeln!(output, "fault {stop}")?;
                 Ok(())
             }
         }
     }
 }
 
-impl<W: Write + Drop> TakeLines for Printer<W> {
-    ghost refuses = { λ _ _. ⊥ };
+impl TakeLines for Printer {
+    ghost does = { λ _ _ _ _ _. ⊤ };
 
-    fn take_line(&mut self, text: &[u8], _number: u64) -> Result<(), ProgramFault> {
-        self.print_line(text)
-    }
+    ghost refuses = { λ _. ⊥ };
 
-    fn send(&mut self) -> Result<(), ProgramFault> {
-        self.output.flush()?;
-        Ok(())
+    fn take_line<W: Write>(
+        &mut self,
+        text: &[u8],
+        _number: u64,
+        output: &mut W,
+    ) -> Result<(), ProgramFault> {
+        self.print_line(text, output)
     }
 }
 

@@ -1,10 +1,12 @@
-use Rattle.std.proofs.Common.{IfErr, rules}
-use Rattle.enip_commands.specs.Lines.{IsRefusedLine}
-use Rattle.enip_commands.specs.Statuses.{IsOfDevices}
-use Rattle.enip_commands.proofs.StatusLemmas.{devices_end}
+use Rattle.enip_commands.proofs.AnswerLemmas.{answered_all, answered_until}
 use Rattle.enip_commands.proofs.answering.answer.Goals as goal
 
-pub returns-in_err-desk : goal.returns-in_err-desk
-returns-in_err-desk g c =
-    let run : IfErr c.from_residual.result IsOfDevices = search rules in
-    devices_end (λ _ text. IsRefusedLine text) c.from_residual.result run
+pub returns-clause-run : goal.returns-clause-run
+returns-clause-run g c =
+    answered_all (g.R.Read.remaining c.args.input) c.args.adapter c.new-desk.result c.read_lines.new.taker (g.W.Write.contents c.args.output.now)
+    (g.W.Write.contents c.read_lines.new.output) c.read_lines.result c.new-desk.ensures c.read_lines.ensures
+
+pub returns-clause-refused : goal.returns-clause-refused
+returns-clause-refused g c =
+    answered_until (g.R.Read.remaining c.args.input) c.args.adapter c.new-desk.result c.read_lines.new.taker (g.W.Write.contents c.args.output.now)
+    (g.W.Write.contents c.read_lines.new.output) c.read_lines.result c.new-desk.ensures c.read_lines.ensures

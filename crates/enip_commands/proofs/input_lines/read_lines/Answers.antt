@@ -1,9 +1,8 @@
-use Rattle.std.proofs.Common.{IfErr, rules}
-use Rattle.enip_commands.specs.Statuses.{IsOfDevices}
-use Rattle.enip_commands.proofs.StatusLemmas.{devices_end}
+use Rattle.enip_commands.proofs.InputLemmas.{end_kept}
 use Rattle.enip_commands.proofs.input_lines.read_lines.Goals as goal
 
-pub returns-in_err-send : goal.returns-in_err-send
-returns-in_err-send g c =
-    let run : IfErr c.from_residual.result IsOfDevices = search rules in
-    devices_end g.T.TakeLines.refuses c.from_residual.result run
+pub returns : goal.returns
+returns g c =
+    end_kept g.T.TakeLines.does g.T.TakeLines.refuses (g.R.Read.remaining c.args.input.now) c.args.taker.now c.take_lines-taken.new.taker
+    (g.W.Write.contents c.args.output.now) (g.W.Write.contents c.take_lines-taken.new.output) (g.W.Write.contents c.flush.new.self)
+    c.take_lines-taken.result c.take_lines-taken.ensures c.flush.ensures.bytes

@@ -1,5 +1,6 @@
-use Rattle.enip_commands.proofs.StatusLemmas.{to_devices}
+use Rattle.std.specs.Prelude.{⊤}
+use Rattle.enip_commands.proofs.InputLemmas.{never_refused}
 use Rattle.enip_commands.proofs.showing.show_frames.Goals as goal
 
 pub returns : goal.returns
-returns g c = to_devices c.read_lines.result c.read_lines.ensures
+returns g c = never_refused (λ _ _ _ _ _. ⊤) _ _ _ _ _ c.read_lines.result c.read_lines.ensures

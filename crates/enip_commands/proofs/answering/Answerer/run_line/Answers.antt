@@ -1,10 +1,8 @@
-use Rattle.std.proofs.Common.{◌≡◌, false, rules}
-use Rattle.enip_commands.specs.Lines.{spells_bytes}
-use Rattle.enip_commands.proofs.LineLemmas.{piece_refused}
+use Rattle.std.specs.Io.KnownBytes.{Keeps}
+use Rattle.enip_commands.proofs.AnswerLemmas.{refused_if}
 use Rattle.enip_commands.proofs.answering.Answerer.run_line.Goals as goal
 
-pub returns-then-not-branch-clause-is_run : goal.returns-then-not-branch-clause-is_run
-returns-then-not-branch-clause-is_run g c same =
-    let none : spells_bytes c.in-Some-Piece.digits.now ≡ false = search rules in
-    let says = rw c.in-Some-Piece.field-0-is at c.in-Some-Piece.ensures.read in
-    piece_refused c.args.text.now c.in-Some-Piece.number c.in-Some-Piece.digits.now says none
+pub returns-in-Some-clause-refused : goal.returns-in-Some-clause-refused
+returns-in-Some-clause-refused g c =
+    refused_if c.args.text.now c.in-Some.line (Keeps (g.W.Write.contents c.args.output.now) (g.W.Write.contents c.run.new.output)) c.run.result
+    c.in-Some.ensures.read c.run.ensures.refused
