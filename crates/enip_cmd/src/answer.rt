@@ -8,9 +8,14 @@ ghost use Rattle.enip_cmd.specs.Statuses.{IsStatus, IsFaultOf};
 
 use crate::fault::Fault;
 use crate::report::Report;
+use enip_adapter::Adapter;
+use enip_commands::ProgramFault;
 use enip_config::adapter_from;
 use std::alloc::Global;
-use std::io::{Read, Write};
+use std::io::{BufWriter, Read, Write};
+
+/// The size of the output buffer, in bytes.
+const OUTPUT_BUFFER: usize = 65_536;
 
 /// Runs an adapter over the lines of an input. Returns the exit status of the program: 0 if all lines were run, 3 if the
 /// configuration is refused, 4 if a line is refused, 5 if a stream or memory failed. `errors` receives the fault.
@@ -48,6 +53,17 @@ fn run<R: Read + Drop, W: Write + Drop>(
     ensures refused { IfErr result (IsFaultOf config.now) }
 {
     let adapter = adapter_from(alloc, config)?;
-    enip_commands::answer(alloc, adapter, input, output)?;
+    run_buffered(alloc, adapter, input, output)?;
     Ok(())
+}
+
+/// Runs an adapter over the lines of an input, and buffers the output.
+fn run_buffered<R: Read + Drop, W: Write + Drop>(
+    alloc: Global,
+    adapter: Adapter,
+    input: R,
+    output: W,
+) -> Result<(), ProgramFault> {
+    let mut output = BufWriter::with_capacity(alloc, OUTPUT_BUFFER, output)?;
+    enip_commands::answer(alloc, adapter, input, &mut output)
 }

@@ -15,7 +15,8 @@
 //! `enip_replay` uses them for scripts.
 //!
 //! A [`ProgramFault`] or a [`RequestFailure`] says why a command ended early. Its text is the line for standard
-//! error, and `specs/Statuses.antt` defines its exit status. `specs/Lines.antt` defines the lines of `answer`.
+//! error, and `specs/Statuses.antt` defines its exit status. `specs/InputLines.antt` defines the lines of an input,
+//! `specs/Lines.antt` what those of `answer` mean, and `specs/Answering.antt` what they do.
 //!
 //! This crate opens no file and no socket, and it knows neither the command line nor the configuration file. The
 //! caller makes the adapter.

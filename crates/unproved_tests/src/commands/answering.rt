@@ -7,7 +7,7 @@ use super::streams::{
 use enip_commands::{LineFault, ProgramFault, answer};
 use std::alloc::Global;
 use std::cell::Cell;
-use std::io::{Read, Write};
+use std::io::{BufWriter, Read, Write};
 use std::test::Fail;
 
 /// A RegisterSession and its answer.
@@ -15,14 +15,18 @@ const REGISTER: &str = "1 6500 0400 00000000 00000000 0102030405060708 00000000 
 
 const REGISTERED: &str = "1 65000400010000000000000001020304050607080000000001000000\n";
 
-/// Runs `answer` with the demo device. Returns why it ended early, if it did.
+/// The size of the output buffer, in bytes, as in `enip answer`.
+const OUTPUT_BUFFER: usize = 65_536;
+
+/// Runs `answer` with the demo device and a buffered output. Returns why it ended early, if it did.
 fn ending<R: Read + Drop, W: Write + Drop>(
     alloc: Global,
     input: R,
     output: W,
 ) -> Result<Option<ProgramFault>, Fail> {
     let adapter = demo_adapter(alloc)?;
-    Ok(answer(alloc, adapter, input, output).err())
+    let mut output = BufWriter::with_capacity(alloc, OUTPUT_BUFFER, output)?;
+    Ok(answer(alloc, adapter, input, &mut output).err())
 }
 
 /// The same over a text. Also returns what was printed.
