@@ -1,4 +1,4 @@
-use Rattle.std.proofs.Common.{◌≡◌, ℕ, List, inl, inr, Result, Ok, Err, IfErr, refl, arith}
+use Rattle.std.proofs.Common.{◌≡◌, ℕ, List, Option, inl, inr, Result, Ok, Err, IfErr, refl, arith}
 use Rattle.std.specs.Result.{IsErr, IsErrAnd}
 use Rattle.enip_adapter.specs.Calls.{AdapterState}
 use Rattle.enip_config.specs.declared.fault.LoadFault.{LoadFault}
@@ -10,7 +10,7 @@ use Rattle.enip_commands.specs.declared.fault.ProgramFault.{ProgramFault}
 use Rattle.enip_commands.specs.declared.fault.ProgramFault.TheVariants as program
 use Rattle.enip_replay.specs.declared.replaying.ReplayFailure.{ReplayFailure}
 use Rattle.enip_replay.specs.declared.replaying.ReplayFailure.TheVariants as failures
-use Rattle.enip_replay.specs.Replay.{IsStopOf}
+use Rattle.enip_replay.specs.Replay.{IsStop}
 use Rattle.enip_cmd.specs.declared.fault.Fault.{Fault}
 use Rattle.enip_cmd.specs.declared.fault.Fault.TheVariants.{Configuration as Refused, Setup, Run, Value, Request, Once, CommandFile}
 use Rattle.enip_cmd.specs.Statuses.{exit_status, fault_of_configuration, fault_of_replay, IsStatus, IsReplayStatus}
@@ -89,16 +89,17 @@ pub replay_load_fails : {T : Type 0} (text : List ℕ) (refused : LoadFault) (r 
 replay_load_fails text refused (Ok x) gives so = tt
 replay_load_fails text refused (Err f) gives so = rw gives.1 (of_fault text (fault_of_configuration refused) (of_load_fault text refused so))
 
-of_replay_failure : (text : List ℕ) (adapter : AdapterState) (failure : ReplayFailure) → IsAdapterOf text adapter → IsAccepted text → IsStopOf adapter failure
-    → IsReplayFaultOf text (fault_of_replay failure)
-of_replay_failure text adapter failures.Setup made accepted so = (adapter, (made, so))
-of_replay_failure text adapter (failures.Program cause) made accepted so = of_run_fault text cause accepted
+of_replay_failure : (text : List ℕ) (adapter : AdapterState) (refused : ℕ → Type 0) (before after : Option (List ℕ)) (failure : ReplayFailure)
+    → IsAdapterOf text adapter → IsAccepted text → IsStop adapter refused before after failure → IsReplayFaultOf text (fault_of_replay failure)
+of_replay_failure text adapter refused before after failures.Setup made accepted so = (adapter, (made, so.0))
+of_replay_failure text adapter refused before after (failures.Program cause) made accepted so = of_run_fault text cause accepted
 
-pub replay_fails : {T : Type 0} (text : List ℕ) (adapter : AdapterState) (failure : ReplayFailure) (r : Result T Fault)
-    → IsErr r × IsErrAnd r (λ f. f ≡ fault_of_replay failure) → IsAdapterOf text adapter → IsAccepted text → IsStopOf adapter failure
-    → IfErr r (IsReplayFaultOf text)
-replay_fails text adapter failure (Ok x) gives made accepted so = tt
-replay_fails text adapter failure (Err f) gives made accepted so = rw gives.1 (of_replay_failure text adapter failure made accepted so)
+pub replay_fails : {T : Type 0} (text : List ℕ) (adapter : AdapterState) (refused : ℕ → Type 0) (before after : Option (List ℕ)) (failure : ReplayFailure)
+    (r : Result T Fault) → IsErr r × IsErrAnd r (λ f. f ≡ fault_of_replay failure) → IsAdapterOf text adapter → IsAccepted text
+    → IsStop adapter refused before after failure → IfErr r (IsReplayFaultOf text)
+replay_fails text adapter refused before after failure (Ok x) gives made accepted so = tt
+replay_fails text adapter refused before after failure (Err f) gives made accepted so =
+    rw gives.1 (of_replay_failure text adapter refused before after failure made accepted so)
 
 pub status_of_replay_fault : (text : List ℕ) (fault : Fault) → IsReplayFaultOf text fault → IsReplayStatus (exit_status fault)
 status_of_replay_fault text (Refused check) so = inl (status_of_fault text (Refused check) so)

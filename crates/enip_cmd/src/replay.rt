@@ -8,9 +8,10 @@ ghost use Rattle.enip_cmd.specs.Statuses.{IsOpeningRefused, IsReplayFaultOf, IsR
 
 use crate::fault::Fault;
 use crate::report::Report;
+use enip_commands::ProgramFault;
 use enip_config::adapter_from;
 use std::alloc::Global;
-use std::io::Write;
+use std::io::{BufWriter, Write};
 
 /// Runs a client and an adapter by the lines of a script. Returns the exit status of the program: 0 if all lines were
 /// run, 3 if the configuration is refused, 4 if a line is refused, 5 if the output or memory failed, 6 if the client
@@ -39,8 +40,24 @@ pub fn replay<W: Write + Drop, E: Report>(
     }
 }
 
-/// As `replay`, but returns the fault.
+/// As `replay`, but returns the fault. The output is buffered.
 fn run<W: Write + Drop>(alloc: Global, config: &[u8], script: &[u8], output: W) -> Result<(), Fault>
+    ensures accepted { IfOk result (λ _. IsAccepted config.now) }
+    ensures refused { IfErr result (IsReplayFaultOf config.now) }
+{
+    match BufWriter::new(alloc, output) {
+        Ok(mut output) => run_on(alloc, config, script, &mut output),
+        Err(_) => Err(Fault::Run(ProgramFault::Memory)),
+    }
+}
+
+/// As `run`, on a buffered output.
+fn run_on<W: Write>(
+    alloc: Global,
+    config: &[u8],
+    script: &[u8],
+    output: &mut W,
+) -> Result<(), Fault>
     ensures accepted { IfOk result (λ _. IsAccepted config.now) }
     ensures refused { IfErr result (IsReplayFaultOf config.now) }
 {
@@ -72,12 +89,28 @@ pub fn draw<W: Write + Drop, E: Report>(
     }
 }
 
-/// As `draw`, but returns the fault.
+/// As `draw`, but returns the fault. The output is buffered.
 fn run_drawn<W: Write + Drop>(
     alloc: Global,
     config: &[u8],
     script: &[u8],
     output: W,
+) -> Result<(), Fault>
+    ensures accepted { IfOk result (λ _. IsAccepted config.now) }
+    ensures refused { IfErr result (IsReplayFaultOf config.now) }
+{
+    match BufWriter::new(alloc, output) {
+        Ok(mut output) => run_drawn_on(alloc, config, script, &mut output),
+        Err(_) => Err(Fault::Run(ProgramFault::Memory)),
+    }
+}
+
+/// As `run_drawn`, on a buffered output.
+fn run_drawn_on<W: Write>(
+    alloc: Global,
+    config: &[u8],
+    script: &[u8],
+    output: &mut W,
 ) -> Result<(), Fault>
     ensures accepted { IfOk result (λ _. IsAccepted config.now) }
     ensures refused { IfErr result (IsReplayFaultOf config.now) }

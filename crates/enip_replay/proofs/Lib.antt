@@ -1,3 +1,5 @@
 pub mod OutcomeLemmas
 pub mod ReplayLemmas
 pub mod LadderLemmas
+pub mod RunLemmas
+pub mod PlayLemmas

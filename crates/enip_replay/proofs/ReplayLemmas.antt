@@ -8,14 +8,14 @@ use Rattle.enip_bench.specs.Stored.{IsOpening}
 use Rattle.enip_bench.specs.declared.bench.BenchFault.{BenchFault}
 use Rattle.enip_bench.specs.declared.bench.BenchFault.TheVariants as benches
 use Rattle.enip_client.specs.Client.{ClientState, new_client}
-use Rattle.enip_replay.specs.Replay.{IsStopOf, stop_of, assembly_printed, assemblies_printed}
+use Rattle.enip_replay.specs.Replay.{IsUnopened, stop_of, assembly_printed, assemblies_printed}
 use Rattle.enip_commands.specs.declared.asking.TheConstants.{WANTS}
 use Rattle.enip_replay.specs.declared.replaying.ReplayFailure.{ReplayFailure}
 
 -- Why no bench was made.
 pub no_bench : {T : Type 0} (adapter : AdapterState) (client : ClientState) (made : Result CountingWorld BenchFault) (fault : BenchFault)
     (r : Result T ReplayFailure) → client ≡ new_client WANTS → IsOpening (opening_between adapter client) made → made ≡ Err fault
-    → IsErr r × IsErrAnd r (λ stop. stop ≡ stop_of fault) → IfErr r (IsStopOf adapter)
+    → IsErr r × IsErrAnd r (λ stop. stop ≡ stop_of fault) → IfErr r (IsUnopened adapter)
 no_bench adapter client made fault (Ok x) same opening failed gives = tt
 no_bench adapter client made benches.Memory (Err stop) same opening failed gives = rw gives.1 tt
 no_bench adapter client made benches.Setup (Err stop) same opening failed gives =

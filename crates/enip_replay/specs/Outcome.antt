@@ -1,5 +1,5 @@
 -- What `enip replay` prints.
-use Rattle.std.specs.Prelude.{ℕ, nat_le, List, [], ◌++◌, length, codes, Option, Some, None, if◌then◌else◌}
+use Rattle.std.specs.Prelude.{ℕ, nat_le, List, [], ◌∷◌, ◌++◌, length, codes, Option, Some, None, if◌then◌else◌}
 use Rattle.std.specs.Fmt.{decimal}
 use Rattle.hex.specs.Hex.{encode_lower}
 use Rattle.cip_class3.specs.OriginatorRule.{refused_number}
@@ -8,7 +8,9 @@ use Rattle.cip_class3.specs.declared.originator.Stage.TheVariants as stages
 use Rattle.cip_bytes.specs.declared.protocol.TheConstants.{COUNTER}
 use Rattle.cip_objects.specs.Contents.{Contents, bytes_at, udint_at}
 use Rattle.enip_bench.specs.Events.{Event, Submit, Resend, Reach, Back, Other, Shut, GiveUp}
-use Rattle.enip_bench.specs.EventResults.{EventResult, Sends, Refuses, Resends, Reaches, Accepts, Ignores, Impossible, Done}
+use Rattle.enip_bench.specs.CountingWorld.{CountingWorld, counting_step}
+use Rattle.enip_bench.specs.EventResults.{event_result, EventResult, Sends, Refuses, Resends, Reaches, Accepts, Ignores, Impossible, Done}
+use Rattle.enip_commands.specs.Lines.{with_newline}
 
 -- The line of an event, without the digits of a request.
 abbrev pub words : Event → List ℕ
@@ -44,6 +46,12 @@ step_text event Done = done_text event
 -- The line of an event, with its outcome.
 abbrev pub outcome : Event → EventResult → List ℕ
 outcome event event_result = words event ++ step_text event event_result
+
+-- The lines of events that are done one after the other, from this world on, each with its outcome.
+abbrev pub outcomes : CountingWorld → List Event → List ℕ
+outcomes world [] = []
+outcomes world (event ∷ events) =
+    with_newline (outcome event (event_result world event)) ++ outcomes (counting_step world event) events
 
 -- An attribute of the counter, or 0 if it has fewer than four bytes.
 abbrev pub counter_number : Contents → ℕ → ℕ

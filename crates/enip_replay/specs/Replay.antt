@@ -1,23 +1,25 @@
 -- What `enip replay` does with an adapter and a script.
-use Rattle.std.specs.Prelude.{◌≡◌, ℕ, zero, suc, true, List, [], ◌++◌, Option, Ok, Err}
+use Rattle.std.specs.Prelude.{◌≡◌, ℕ, zero, suc, List, [], ◌++◌, Option, Ok, Err}
 use Rattle.std.specs.Option.{option_map_or}
 use Rattle.std.specs.Io.KnownBytes.{Appends, Keeps}
 use Rattle.cip_bytes.specs.declared.protocol.TheConstants.{ASSEMBLY}
 use Rattle.cip_objects.specs.Contents.{Contents, value_at}
 use Rattle.enip_adapter.specs.Calls.{AdapterState}
 use Rattle.enip_bench.specs.CountingOpening.{ARefusal, opening_between}
-use Rattle.enip_bench.specs.CountingWorld.{CountingWorld, counting_step, counting_seen}
+use Rattle.enip_bench.specs.CountingWorld.{CountingWorld, counting_run, counting_step, counting_seen}
 use Rattle.enip_bench.specs.Events.{Event}
 use Rattle.enip_bench.specs.EventResults.{event_result}
 use Rattle.enip_bench.specs.declared.bench.BenchFault.{BenchFault}
 use Rattle.enip_bench.specs.declared.bench.BenchFault.TheVariants as benches
 use Rattle.enip_client.specs.Client.{new_client}
-use Rattle.enip_replay.specs.Outcome.{outcome, counter_number, counter_line, assembly_line, final_line}
-use Rattle.enip_replay.specs.Script.{Means, IsRefusedLine, is_skipped}
+use Rattle.enip_replay.specs.Outcome.{outcome, outcomes, counter_number, counter_line, assembly_line, final_line}
+use Rattle.enip_replay.specs.Script.{Says, Say, IsRefusedAt}
+use Rattle.enip_commands.specs.InputLines.{lines_of}
 use Rattle.enip_commands.specs.Lines.{with_newline}
-use Rattle.enip_commands.specs.Statuses.{EndsBy, IsOfDevices, exit_status}
+use Rattle.enip_commands.specs.Statuses.{IsOfDevices, exit_status}
 use Rattle.enip_commands.specs.declared.asking.TheConstants.{WANTS}
-use Rattle.enip_commands.specs.declared.fault.ProgramFault.TheVariants.{Memory}
+use Rattle.enip_commands.specs.declared.fault.ProgramFault.{ProgramFault}
+use Rattle.enip_commands.specs.declared.fault.ProgramFault.TheVariants.{Line, Memory}
 use Rattle.enip_replay.specs.declared.replaying.ReplayFailure.{ReplayFailure}
 use Rattle.enip_replay.specs.declared.replaying.ReplayFailure.TheVariants as stops
 
@@ -34,10 +36,10 @@ IsOpeningOf adapter world = opening_between adapter (new_client WANTS) ≡ Ok wo
 abbrev pub IsOpeningRefused : AdapterState → Type 0
 IsOpeningRefused adapter = opening_between adapter (new_client WANTS) ≡ Err ARefusal
 
--- Why a replay ends early: the opening is refused, or a line that may be, or a device or memory failed.
-abbrev pub IsStopOf : AdapterState → ReplayFailure → Type 0
-IsStopOf adapter stops.Setup = IsOpeningRefused adapter
-IsStopOf adapter (stops.Program fault) = EndsBy (λ _ text. IsRefusedLine text) fault
+-- Why no bench is made: the adapter refuses the opening, or memory failed.
+abbrev pub IsUnopened : AdapterState → ReplayFailure → Type 0
+IsUnopened adapter stops.Setup = IsOpeningRefused adapter
+IsUnopened adapter (stops.Program fault) = IsOfDevices fault
 
 -- The exit status of a replay that ends early.
 abbrev pub replay_failure_status : ReplayFailure → ℕ
@@ -49,15 +51,18 @@ abbrev pub IsStopOfDevices : ReplayFailure → Type 0
 IsStopOfDevices stops.Setup = ⊥
 IsStopOfDevices (stops.Program fault) = IsOfDevices fault
 
--- An event was run, and its line was printed with its outcome.
+-- An event was done at both ends, and its line was printed with its outcome.
 pub record IsDone (event : Event) (old new : CountingWorld) (before after : Option (List ℕ)) : Type 0 where
   pub world : new ≡ counting_step old event
   pub printed : Appends before after (with_newline (outcome event (event_result old event)))
 
--- A line was run: it is skipped, and nothing changed or was printed; or the event that it means was run.
-pub data IsRun (text : List ℕ) (old new : CountingWorld) (before after : Option (List ℕ)) : Type 0 where
-  Skips : is_skipped text ≡ true → new ≡ old → Keeps before after → IsRun text old new before after
-  Does : (event : Event) → Means text event → IsDone event old new before after → IsRun text old new before after
+-- A line was run: its events were done, and this was printed for them.
+pub record IsRun (prints : CountingWorld → List Event → List ℕ) (text : List ℕ) (old new : CountingWorld)
+    (before after : Option (List ℕ)) : Type 0 where
+  pub events : List Event
+  pub said : Says text events
+  pub done : new ≡ counting_run old events
+  pub printed : Appends before after (prints old events)
 
 -- The line of the assembly with this instance, if there is one.
 abbrev pub assembly_printed : Contents → ℕ → List ℕ
@@ -79,3 +84,43 @@ objects_printed contents =
 -- What is printed at the end: the objects and the state of the client.
 abbrev pub ending : CountingWorld → List ℕ
 ending world = objects_printed (counting_seen world).router.router ++ with_newline (final_line (counting_seen world).stage)
+
+-- From this world on, a script was played: each event that its lines say was done at both ends, in order, and printed
+-- with its outcome. Then the ending was printed.
+pub record IsPlayedFrom (opened : CountingWorld) (script : List ℕ) (before after : Option (List ℕ)) : Type 0 where
+  pub events : List Event
+  pub said : Say (lines_of script) events
+  pub printed : Appends before after (outcomes opened events ++ ending (counting_run opened events))
+
+-- From this world on, a script was played up to the line with this number, from 1, which is the first that is refused:
+-- the events before it were done, and printed with their outcomes. Nothing else was printed.
+pub record IsPlayedUpTo (opened : CountingWorld) (script : List ℕ) (before after : Option (List ℕ)) (number : ℕ)
+    : Type 0 where
+  pub events : List Event
+  pub refused : IsRefusedAt number (lines_of script) events
+  pub printed : Appends before after (outcomes opened events)
+
+-- Why a script is not played to its end: a line is refused, and this is true of its number; or a device or memory
+-- failed.
+abbrev pub IsStopAt : (ℕ → Type 0) → ProgramFault → Type 0
+IsStopAt refused (Line number why) = refused number
+IsStopAt refused fault = IsOfDevices fault
+
+-- The connection was opened, and this is true from the world after the opening on.
+abbrev pub OnceOpened : AdapterState → (CountingWorld → Type 0) → Type 0
+OnceOpened adapter P = (opened : CountingWorld) × IsOpeningOf adapter opened × P opened
+
+-- A script was played at a bench of this adapter, to its end.
+abbrev pub IsPlayed : AdapterState → List ℕ → Option (List ℕ) → Option (List ℕ) → Type 0
+IsPlayed adapter script before after = OnceOpened adapter (λ opened. IsPlayedFrom opened script before after)
+
+-- Why a replay ends early: the adapter refuses the opening, and nothing was printed; or a line is refused, and this is
+-- true of its number; or a device or memory failed.
+abbrev pub IsStop : AdapterState → (ℕ → Type 0) → Option (List ℕ) → Option (List ℕ) → ReplayFailure → Type 0
+IsStop adapter refused before after stops.Setup = IsOpeningRefused adapter × Keeps before after
+IsStop adapter refused before after (stops.Program fault) = IsStopAt refused fault
+
+-- Why a replay of a script ends early.
+abbrev pub IsStopOf : AdapterState → List ℕ → Option (List ℕ) → Option (List ℕ) → ReplayFailure → Type 0
+IsStopOf adapter script before after =
+    IsStop adapter (λ number. OnceOpened adapter (λ opened. IsPlayedUpTo opened script before after number)) before after

@@ -1,5 +1,5 @@
 -- The lines of a script.
-use Rattle.std.specs.Prelude.{◌≡◌, ◌<◌, ◌^◌, ℕ, Bool, true, false, List, [], ◌∷◌, ◌++◌, Some, codes, ◌==◌}
+use Rattle.std.specs.Prelude.{◌≡◌, ◌<◌, ◌+◌, ◌^◌, ℕ, Bool, true, false, List, [], ◌∷◌, ◌++◌, length, Some, codes, ◌==◌}
 use Rattle.std.specs.Str.Parse.{IsNumeral, digits_value}
 use Rattle.enip_bench.specs.Events.{Event, Submit, Resend, Reach, Back, Other, Shut, GiveUp}
 use Rattle.enip_commands.specs.Digits.{bytes_spelled}
@@ -46,3 +46,25 @@ IsMeaningless text = (event : Event) → Means text event → ⊥
 pub record IsRefusedLine (text : List ℕ) : Type 0 where
   pub unskipped : is_skipped text ≡ false
   pub meaningless : IsMeaningless text
+
+-- The events that a line says: none if it is skipped, or the one that it means.
+abbrev pub Says : List ℕ → List Event → Type 0
+Says text [] = is_skipped text ≡ true
+Says text (event ∷ []) = Means text event
+Says text (event ∷ another ∷ more) = ⊥
+
+-- The events that lines say, in order.
+abbrev pub Say : List (List ℕ) → List Event → Type 0
+Say [] events = events ≡ []
+Say (line ∷ lines) events = (first : List Event) × (more : List Event) × Says line first × Say lines more
+    × (events ≡ first ++ more)
+
+-- The line with this number, from 1, is the first that is refused. The lines before it say these events.
+pub record IsRefusedAt (number : ℕ) (lines : List (List ℕ)) (events : List Event) : Type 0 where
+  pub earlier : List (List ℕ)
+  pub line : List ℕ
+  pub later : List (List ℕ)
+  pub split : lines ≡ earlier ++ line ∷ later
+  pub counted : number ≡ length earlier + 1
+  pub said : Say earlier events
+  pub refused : IsRefusedLine line

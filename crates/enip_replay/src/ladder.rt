@@ -9,32 +9,29 @@
 //!                |                                     0  x-- 1: b200000005000000 ----------|
 //! ```
 
-ghost use Rattle.std.specs.Prelude.{◌≡◌, ◌++◌, IfErr, OnOk, Err};
-ghost use Rattle.std.specs.Io.KnownBytes.{Appends, Keeps};
+ghost use Rattle.std.specs.Prelude.{◌≡◌, IfErr, OnOk, Err};
+ghost use Rattle.std.specs.Io.KnownBytes.{Keeps};
 ghost use Rattle.enip_bench.specs.CountingWorld.{counting_step};
 ghost use Rattle.enip_bench.specs.Reached.{IsNewAdapter};
 ghost use Rattle.enip_bench.specs.Stored.{event_in};
-ghost use Rattle.enip_replay.specs.Drawing.{IsDrawn, IsEndDrawn, Grows};
-ghost use Rattle.enip_replay.specs.Outcome.{final_line};
-ghost use Rattle.enip_replay.specs.Replay.{IsStopOf, objects_printed};
+ghost use Rattle.enip_replay.specs.Drawing.{IsDrawn, IsDrawnFrom, IsDrawnUpTo, IsDrawingStopOf, IsEndDrawn, Grows};
+ghost use Rattle.enip_replay.specs.Drawing.{nothing};
+ghost use Rattle.enip_replay.specs.Replay.{IsRun, IsStopAt};
 ghost use Rattle.enip_replay.specs.Script.{IsRefusedLine};
-ghost use Rattle.enip_commands.specs.Lines.{with_newline};
-ghost use Rattle.enip_commands.specs.Statuses.{EndsBy, IsOfDevices};
+ghost use Rattle.enip_commands.specs.Statuses.{IsOfDevices};
 
-use crate::outcome::{FinalState, Outcome};
-use crate::replaying::{ReplayFailure, bench_of, print_objects};
+use crate::outcome::Outcome;
+use crate::replaying::{ReplayFailure, bench_of, print_state};
 use crate::rungs::{Arrow, Direction, Field, Note, Rung};
 use crate::script::{event_of, is_skipped, line_fault};
 use byteorder::{ByteOrder, LittleEndian};
 use cip_bytes::protocol::SEQUENCE_COUNT_SIZE;
-use cip_class3::Stage;
-use cip_objects::Objects;
 use enip_adapter::Adapter;
 use enip_bench::{Bench, Event, Frames, Step};
 use enip_commands::{ProgramFault, TakeLines, WANTS, read_lines};
 use enip_wire::{Header, unit_body};
 use std::alloc::Global;
-use std::io::{BufWriter, Write};
+use std::io::Write;
 
 /// The last line. It holds for every script: that is what `Bench::seen` promises.
 const SAME: &str = "same result as in a world without sequence counts or kept replies";
@@ -54,52 +51,27 @@ const COUNTS: usize = 65_536;
 /// # Errors
 ///
 /// As for [`replay`](crate::replay).
-pub fn draw_replay<W: Write + Drop>(
+pub fn draw_replay<W: Write>(
     alloc: Global,
     adapter: Adapter,
     script: &[u8],
-    output: W,
+    output: &mut W,
 ) -> Result<(), ReplayFailure>
     requires { IsNewAdapter adapter }
-    ensures { IfErr result (IsStopOf adapter) }
+    ensures drawn { OnOk result (IsDrawn adapter script.now (W.contents output.old) (W.contents output.new)) }
+    ensures stopped { IfErr result
+        (IsDrawingStopOf adapter script.now (W.contents output.old) (W.contents output.new)) }
 {
     let bench = bench_of(alloc, adapter)?;
-    draw_script(alloc, bench, script, output)?;
-    Ok(())
-}
-
-/// Runs a script at a bench and draws it.
-fn draw_script<W: Write + Drop>(
-    alloc: Global,
-    bench: Bench,
-    script: &[u8],
-    output: W,
-) -> Result<(), ProgramFault>
-    ensures { IfErr result (EndsBy (λ _ text. IsRefusedLine text)) }
-{
-    let mut output = BufWriter::new(alloc, output)?;
     let mut climber = LadderWriter {
         alloc,
         bench,
         ladder: Ladder::new(alloc),
         digits: Vec::new(alloc),
     };
-    draw_events(alloc, script, &mut climber, &mut output)
-}
-
-/// Runs a script, draws it on a buffered output, and flushes it.
-fn draw_events<W: Write>(
-    alloc: Global,
-    script: &[u8],
-    climber: &mut LadderWriter,
-    output: &mut W,
-) -> Result<(), ProgramFault>
-    ensures drawn { OnOk result (IsDrawn climber.new.bench (W.contents output.old) (W.contents output.new)) }
-    ensures refused { IfErr result (EndsBy (λ _ text. IsRefusedLine text)) }
-{
-    let ran = read_lines(alloc, script, climber);
-    climber.draw(output)?;
-    climber.end(ran, output)
+    climber
+        .draw_script(script, output)
+        .map_err(ReplayFailure::Program)
 }
 
 /// An event with its outcome, as the ladder shows it.
@@ -415,6 +387,19 @@ struct LadderWriter {
 }
 
 impl LadderWriter {
+    /// Runs a script, and draws it.
+    fn draw_script<W: Write>(&mut self, script: &[u8], output: &mut W) -> Result<(), ProgramFault>
+        ensures drawn { OnOk result
+            (IsDrawnFrom self.old.bench script.now (W.contents output.old) (W.contents output.new)) }
+        ensures stopped { IfErr result (IsStopAt
+            (IsDrawnUpTo self.old.bench script.now (W.contents output.old) (W.contents output.new))) }
+    {
+        let mut rest = script;
+        let ran = read_lines(self.alloc, &mut rest, self, output);
+        self.draw(output)?;
+        self.end(ran, output)
+    }
+
     /// Runs an event, and appends it to the ladder.
     fn run_event(&mut self, event: Event) -> Result<(), ProgramFault>
         ensures done { OnOk result (self.new.bench ≡ counting_step self.old.bench (event_in event)) }
@@ -460,21 +445,6 @@ fn print_end<W: Write>(bench: &Bench, output: &mut W) -> Result<(), ProgramFault
     let seen = bench.seen();
     print_state(seen.objects, seen.stage, output)?;
     writeln!(output, "{SAME}")?;
-    Ok(())
-}
-
-/// Prints the objects and the state of the client.
-fn print_state<W: Write>(
-    objects: &Objects,
-    stage: Stage,
-    output: &mut W,
-) -> Result<(), ProgramFault>
-    ensures printed { OnOk result (Appends (W.contents output.old) (W.contents output.new)
-        (objects_printed objects.now ++ with_newline (final_line stage))) }
-    ensures refused { IfErr result IsOfDevices }
-{
-    print_objects(output, objects)?;
-    writeln!(output, "{}", FinalState(stage))?;
     Ok(())
 }
 
@@ -526,9 +496,16 @@ fn end_of(event: &Event) -> Direction {
 }
 
 impl TakeLines for LadderWriter {
-    ghost refuses = { λ _ text. IsRefusedLine text };
+    ghost does = { λ text old new before after. IsRun nothing text old.bench new.bench before after };
 
-    fn take_line(&mut self, text: &[u8], number: u64) -> Result<(), ProgramFault> {
+    ghost refuses = { IsRefusedLine };
+
+    fn take_line<W: Write>(
+        &mut self,
+        text: &[u8],
+        number: u64,
+        _output: &mut W,
+    ) -> Result<(), ProgramFault> {
         if is_skipped(text) {
             return Ok(());
         }
@@ -536,9 +513,5 @@ impl TakeLines for LadderWriter {
             return Err(ProgramFault::Line(number, line_fault(text)));
         };
         self.run_event(event)
-    }
-
-    fn send(&mut self) -> Result<(), ProgramFault> {
-        Ok(())
     }
 }

@@ -4,8 +4,9 @@
 //! [`draw_replay`] draws the frames between client and adapter as a ladder. A [`ReplayFailure`] says why a replay
 //! ended early. The caller makes the adapter.
 //!
-//! `specs/Script.antt` defines the lines of a script and what they mean, `specs/Outcome.antt` and `specs/Replay.antt`
-//! what is printed, and `specs/Ladder.antt` the lines of the picture.
+//! `specs/Script.antt` defines the lines of a script and what they mean, `specs/Outcome.antt` what is printed for an
+//! event, and `specs/Replay.antt` what a whole script does and prints. `specs/Ladder.antt` defines the lines of the
+//! picture, and `specs/Drawing.antt` what a drawing of a whole script ends with.
 #![tactic(auto)]
 
 mod ladder;

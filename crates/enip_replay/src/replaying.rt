@@ -1,25 +1,28 @@
 //! `enip replay`: runs a script with a client and an adapter, and prints the outcome of each event.
 
-ghost use Rattle.std.specs.Prelude.{◌≡◌, true, false, IfOk, IfErr, OnOk, OnErr};
-ghost use Rattle.std.specs.Io.Buffered.{writer_contents};
+ghost use Rattle.std.specs.Prelude.{◌≡◌, ◌++◌, true, false, IfOk, IfErr, OnOk};
 ghost use Rattle.std.specs.Io.KnownBytes.{Appends, Keeps};
 ghost use Rattle.enip_bench.specs.Reached.{IsNewAdapter};
 ghost use Rattle.enip_bench.specs.Stored.{event_in};
-ghost use Rattle.enip_replay.specs.Replay.{IsOpeningOf, IsStopOf, IsDone, IsRun, ending, replay_failure_status};
+ghost use Rattle.enip_replay.specs.Outcome.{final_line, outcomes};
+ghost use Rattle.enip_replay.specs.Replay.{IsOpeningOf, IsUnopened, IsStopOf, IsPlayed, IsPlayedFrom, IsPlayedUpTo};
+ghost use Rattle.enip_replay.specs.Replay.{IsDone, IsRun, IsStopAt, ending, replay_failure_status};
 ghost use Rattle.enip_replay.specs.Replay.{objects_printed, assembly_printed, assemblies_printed};
 ghost use Rattle.enip_replay.specs.Script.{IsRefusedLine};
-ghost use Rattle.enip_commands.specs.Statuses.{EndsBy, IsOfDevices};
+ghost use Rattle.enip_commands.specs.Lines.{with_newline};
+ghost use Rattle.enip_commands.specs.Statuses.{IsOfDevices};
 
 use crate::outcome::{AssemblyData, Counter, FinalState, Outcome};
 use crate::script::{event_of, is_skipped, line_fault};
 use cip_bytes::protocol::ASSEMBLY;
+use cip_class3::Stage;
 use cip_objects::{Objects, ReplyBuf};
 use enip_adapter::Adapter;
 use enip_bench::{Bench, BenchFault, Event};
 use enip_client::Client;
 use enip_commands::{ProgramFault, TakeLines, WANTS, read_lines};
 use std::alloc::Global;
-use std::io::{self, BufWriter, Write};
+use std::io::{self, Write};
 use thiserror::Error;
 
 /// The attribute that has the data of an assembly. (Volume 1, Assembly.)
@@ -29,7 +32,7 @@ const DATA: u16 = 3;
 const LAST_INSTANCE: u32 = 65_535;
 
 /// Runs a script with a client and an adapter. Prints the outcome of each event on `output`, and then the objects and
-/// the state of the client.
+/// the state of the client. `output` is flushed.
 ///
 /// If a line is refused, the outcomes of the lines before it are still written.
 ///
@@ -38,38 +41,24 @@ const LAST_INSTANCE: u32 = 65_535;
 /// `Setup` if the client cannot open its connection, or the second session cannot begin. `Program` with `Line` and
 /// the number of the first line that is refused, from 1; with `Device` if the output could not be written; with
 /// `Memory` if memory was refused.
-pub fn replay<W: Write + Drop>(
+pub fn replay<W: Write>(
     alloc: Global,
     adapter: Adapter,
     script: &[u8],
-    output: W,
+    output: &mut W,
 ) -> Result<(), ReplayFailure>
     requires { IsNewAdapter adapter }
-    ensures { IfErr result (IsStopOf adapter) }
+    ensures played { OnOk result (IsPlayed adapter script.now (W.contents output.old) (W.contents output.new)) }
+    ensures stopped { IfErr result
+        (IsStopOf adapter script.now (W.contents output.old) (W.contents output.new)) }
 {
     let bench = bench_of(alloc, adapter)?;
-    play(alloc, bench, script, output)?;
-    Ok(())
-}
-
-/// Runs a script at a bench, and prints the final state.
-fn play<W: Write + Drop>(
-    alloc: Global,
-    bench: Bench,
-    script: &[u8],
-    output: W,
-) -> Result<(), ProgramFault>
-    ensures { IfErr result (EndsBy (λ _ text. IsRefusedLine text)) }
-{
-    let output = BufWriter::new(alloc, output)?;
     let mut player = Player {
         alloc,
         bench,
-        output,
         digits: Vec::new(alloc),
     };
-    let ran = read_lines(alloc, script, &mut player);
-    player.end(ran)
+    player.play(script, output).map_err(ReplayFailure::Program)
 }
 
 /// Why a replay ends early. The text is the code for scripts on standard error.
@@ -136,7 +125,7 @@ impl From<BenchFault> for ReplayFailure {
 pub(crate) fn bench_of(alloc: Global, adapter: Adapter) -> Result<Bench, ReplayFailure>
     requires { IsNewAdapter adapter }
     ensures made { IfOk result (IsOpeningOf adapter) }
-    ensures refused { IfErr result (IsStopOf adapter) }
+    ensures refused { IfErr result (IsUnopened adapter) }
 {
     let Ok(client) = Client::new(alloc, &WANTS) else {
         return Err(ReplayFailure::Program(ProgramFault::Memory));
@@ -144,21 +133,33 @@ pub(crate) fn bench_of(alloc: Global, adapter: Adapter) -> Result<Bench, ReplayF
     Ok(Bench::new(alloc, adapter, client)?)
 }
 
-/// The bench and the output.
+/// The bench, and a scratch buffer for the digits of a line.
 #[derive(Drop)]
-struct Player<W: Write + Drop> {
+struct Player {
     alloc: Global,
     bench: Bench,
-    output: BufWriter<W>,
     digits: Vec<u8>,
 }
 
-impl<W: Write + Drop> Player<W> {
+impl Player {
+    /// Runs a script, and prints the outcomes and the final state.
+    fn play<W: Write>(&mut self, script: &[u8], output: &mut W) -> Result<(), ProgramFault>
+        ensures played { OnOk result
+            (IsPlayedFrom self.old.bench script.now (W.contents output.old) (W.contents output.new)) }
+        ensures stopped { IfErr result (IsStopAt
+            (IsPlayedUpTo self.old.bench script.now (W.contents output.old) (W.contents output.new))) }
+    {
+        let mut rest = script;
+        read_lines(self.alloc, &mut rest, self, output)?;
+        print_ending(&self.bench, output)
+    }
+
     /// Runs a line. Returns false if it is refused.
-    fn run_line(&mut self, text: &[u8]) -> Result<bool, ProgramFault>
-        ensures run { IfOk result (λ runs. runs ≡ true → IsRun text.now self.old.bench self.new.bench
-            (writer_contents W.contents self.old.output) (writer_contents W.contents self.new.output)) }
+    fn run_line<W: Write>(&mut self, text: &[u8], output: &mut W) -> Result<bool, ProgramFault>
+        ensures run { IfOk result (λ runs. runs ≡ true → IsRun outcomes text.now self.old.bench self.new.bench
+            (W.contents output.old) (W.contents output.new)) }
         ensures line { IfOk result (λ runs. runs ≡ false → IsRefusedLine text.now) }
+        ensures same { IfOk result (λ runs. runs ≡ false → Keeps (W.contents output.old) (W.contents output.new)) }
         ensures refused { IfErr result IsOfDevices }
     {
         if is_skipped(text) {
@@ -167,56 +168,69 @@ impl<W: Write + Drop> Player<W> {
         let Some(event) = event_of(self.alloc, text, &mut self.digits)? else {
             return Ok(false);
         };
-        self.run_event(&event)?;
+        self.run_event(&event, output)?;
         Ok(true)
     }
 
     /// Runs an event and prints its outcome.
-    fn run_event(&mut self, event: &Event) -> Result<(), ProgramFault>
+    fn run_event<W: Write>(&mut self, event: &Event, output: &mut W) -> Result<(), ProgramFault>
         ensures done { OnOk result (IsDone (event_in event.now) self.old.bench self.new.bench
-            (writer_contents W.contents self.old.output) (writer_contents W.contents self.new.output)) }
+            (W.contents output.old) (W.contents output.new)) }
         ensures refused { IfErr result IsOfDevices }
     {
         let step = self.bench.step(event)?;
-        writeln!(self.output, "{}", Outcome { event, step })?;
-        Ok(())
-    }
-
-    /// Prints the final state if all lines were run. Otherwise returns the error of `ran`.
-    fn end(&mut self, ran: Result<(), ProgramFault>) -> Result<(), ProgramFault>
-        ensures printed { OnOk ran (OnOk result (Appends (writer_contents W.contents self.old.output)
-            (writer_contents W.contents self.new.output) (ending self.old.bench))) }
-        ensures refused { OnOk ran (IfErr result IsOfDevices) }
-        ensures silent { IfErr ran (λ fault. (result ≡ Err fault) × (self.new ≡ self.old)) }
-    {
-        ran?;
-        let seen = self.bench.seen();
-        print_objects(&mut self.output, seen.objects)?;
-        writeln!(self.output, "{}", FinalState(seen.stage))?;
-        self.output.flush()?;
+        writeln!(output, "{}", Outcome { event, step })?;
         Ok(())
     }
 }
 
-impl<W: Write + Drop> TakeLines for Player<W> {
-    ghost refuses = { λ _ text. IsRefusedLine text };
+impl TakeLines for Player {
+    ghost does = { λ text old new before after. IsRun outcomes text old.bench new.bench before after };
 
-    fn take_line(&mut self, text: &[u8], number: u64) -> Result<(), ProgramFault> {
-        if self.run_line(text)? {
+    ghost refuses = { IsRefusedLine };
+
+    fn take_line<W: Write>(
+        &mut self,
+        text: &[u8],
+        number: u64,
+        output: &mut W,
+    ) -> Result<(), ProgramFault> {
+        if self.run_line(text, output)? {
             Ok(())
         } else {
             Err(ProgramFault::Line(number, line_fault(text)))
         }
     }
+}
 
-    fn send(&mut self) -> Result<(), ProgramFault> {
-        self.output.flush()?;
-        Ok(())
-    }
+/// Prints the objects and the state of the client, and flushes the output.
+fn print_ending<W: Write>(bench: &Bench, output: &mut W) -> Result<(), ProgramFault>
+    ensures printed { OnOk result (Appends (W.contents output.old) (W.contents output.new) (ending bench.now)) }
+    ensures refused { IfErr result IsOfDevices }
+{
+    let seen = bench.seen();
+    print_state(seen.objects, seen.stage, output)?;
+    output.flush()?;
+    Ok(())
+}
+
+/// Prints the objects and the state of the client.
+pub(crate) fn print_state<W: Write>(
+    objects: &Objects,
+    stage: Stage,
+    output: &mut W,
+) -> Result<(), ProgramFault>
+    ensures printed { OnOk result (Appends (W.contents output.old) (W.contents output.new)
+        (objects_printed objects.now ++ with_newline (final_line stage))) }
+    ensures refused { IfErr result IsOfDevices }
+{
+    print_objects(output, objects)?;
+    writeln!(output, "{}", FinalState(stage))?;
+    Ok(())
 }
 
 /// Prints the counter and the data of each assembly, sorted by instance.
-pub(crate) fn print_objects<W: Write>(output: &mut W, objects: &Objects) -> Result<(), ProgramFault>
+fn print_objects<W: Write>(output: &mut W, objects: &Objects) -> Result<(), ProgramFault>
     ensures printed { OnOk result (Appends (W.contents output.old) (W.contents output.new)
         (objects_printed objects.now)) }
     ensures refused { IfErr result IsOfDevices }

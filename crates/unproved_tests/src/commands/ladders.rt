@@ -129,11 +129,12 @@ fn a_line_that_is_refused(rt: HostRuntime) -> Result<(), Fail> {
 fn a_writer_that_fails(rt: HostRuntime) -> Result<(), Fail> {
     for room in [0, 1, HEAD.len() + 1] {
         let mut written = Vec::new(rt.alloc());
-        let output = BrokenWriter {
+        let mut output = BrokenWriter {
             text: &mut written,
             room,
         };
-        let ended = draw_replay(rt.alloc(), demo_adapter(rt.alloc())?, b"resend\n", output);
+        let adapter = demo_adapter(rt.alloc())?;
+        let ended = draw_replay(rt.alloc(), adapter, b"resend\n", &mut output);
         assert_eq!(rt;
             ended,
             Err(ReplayFailure::Program(ProgramFault::Device)),

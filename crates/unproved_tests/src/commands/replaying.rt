@@ -13,7 +13,7 @@ use std::test::Fail;
 const UNTOUCHED: &str = "counter 0 100 0\nassembly 100 00000000\nclient idle\n";
 
 /// Runs a script of one line with the demo device. Returns why it ended early, if it did.
-fn ending<W: Write + Drop>(alloc: Global, output: W) -> Result<Option<ReplayFailure>, Fail> {
+fn ending<W: Write>(alloc: Global, output: &mut W) -> Result<Option<ReplayFailure>, Fail> {
     let adapter = demo_adapter(alloc)?;
     Ok(replay(alloc, adapter, b"resend\n", output).err())
 }
@@ -22,11 +22,11 @@ fn ending<W: Write + Drop>(alloc: Global, output: W) -> Result<Option<ReplayFail
 fn a_writer_that_fails(rt: HostRuntime) -> Result<(), Fail> {
     for room in [0, 1, 10, UNTOUCHED.len() + 11] {
         let mut written = Vec::new(rt.alloc());
-        let output = BrokenWriter {
+        let mut output = BrokenWriter {
             text: &mut written,
             room,
         };
-        let ended = ending(rt.alloc(), output)?;
+        let ended = ending(rt.alloc(), &mut output)?;
         assert_eq!(rt;
             ended,
             Some(ReplayFailure::Program(ProgramFault::Device)),
@@ -41,8 +41,8 @@ fn a_writer_that_fails(rt: HostRuntime) -> Result<(), Fail> {
 fn output_that_does_not_leave(rt: HostRuntime) -> Result<(), Fail> {
     // the flush after the lines were read, the one before the final state, or the one after it
     for flushes in [0, 1, 2] {
-        let output = FullWriter { flushes };
-        let ended = ending(rt.alloc(), output)?;
+        let mut output = FullWriter { flushes };
+        let ended = ending(rt.alloc(), &mut output)?;
         assert_eq!(rt;
             ended,
             Some(ReplayFailure::Program(ProgramFault::Device)),
