@@ -53,6 +53,7 @@ void enip_core_adapter_tick(struct kept *, uint64_t);
 void enip_core_adapter_end(struct kept *, uint32_t);
 uint32_t enip_core_adapter_deadline(struct kept *, uint64_t *);
 uint32_t enip_core_adapter_read(struct kept *, uint16_t, uint32_t, uint16_t, uint8_t *, size_t, size_t *);
+uint32_t enip_core_adapter_discover(struct kept *, const uint8_t *, size_t, uint8_t *, size_t, size_t *);
 void enip_core_adapter_places(struct kept *, uint16_t *, uint16_t *);
 uint32_t enip_core_adapter_write(struct kept *, uint32_t, size_t, const uint8_t *, size_t);
 uint32_t enip_core_adapter_changes(struct kept *, uint32_t, uint32_t *);
@@ -223,6 +224,15 @@ int enip_adapter_read(const enip_adapter *adapter, uint16_t class_code, uint32_t
         return ENIP_MISUSE;
     return (int)enip_core_adapter_read(kept_to_read(&adapter->kept), class_code, instance, attribute, buffer, size,
                                        count);
+}
+
+/* Unlike a piece of a stream, a datagram may be empty. */
+int enip_adapter_discover(const enip_adapter *adapter, const void *datagram, size_t length, void *buffer, size_t size,
+                          size_t *count) {
+    if (!is_adapter(adapter) || datagram == NULL || length > (size_t)PTRDIFF_MAX || !is_output(buffer, size, count)
+        || !are_apart(datagram, length, buffer, size) || !are_apart(datagram, length, count, sizeof *count))
+        return ENIP_MISUSE;
+    return (int)enip_core_adapter_discover(kept_to_read(&adapter->kept), datagram, length, buffer, size, count);
 }
 
 int enip_adapter_places(const enip_adapter *adapter, uint16_t *peers, uint16_t *connections) {

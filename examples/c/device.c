@@ -1,6 +1,6 @@
 /*
  * A device with a lamp. The first byte of assembly 100 switches the lamp, and assembly 101 counts how often assembly
- * 100 was written. One thread serves up to 16 clients.
+ * 100 was written. One thread serves up to 16 clients, and answers the datagrams of clients that look for devices.
  *
  *     cc -std=c99 device.c -lenip -o device
  *     ./device 44818
@@ -16,7 +16,7 @@
 #include <time.h>
 #include <unistd.h>
 
-enum { CLIENTS = 16, OUTPUT = 100, INPUT = 101 };
+enum { CLIENTS = 16, DATAGRAMS = CLIENTS + 1, SOCKETS, OUTPUT = 100, INPUT = 101 };
 
 static const char configuration[] =
     "vendor = 4660\n"
@@ -40,8 +40,11 @@ static const char configuration[] =
 
 static enip_adapter *adapter;
 
-/* sockets[0] listens. Each of the others is a client, or free: its fd is -1, which poll ignores. */
-static struct pollfd sockets[1 + CLIENTS];
+/*
+ * sockets[0] listens, and sockets[DATAGRAMS] receives datagrams. Each of the others is a client, or free: its fd is -1,
+ * which poll ignores.
+ */
+static struct pollfd sockets[SOCKETS];
 
 /* The adapter's number for the client of each socket. */
 static uint32_t peers[1 + CLIENTS];
@@ -63,15 +66,18 @@ static int poll_timeout(void) {
     return (int)((deadline - time) / 1000 + 1);
 }
 
-/* Opens a socket that listens at this port of 127.0.0.1. Returns -1 if that fails. */
-static int listen_at(uint16_t port) {
+/* Opens a socket at this port of 127.0.0.1: one that listens, or one for datagrams. Returns -1 if that fails. */
+static int open_socket(int type, uint16_t port) {
     struct sockaddr_in address = {.sin_family = AF_INET, .sin_port = htons(port), .sin_addr = {htonl(INADDR_LOOPBACK)}};
     int on = 1;
-    int fd = socket(AF_INET, SOCK_STREAM, 0);
+    int fd = socket(AF_INET, type, 0);
     if (fd < 0)
         return -1;
-    setsockopt(fd, SOL_SOCKET, SO_REUSEADDR, &on, sizeof on);
-    if (bind(fd, (struct sockaddr *)&address, sizeof address) != 0 || listen(fd, CLIENTS) != 0)
+    if (type == SOCK_STREAM)
+        setsockopt(fd, SOL_SOCKET, SO_REUSEADDR, &on, sizeof on);
+    if (bind(fd, (struct sockaddr *)&address, sizeof address) != 0)
+        return -1;
+    if (type == SOCK_STREAM && listen(fd, CLIENTS) != 0)
         return -1;
     return fd;
 }
@@ -123,6 +129,20 @@ static int serve_client(int slot) {
     return 1;
 }
 
+/* Answers one datagram, or drops it if it has no answer. */
+static void answer_datagram(void) {
+    unsigned char datagram[4096], answer[ENIP_ANSWER_ROOM];
+    struct sockaddr_storage sender;
+    socklen_t sender_size = sizeof sender;
+    size_t size;
+    int fd = sockets[DATAGRAMS].fd;
+    ssize_t count = recvfrom(fd, datagram, sizeof datagram, MSG_DONTWAIT, (struct sockaddr *)&sender, &sender_size);
+    if (count < 0)
+        return;
+    if (enip_adapter_discover(adapter, datagram, (size_t)count, answer, sizeof answer, &size) == ENIP_OK)
+        sendto(fd, answer, size, MSG_DONTWAIT, (struct sockaddr *)&sender, sender_size);
+}
+
 /* Counts what clients wrote to the output, and switches the lamp. */
 static void update_lamp(void) {
     static uint32_t seen;
@@ -152,10 +172,10 @@ int main(int count, char **arguments) {
         fprintf(stderr, "device: %s\n", status == ENIP_CONFIGURATION ? refusal.text : "out of memory");
         return 1;
     }
-    for (int slot = 0; slot <= CLIENTS; slot++)
+    for (int slot = 0; slot < SOCKETS; slot++)
         sockets[slot] = (struct pollfd){.fd = -1, .events = POLLIN};
-    sockets[0].fd = listen_at((uint16_t)port);
-    if (sockets[0].fd < 0) {
+    if ((sockets[0].fd = open_socket(SOCK_STREAM, (uint16_t)port)) < 0
+        || (sockets[DATAGRAMS].fd = open_socket(SOCK_DGRAM, (uint16_t)port)) < 0) {
         perror("device");
         return 1;
     }
@@ -167,13 +187,15 @@ int main(int count, char **arguments) {
                 free_slot = slot;
         }
         sockets[0].events = free_slot > 0 ? POLLIN : 0;
-        if (poll(sockets, 1 + CLIENTS, poll_timeout()) < 0)
+        if (poll(sockets, SOCKETS, poll_timeout()) < 0)
             continue;
         enip_adapter_tick(adapter, now());
         for (int slot = 1; slot <= CLIENTS; slot++) {
             if (sockets[slot].fd >= 0 && sockets[slot].revents != 0 && !serve_client(slot))
                 drop_client(slot);
         }
+        if (sockets[DATAGRAMS].revents != 0)
+            answer_datagram();
         if (sockets[0].revents & POLLIN)
             accept_client(free_slot);
         update_lamp();

@@ -14,7 +14,8 @@
  * Every call that returns a status returns ENIP_MISUSE if
  *   - a pointer is NULL, unless its comment allows it,
  *   - the handle was not created by this library, or was freed,
- *   - a range of bytes to read or a buffer is empty, or a length or an offset is over PTRDIFF_MAX,
+ *   - a range of bytes to read or a buffer is empty, unless its comment allows it, or a length or an offset is over
+ *     PTRDIFF_MAX,
  *   - the bytes to read, the buffer and the results (such as *count and *fed) overlap.
  *
  * Times are in microseconds from any start, as CLOCK_MONOTONIC gives them.
@@ -63,7 +64,7 @@ enum {
     ENIP_NUMBERS = 19       /* no command number is left for this originator */
 };
 
-/* The smallest buffer for the answer of enip_adapter_feed, in bytes. */
+/* The smallest buffer for the answer of enip_adapter_feed, in bytes. Any answer of enip_adapter_discover fits in it. */
 #define ENIP_ANSWER_ROOM 4046
 
 /* The smallest buffer for a frame of the client, in bytes. */
@@ -190,6 +191,16 @@ ENIP_API int enip_adapter_end(enip_adapter *adapter, uint32_t peer);
  */
 ENIP_API int enip_adapter_read(const enip_adapter *adapter, uint16_t class_code, uint32_t instance, uint16_t attribute,
                                void *buffer, size_t size, size_t *count);
+
+/*
+ * Answers a UDP datagram of length bytes, which may be 0: writes the answer to buffer, and its length to *count. Send
+ * it to the sender of the datagram. A datagram has an answer if it is exactly one frame of 24 bytes: ListIdentity,
+ * ListServices or ListInterfaces, without data and with options and status 0. The answer has the same bytes as over
+ * TCP. The adapter does not change.
+ * ENIP_OK; ENIP_ABSENT if the datagram has no answer; ENIP_ROOM if the answer does not fit; ENIP_MISUSE.
+ */
+ENIP_API int enip_adapter_discover(const enip_adapter *adapter, const void *datagram, size_t length, void *buffer,
+                                   size_t size, size_t *count);
 
 /* Gives the number of free slots for peers and for class 3 connections. ENIP_OK, ENIP_MISUSE. */
 ENIP_API int enip_adapter_places(const enip_adapter *adapter, uint16_t *peers, uint16_t *connections);

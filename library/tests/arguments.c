@@ -170,6 +170,7 @@ CORE_WRITES(once, request)
                                        size_t size, result *it) {                                            \
         return NOTE(#kind "_" #call, WORD(k), WORD(bytes), length, WORD(buffer), size, WORD(it));            \
     }
+CORE_CALL(adapter, discover, size_t)
 CORE_CALL(client, ask, size_t)
 CORE_CALL(client, submit, size_t)
 CORE_CALL(client, feed, enip_heard)
@@ -245,6 +246,7 @@ CALL(adapter_tick, NOW)
 CALL(adapter_deadline, a->result)
 CALL(adapter_end, peer + 100)
 CALL(adapter_read, CLASS, INSTANCE, ATTRIBUTE, a->buffer, a->size, a->result)
+CALL(adapter_discover, a->bytes, a->length, a->buffer, a->size, a->result)
 CALL(adapter_write, 100, 1, a->bytes, a->length)
 CALL(adapter_changes, 100, a->result)
 CALL(adapter_set_status, 0x1234)
@@ -278,6 +280,7 @@ static struct call calls[] = {
     {"adapter_deadline", ADAPTER, adapter_deadline, 0, 0, 8, 0, {0}},
     {"adapter_end", ADAPTER, adapter_end, 0, 0, 0, 1, {0}},
     {"adapter_read", ADAPTER, adapter_read, 0, 2, 8, 3, {CLASS, INSTANCE, ATTRIBUTE}},
+    {"adapter_discover", ADAPTER, adapter_discover, 24, ENIP_ANSWER_ROOM, 8, 0, {0}},
     {"adapter_write", ADAPTER, adapter_write, 3, 0, 0, 2, {100, 1}},
     {"adapter_changes", ADAPTER, adapter_changes, 0, 0, 4, 1, {100}},
     {"adapter_set_status", ADAPTER, adapter_set_status, 0, 0, 0, 1, {0x1234}},
@@ -404,13 +407,18 @@ static void handles(const struct call *call, int with_freed) {
 
 #define WITH(field, value) (b = a, b.field = (value), b)
 
+/* A datagram may be empty, unlike all else that is read. */
+static int may_be_empty(const struct call *call) {
+    return strcmp(call->name, "adapter_discover") == 0;
+}
+
 static void one_by_one(const struct call *call) {
     const size_t greatest = PTRDIFF_MAX;
     struct arguments a = right(call), b;
     allowed(call, "all are right", a);
     if (call->length != 0) {
         refused(call, "NULL to read", WITH(bytes, NULL));
-        refused(call, "nothing to read", WITH(length, 0));
+        (may_be_empty(call) ? allowed : refused)(call, "nothing to read", WITH(length, 0));
         refused(call, "PTRDIFF_MAX + 1 to read", WITH(length, greatest + 1));
         refused(call, "SIZE_MAX to read", WITH(length, SIZE_MAX));
         allowed(call, "one byte to read", WITH(length, 1));

@@ -210,6 +210,7 @@ static void misused(void) {
 
 /* The calls that only read take a const object. */
 static void reads(const enip_adapter *reader, const enip_endings *list) {
+    static const unsigned char list_identity[24] = {0x63};
     uint64_t deadline;
     uint32_t changes;
     uint16_t peers, connections;
@@ -219,6 +220,8 @@ static void reads(const enip_adapter *reader, const enip_endings *list) {
     is("the slots", enip_adapter_places(reader, &peers, &connections), ENIP_OK);
     is("a read", enip_adapter_read(reader, 4, 101, 3, buffer, sizeof buffer, &count), ENIP_OK);
     is("the changes", enip_adapter_changes(reader, 100, &changes), ENIP_OK);
+    is("a datagram", enip_adapter_discover(reader, list_identity, 24, buffer, sizeof buffer, &count), ENIP_OK);
+    is("the status and the state in its answer", buffer[56] == 0x34 && buffer[57] == 0x12 && buffer[count - 1] == 5, 1);
     is("an update", enip_endings_update(endings, reader), ENIP_OK);
     is("an empty list", enip_endings_at(list, 0, &one), ENIP_ABSENT);
 }

@@ -94,6 +94,7 @@ typedef int writing(void *buffer, size_t size, size_t *count);
         return enip_##name(__VA_ARGS__, buffer, size, count);       \
     }
 WRITING(adapter_read, adapter, 4, 100, 3)
+WRITING(adapter_discover, adapter, request, request_length)
 WRITING(client_register, client)
 WRITING(client_open, client)
 WRITING(client_ask, client, request, request_length)
@@ -257,6 +258,58 @@ static void refused_opening(void) {
     peer = first_peer;
 }
 
+/* A datagram, by itself in memory, and the same over TCP: both have the same answer. */
+static void discovered(const char *what, const unsigned char *datagram, const void *wanted, size_t length) {
+    request = memcpy(in(READ, 24), datagram, 24);
+    request_length = 24;
+    written(what, adapter_discover, length, length);
+    is_bytes(what, frame, wanted, length);
+    fed(what, datagram, 24, (enip_fed){24, length, 0, 0});
+    is_bytes(what, answer, wanted, length);
+}
+
+/* A datagram that has no answer: nothing is written. */
+static void dropped(const char *what, const unsigned char *bytes, size_t length) {
+    void *buffer = in(BUFFER, ENIP_ANSWER_ROOM), *datagram = memcpy(in(READ, length), bytes, length);
+    size_t *count = in(RESULT, sizeof *count);
+    is(what, enip_adapter_discover(adapter, datagram, length, buffer, ENIP_ANSWER_ROOM, count), ENIP_ABSENT);
+    is_kept(what, BUFFER);
+    is_kept(what, RESULT);
+}
+
+static void datagrams(void) {
+    static const char identity[] =
+        "\x63\0\x29\0\0\0\0\0\0\0\0\0\1\2\3\4\5\6\7\x08\0\0\0\0\1\0\x0c\0\x23\0\1\0\0\2\xaf\x12\x7f\0\0\1"
+        "\0\0\0\0\0\0\0\0\x34\x12\x2b\0\7\0\2\5\0\0\1\0\0\0\1M\3";
+    static const char services[] =
+        "\4\0\x1a\0\0\0\0\0\0\0\0\0\1\2\3\4\5\6\7\x08\0\0\0\0\1\0\0\1\x14\0\1\0\x20\0Communications\0";
+    static const char interfaces[] =
+        "\x64\0\2\0\7\0\0\0\0\0\0\0\1\2\3\4\5\6\7\x08\0\0\0\0\0";
+    unsigned char list[26] = {0x63, [12] = 1, 2, 3, 4, 5, 6, 7, 8};
+    is("a peer", enip_adapter_begin(adapter, &peer), ENIP_OK);
+    discovered("ListIdentity", list, identity, sizeof identity - 1);
+    dropped("no datagram", list, 0);
+    dropped("a byte is missing", list, 23);
+    dropped("a byte more", list, 25);
+    list[0] = 0x04;
+    discovered("ListServices", list, services, sizeof services);
+    list[0] = 0x64;
+    list[4] = 7;
+    discovered("ListInterfaces", list, interfaces, sizeof interfaces);
+    list[2] = 1;
+    dropped("data", list, 25);
+    list[2] = 0;
+    list[8] = 1;
+    dropped("a status", list, 24);
+    list[8] = 0;
+    list[23] = 1;
+    dropped("options", list, 24);
+    list[23] = 0;
+    list[0] = 0x66;
+    dropped("another command", list, 24);
+    is("end", enip_adapter_end(adapter, peer), ENIP_OK);
+}
+
 /* The results of the device's own calls, while one connection is open, and after it has timed out. */
 static void device_side(enip_endings *endings) {
     enip_ended *ended = in(RESULT, sizeof *ended);
@@ -405,6 +458,7 @@ int main(void) {
         || enip_endings_new(&endings) != ENIP_OK || enip_adapter_write(adapter, 100, 0, "\1\2\3\4", 4) != ENIP_OK)
         return 9;
     for (at_end = 1; at_end >= 0; at_end--) {
+        datagrams();
         conversation();
         refused_opening();
         device_side(endings);

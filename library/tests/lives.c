@@ -66,6 +66,7 @@ static void is(const char *what, const char *how, size_t got, size_t wanted) {
 static const char configuration[] = HEAD TAIL "[[assembly]]\ninstance = 100\nsettable = true\nmembers = [1, 2]\n";
 static const char malformed[] = HEAD TAIL "[[assembly]]\ninstance = 100\nmembers = [1, 0]\n";
 static const unsigned char registers[28] = {0x65, 0, 4, 0, [24] = 1};
+static const unsigned char list_services[24] = {0x04};
 static const unsigned char request[] = {0x32, 0x02, 0x20, 0x64, 0x24, 0x01, 5, 0, 0, 0};
 static unsigned char buffer[ENIP_REPLY_ROOM];
 
@@ -80,11 +81,13 @@ static int adapter(void) {
     enip_adapter *made = UNCHANGED;
     enip_fed fed;
     uint32_t peer;
+    size_t count;
     int status = enip_adapter_new(configuration, sizeof configuration - 1, &made, NULL);
     if (status != ENIP_OK)
         return made == UNCHANGED ? status : 99;
     if (enip_adapter_begin(made, &peer) != ENIP_OK
-        || enip_adapter_feed(made, 1, peer, registers, 28, buffer, sizeof buffer, &fed) != ENIP_OK || fed.answer != 28)
+        || enip_adapter_feed(made, 1, peer, registers, 28, buffer, sizeof buffer, &fed) != ENIP_OK || fed.answer != 28
+        || enip_adapter_discover(made, list_services, 24, buffer, sizeof buffer, &count) != ENIP_OK || count != 50)
         return 98;
     return enip_adapter_free(made);
 }

@@ -21,6 +21,7 @@ static const char configuration[] =
     "address = [127, 0, 0, 1]\n[counter]\nlimit = 100\n";
 
 static const unsigned char registers[28] = {0x65, 0, 4, 0, [24] = 1};
+static const unsigned char list_identity[24] = {0x63};
 
 int main(void) {
     static unsigned char buffer[ENIP_REPLY_ROOM];
@@ -85,7 +86,24 @@ int main(void) {
     MISUSE(enip_adapter_read(adapter, 1, 1, 1, shared.bytes, sizeof shared.bytes, &shared.count));
     is("small", enip_adapter_read(adapter, 1, 1, 1, buffer, 1, &count), ENIP_ROOM);
     is("absent", enip_adapter_read(adapter, 1, 1, 99, buffer, 2, &count), ENIP_ABSENT);
+    MISUSE(enip_adapter_discover(NULL, list_identity, 24, buffer, sizeof buffer, &count));
+    MISUSE(enip_adapter_discover(other, list_identity, 24, buffer, sizeof buffer, &count));
+    MISUSE(enip_adapter_discover(adapter, NULL, 24, buffer, sizeof buffer, &count));
+    MISUSE(enip_adapter_discover(adapter, NULL, 0, buffer, sizeof buffer, &count));
+    MISUSE(enip_adapter_discover(adapter, list_identity, far, buffer, sizeof buffer, &count));
+    MISUSE(enip_adapter_discover(adapter, list_identity, 24, NULL, sizeof buffer, &count));
+    MISUSE(enip_adapter_discover(adapter, list_identity, 24, buffer, 0, &count));
+    MISUSE(enip_adapter_discover(adapter, list_identity, 24, buffer, far, &count));
+    MISUSE(enip_adapter_discover(adapter, list_identity, 24, buffer, sizeof buffer, NULL));
+    MISUSE(enip_adapter_discover(adapter, buffer, 24, buffer, sizeof buffer, &count));
+    MISUSE(enip_adapter_discover(adapter, list_identity, 24, shared.bytes, sizeof shared.bytes, &shared.count));
+    MISUSE(enip_adapter_discover(adapter, shared.bytes, 24, buffer, sizeof buffer, &shared.count));
+    is("small", enip_adapter_discover(adapter, list_identity, 24, buffer, 64, &count), ENIP_ROOM);
+    is("absent", enip_adapter_discover(adapter, list_identity, 23, buffer, 65, &count), ENIP_ABSENT);
+    is("absent", enip_adapter_discover(adapter, list_identity, 0, buffer, 65, &count), ENIP_ABSENT);
     is("count", count == 77 && deadline == 5, 1);
+    is("discover", enip_adapter_discover(adapter, list_identity, 24, buffer, 65, &count), ENIP_OK);
+    is("an identity", count == 65 && buffer[0] == 0x63 && buffer[2] == 41, 1);
     is("read", enip_adapter_read(adapter, 1, 1, 1, buffer, 2, &count), ENIP_OK);
     is("vendor", count == 2 && buffer[0] == 0x34 && buffer[1] == 0x12, 1);
     MISUSE(enip_adapter_places(NULL, &peers, &connections));

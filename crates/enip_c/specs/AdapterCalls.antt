@@ -9,6 +9,7 @@ use Rattle.enip_adapter.specs.declared.no_reply_reason.NoReplyReason.{NoReplyRea
 use Rattle.enip_adapter.specs.declared.no_reply_reason.NoReplyReason.TheVariants as no_reply_reason
 use Rattle.enip_adapter.specs.Calls.{AdapterState, Call, call_meaning, call_answer, after_call}
 use Rattle.enip_adapter.specs.Calls.Call.{Begins_peer, Feeds}
+use Rattle.enip_adapter.specs.Discovery.{discovered}
 use Rattle.enip_adapter.specs.Turn.{Output, Answer}
 use Rattle.enip_adapter.specs.Turn.Output.{NoReply, Sends, Begins, Refuses}
 use Rattle.enip_config.specs.declared.fault.ConfigurationRefusal.{ConfigurationRefusal}
@@ -106,3 +107,8 @@ deadline_kept (Some a) = earliest_deadline a.state.shared.manager.connections
 abbrev pub attribute_kept : Option AdapterState → ℕ → ℕ → ℕ → Option (List ℕ)
 attribute_kept None class instance attribute = None
 attribute_kept (Some a) class instance attribute = value_at a.state.shared.objects.router class instance attribute
+
+-- The answer to a datagram, if it has one.
+abbrev pub discovered_kept : Option AdapterState → List ℕ → Option (List ℕ)
+discovered_kept None datagram = None
+discovered_kept (Some a) datagram = discovered a.state.shared datagram

@@ -3,10 +3,12 @@
 ghost use Rattle.std.specs.Prelude.{◌≡◌, ◌≤◌, ◌<◌, length, None, IfOk, IfErr};
 ghost use Rattle.std.specs.Option.{option_map, IsSomeAnd};
 ghost use Rattle.enip_adapter.specs.Calls.{Call, after_call, call_answer};
+ghost use Rattle.enip_adapter.specs.Discovery.{discovered};
 ghost use Rattle.enip_config.specs.Configured.{IsAdapterOf};
 ghost use Rattle.enip_config.specs.Documents.{IsFaultOf};
 ghost use Rattle.enip_c.specs.AdapterCalls.{IsFed, IsFedKept, IsBegun, IsBegunKept, IsRefusedBy, no_reply_reason_number, returned_fed};
-ghost use Rattle.enip_c.specs.AdapterCalls.{bool_number, full_status, AreFreeKept, deadline_kept, attribute_kept, IsAdapterStatus};
+ghost use Rattle.enip_c.specs.AdapterCalls.{bool_number, full_status, AreFreeKept, deadline_kept, attribute_kept, discovered_kept};
+ghost use Rattle.enip_c.specs.AdapterCalls.{IsAdapterStatus};
 ghost use Rattle.enip_c.specs.Kept.{IsLive};
 ghost use Rattle.cip_objects.specs.Contents.{value_at};
 ghost use Rattle.enip_c.specs.Buffer.{status_number, returned_bytes, ReturnsNumber};
@@ -14,7 +16,7 @@ ghost use Rattle.enip_c.specs.Buffer.{status_number, returned_bytes, ReturnsNumb
 use crate::buffer::{copy_front, return_bytes};
 use crate::kept_adapter::KeptAdapter;
 use crate::status::Status;
-use enip_adapter::{Adapter, Full, LONGEST_ANSWER, NoReplyReason, Peer};
+use enip_adapter::{Adapter, DiscoveryBuffer, Full, LONGEST_ANSWER, NoReplyReason, Peer};
 use enip_config::{LoadFault, adapter_from};
 use std::alloc::Global;
 
@@ -262,6 +264,39 @@ fn read(
 {
     match adapter.objects().attribute(class, instance, attribute) {
         Some(bytes) => return_bytes(bytes.as_slice(), buffer, count),
+        None => Status::Absent.number(),
+    }
+}
+
+/// The answer to a UDP datagram.
+#[unsafe(no_mangle)]
+pub extern "C" fn enip_core_adapter_discover(
+    alloc: Global,
+    kept: &mut KeptAdapter,
+    datagram: &[u8],
+    buffer: &mut [u8],
+    count: &mut usize,
+) -> u32
+    requires { IsLive kept.old.value }
+    ensures kept { kept.new.value ≡ kept.old.value }
+    ensures returned { record { status = result; count = count.new; buffer = buffer.new }
+        ≡ returned_bytes (discovered_kept kept.old.value datagram.now) count.old buffer.old }
+    ensures fits { LONGEST_ANSWER ≤ length buffer.old → result ≡ status_number Status.Room → ⊥ }
+{
+    let adapter = kept.take(alloc);
+    let status = discover(&adapter, datagram, buffer, count);
+    *kept = KeptAdapter::of(adapter);
+    status
+}
+
+fn discover(adapter: &Adapter, datagram: &[u8], buffer: &mut [u8], count: &mut usize) -> u32
+    ensures returned { record { status = result; count = count.new; buffer = buffer.new }
+        ≡ returned_bytes (discovered adapter.now.state.shared datagram.now) count.old buffer.old }
+    ensures fits { LONGEST_ANSWER ≤ length buffer.old → result ≡ status_number Status.Room → ⊥ }
+{
+    let mut room = DiscoveryBuffer::new();
+    match adapter.discover(datagram, &mut room) {
+        Some(answer) => return_bytes(answer, buffer, count),
         None => Status::Absent.number(),
     }
 }
