@@ -7,7 +7,7 @@ use Rattle.cip_class3.specs.declared.originator.Stage.{Stage}
 use Rattle.cip_class3.specs.declared.originator.Stage.TheVariants as stages
 use Rattle.cip_bytes.specs.declared.protocol.TheConstants.{COUNTER}
 use Rattle.cip_objects.specs.Contents.{Contents, bytes_at, udint_at}
-use Rattle.enip_bench.specs.Events.{Event, Submit, Resend, Reach, Back, Other, Shut, GiveUp}
+use Rattle.enip_bench.specs.Events.{Event, Submit, Resend, Reach, Back, Other, Write, Shut, GiveUp}
 use Rattle.enip_bench.specs.CountingWorld.{CountingWorld, counting_step}
 use Rattle.enip_bench.specs.EventResults.{event_result, EventResult, Sends, Refuses, Resends, Reaches, Accepts, Ignores, Impossible, Done}
 use Rattle.enip_commands.specs.Lines.{with_newline}
@@ -19,6 +19,7 @@ words Resend = codes "resend"
 words (Reach position) = codes "reach " ++ decimal position
 words (Back position) = codes "back " ++ decimal position
 words (Other request) = codes "other"
+words (Write write) = codes "write"
 words Shut = codes "shut"
 words GiveUp = codes "giveup"
 

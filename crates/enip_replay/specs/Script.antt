@@ -1,7 +1,7 @@
 -- The lines of a script.
 use Rattle.std.specs.Prelude.{◌≡◌, ◌<◌, ◌+◌, ◌^◌, ℕ, Bool, true, false, List, [], ◌∷◌, ◌++◌, length, Some, codes, ◌==◌}
 use Rattle.std.specs.Str.Parse.{IsNumeral, digits_value}
-use Rattle.enip_bench.specs.Events.{Event, Submit, Resend, Reach, Back, Other, Shut, GiveUp}
+use Rattle.enip_bench.specs.Events.{Event, Submit, Resend, Reach, Back, Other, Write, Shut, GiveUp}
 use Rattle.enip_commands.specs.Digits.{bytes_spelled}
 
 -- An empty line or a comment.
@@ -18,13 +18,14 @@ IsNumbered word number text = (digits : List ℕ) × (text ≡ word ++ digits) �
 abbrev pub IsSpelled : List ℕ → List ℕ → List ℕ → Type 0
 IsSpelled word bytes text = (digits : List ℕ) × (text ≡ word ++ digits) × (bytes_spelled digits ≡ Some bytes)
 
--- The event that a line means.
+-- The event that a line means. No line means a write of the device itself.
 abbrev pub Means : List ℕ → Event → Type 0
 Means text (Submit request) = IsSpelled (codes "submit ") request text
 Means text Resend = text ≡ codes "resend"
 Means text (Reach position) = IsNumbered (codes "reach ") position text
 Means text (Back position) = IsNumbered (codes "back ") position text
 Means text (Other request) = IsSpelled (codes "other ") request text
+Means text (Write write) = ⊥
 Means text Shut = text ≡ codes "shut"
 Means text GiveUp = text ≡ codes "giveup"
 

@@ -490,7 +490,7 @@ fn what_happened(
 /// The direction of arrows that start at the end where an event happens.
 fn end_of(event: &Event) -> Direction {
     match event {
-        Event::Reach(_) | Event::Other(_) | Event::Shut => Direction::ToClient,
+        Event::Reach(_) | Event::Other(_) | Event::Write(_) | Event::Shut => Direction::ToClient,
         _ => Direction::ToAdapter,
     }
 }

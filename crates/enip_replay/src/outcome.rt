@@ -28,6 +28,7 @@ impl fmt::Display for Words<'_> {
             Event::Reach(position) => write!(f, "reach {position}"),
             Event::Back(position) => write!(f, "back {position}"),
             Event::Other(_) => f.write_str("other"),
+            Event::Write(_) => f.write_str("write"),
             Event::Shut => f.write_str("shut"),
             Event::GiveUp => f.write_str("giveup"),
         }
