@@ -8,7 +8,7 @@ use Rattle.cip_application.specs.declared.attribute.SetFault.{SetFault}
 use Rattle.cip_application.specs.declared.attribute.SetFault.TheVariants.{AttributeNotSupported}
 use Rattle.cip_application.specs.declared.config.ServiceConfig.{ServiceConfig}
 use Rattle.cip_application.specs.Attributes.{AttributeValues, attribute_at, with_attribute, attribute_set}
-use Rattle.cip_application.specs.Attributes.{attribute_write}
+use Rattle.cip_application.specs.Attributes.{attribute_write, AreAllowed}
 
 pub record ObjectValues : Type 0 where
   pub class : ℕ
@@ -79,6 +79,11 @@ objects_write objects class instance number offset bytes =
     option_and_then
     (λ k. option_map (slice_set objects k) (object_write (object_in objects k) number offset bytes))
     (position_of class instance objects)
+
+-- Each value of each object is one that its attribute may have.
+abbrev pub AllAllowed : List ObjectValues → Type 0
+AllAllowed [] = Unit {0}
+AllAllowed (o ∷ objects) = AreAllowed o.attributes × AllAllowed objects
 
 -- The instance numbers of a class.
 abbrev pub instances_of : ℕ → List ObjectValues → List ℕ

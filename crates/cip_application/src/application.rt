@@ -7,7 +7,7 @@ ghost use Rattle.std.specs.Box.{boxed_slice_items};
 ghost use Rattle.cip_application.specs.Attributes.{AttributeValues, attribute_at, can_be_set};
 ghost use Rattle.cip_application.specs.Configuration.{fault_of, objects_of_config, object_of_config, AreOwn, AreInOrder};
 ghost use Rattle.cip_application.specs.Objects.{ObjectValues, position_of, object_in, value_in, value_of, service_in};
-ghost use Rattle.cip_application.specs.Objects.{objects_set, objects_write, changes_of, class_of};
+ghost use Rattle.cip_application.specs.Objects.{objects_set, objects_write, changes_of, class_of, AllAllowed};
 ghost use Rattle.cip_application.specs.Whole.{IsSound};
 
 use crate::attribute::SetFault;
@@ -70,6 +70,7 @@ impl ApplicationObjects {
         ensures allowed { fault_of counter configs.now ≡ None → IfErr result (λ fault. fault ≡ ObjectFault.Memory) }
         ensures made { IfOk result (λ objects. objects ≡ objects_of_config configs.now) }
         ensures own { IfOk result (AreOwn counter) }
+        ensures values { IfOk result AllAllowed }
         ensures in_order { IfOk result (All (λ o. AreInOrder o.attributes)) }
     {
         if let Some(fault) = fault(counter, configs) {
