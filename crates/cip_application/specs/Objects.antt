@@ -1,7 +1,8 @@
 -- The application objects, and what is read and written of them by class, instance and attribute (Volume 1, object
 -- model). The first object of a class and an instance number serves, and the first attribute of a number.
-use Rattle.std.specs.Prelude.{◌≡◌, ◌<◌, ℕ, ◌+◌, Bool, ◌==◌, ◌&&◌, if◌then◌else◌, List, [], ◌∷◌, length, max, slice_index_or}
-use Rattle.std.specs.Prelude.{slice_set, Option, Some, None, option_map, option_and_then, ok_or, Result, Ok}
+use Rattle.std.specs.Prelude.{◌≡◌, ◌<◌, ℕ, ◌+◌, Bool, ◌==◌, ◌&&◌, if◌then◌else◌, List, [], ◌∷◌, length, max}
+use Rattle.std.specs.Prelude.{slice_index_or, slice_set, Option, Some, None, option_map, option_and_then, ok_or}
+use Rattle.std.specs.Prelude.{Result, Ok}
 use Rattle.cip_bytes.specs.Reading.{◌>>=◌, map_ok}
 use Rattle.cip_application.specs.declared.application.ClassSummary.{ClassSummary}
 use Rattle.cip_application.specs.declared.attribute.SetFault.{SetFault}
@@ -40,7 +41,8 @@ object_set o number content = do
 -- The object after the device itself wrote these bytes into an attribute, from an offset on.
 abbrev pub object_write : ObjectValues → ℕ → ℕ → List ℕ → Option ObjectValues
 object_write o number offset bytes =
-    option_map (object_with o) (option_and_then (λ a. attribute_write a offset bytes) (attribute_at number o.attributes))
+    option_map (object_with o)
+    (option_and_then (λ a. attribute_write a offset bytes) (attribute_at number o.attributes))
 
 abbrev pub is_object : ℕ → ℕ → ObjectValues → Bool
 is_object class instance o = (o.class == class) && (o.instance == instance)
