@@ -13,7 +13,7 @@ from mutating.sources import TOP
 # tests/memory also runs the proved tests, which are next to the proved program alone.
 NOT_RUN = ("memory",)
 # The seconds after which a test that has printed no result has failed, next to four times those that it usually takes.
-LONGEST = 300
+LONGEST = 120
 
 
 def tests_of_check(top=TOP):
@@ -47,7 +47,7 @@ def run(command, limit, environment=None):
     test = subprocess.Popen(
         command, stdin=subprocess.DEVNULL, stdout=subprocess.PIPE, stderr=subprocess.DEVNULL, text=True, cwd=TOP,
         env=dict(os.environ, PYTHONUNBUFFERED="1", PYTHONDONTWRITEBYTECODE="1", **environment or {}), errors="replace",
-        start_new_session=True,
+        process_group=0,
     )
     late = threading.Timer(limit, end, [test])
     late.start()
@@ -69,11 +69,12 @@ def end(test):
 
 
 def noticed(tests, seconds):
-    """The first of these tests that fails twice, with what it printed, or None. A test is its name and its command, and
-    `seconds` are those that it takes without an error."""
-    for name, command in tests:
+    """The first of these tests that notices an error, with what it printed, or None. It must fail, pass without the
+    error, and fail again. A test is its name, its command, and the command without the error. `seconds` are those that
+    it takes then."""
+    for name, command, unchanged in tests:
         limit = LONGEST + 4 * seconds[name]
         line, took = run(command, limit)
-        if line is not None and run(command, limit)[0] is not None:
+        if line is not None and run(unchanged, limit)[0] is None and run(command, limit)[0] is not None:
             return "%s, %.0f s: %s" % (name, took, line[:160])
     return None
