@@ -12,6 +12,8 @@ from mutating.sources import TOP
 
 # tests/memory also runs the proved tests, which are next to the proved program alone.
 NOT_RUN = ("memory",)
+# What a test prints of what it leaves out.
+LEFT_OUT = re.compile(r"this machine|.*: skipped: |\d+ commands were skipped")
 # The seconds after which a test that has printed no result has failed, next to four times those that it usually takes.
 LONGEST = 120
 
@@ -52,7 +54,7 @@ def run(command, limit, environment=None):
     late = threading.Timer(limit, end, [test])
     late.start()
     try:
-        line = next((it for it in test.stdout if not it.startswith("this machine")), "no result\n")
+        line = next((it for it in test.stdout if not LEFT_OUT.match(it)), "no result\n")
         is_passed = re.fullmatch(r"[1-9]\d* passed, 0 failed\n", line)
         return None if is_passed else line.rstrip("\n"), time.monotonic() - start
     finally:
