@@ -12,8 +12,11 @@ from mutating.sources import TOP
 
 # tests/memory also runs the proved tests, which are next to the proved program alone.
 NOT_RUN = ("memory",)
-# What a test prints of what it leaves out.
-LEFT_OUT = re.compile(r"this machine|.*: skipped: |\d+ commands were skipped")
+NO_RESULT = "no result"
+# What differs between two runs: numbers, and the names of temporary files.
+VARIES = r"/tmp/\S+|\d+"
+# Lines of a test that are no failures.
+LEFT_OUT = re.compile(r"\s*$|this machine|.*: skipped: |\d+ commands were skipped")
 # The seconds after which a test that has printed no result has failed, next to four times those that it usually takes.
 LONGEST = 120
 
@@ -54,7 +57,7 @@ def run(command, limit, environment=None):
     late = threading.Timer(limit, end, [test])
     late.start()
     try:
-        line = next((it for it in test.stdout if not LEFT_OUT.match(it)), "no result\n")
+        line = next((it for it in test.stdout if not LEFT_OUT.match(it)), NO_RESULT + "\n")
         is_passed = re.fullmatch(r"[1-9]\d* passed, 0 failed\n", line)
         return None if is_passed else line.rstrip("\n"), time.monotonic() - start
     finally:
@@ -71,12 +74,18 @@ def end(test):
 
 
 def noticed(tests, seconds):
-    """The first of these tests that notices an error, with what it printed, or None. It must fail, pass without the
-    error, and fail again. A test is its name, its command, and the command without the error. `seconds` are those that
-    it takes then."""
+    """The first of these tests that notices an error, with what it printed, or None. It must fail twice with the error:
+    with the same text, or else it must pass without the error. A test is its name, its command, and the command without
+    the error. `seconds` are those that it takes then."""
     for name, command, unchanged in tests:
         limit = LONGEST + 4 * seconds[name]
         line, took = run(command, limit)
-        if line is not None and run(unchanged, limit)[0] is None and run(command, limit)[0] is not None:
+        again = line and run(command, limit)[0]
+        if again and (alike(line, again) or run(unchanged, limit)[0] is None):
             return "%s, %.0f s: %s" % (name, took, line[:160])
     return None
+
+
+def alike(line, other):
+    """Whether two lines are the same, but for numbers and the names of temporary files."""
+    return re.sub(VARIES, "", line) == re.sub(VARIES, "", other) and line != NO_RESULT
