@@ -176,7 +176,8 @@ class Scripts:
     def judge(self, error, seconds):
         copy = copied(self.folder, error)
         order = sorted((it for it in seconds if it.startswith(SCRIPTS + " ")), key=seconds.get)
-        order = [it for it in order if error.path in self.reached.get(it, shell.SCRIPTS)]
+        # a part that runs none of them reads all
+        order = [it for it in order if error.path in (self.reached.get(it) or shell.SCRIPTS)]
         tests = [(it, [copy / SCRIPTS, it.split()[1]], [self.whole / SCRIPTS, it.split()[1]]) for it in order]
         try:
             by = noticed(tests, seconds)
