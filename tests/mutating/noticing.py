@@ -17,6 +17,8 @@ NO_RESULT = "no result"
 VARIES = r"/tmp/\S+|\d+"
 # Lines of a test that are no failures.
 LEFT_OUT = re.compile(r"\s*$|this machine|.*: skipped: |\d+ commands were skipped")
+# A program that runs in a circle is ended long before its test gives it up. None needs so many processor seconds.
+LIMITED = ("bash", "-c", 'ulimit -t 30; exec "$@"', "")
 # The seconds after which a test that has printed no result has failed, next to four times those that it usually takes.
 LONGEST = 120
 
@@ -40,19 +42,20 @@ def first_tests(path, top=TOP):
 
 
 def in_order(tests, seconds, path):
-    """The tests, from the likeliest to the least likely to notice an error of a file. `seconds` lacks those that are
-    left out."""
+    """The tests, from the likeliest in each second to the least likely to notice an error of a file. `seconds` lacks
+    those that are left out."""
     alike, crate = first_tests(path)
-    return sorted((it for it in tests if it in seconds), key=lambda it: (-alike[it], -crate[it], seconds[it]))
+    tests = [it for it in tests if it in seconds]
+    return sorted(tests, key=lambda it: (alike[it] * 5 + crate[it] + 1) / (seconds[it] + 1), reverse=True)
 
 
 def run(command, limit, environment=None):
     """Runs a test up to the first failure that it prints. Returns the line, None if it passes, and the seconds."""
     start = time.monotonic()
     test = subprocess.Popen(
-        command, stdin=subprocess.DEVNULL, stdout=subprocess.PIPE, stderr=subprocess.DEVNULL, text=True, cwd=TOP,
-        env=dict(os.environ, PYTHONUNBUFFERED="1", PYTHONDONTWRITEBYTECODE="1", **environment or {}), errors="replace",
-        process_group=0,
+        [*LIMITED, *command], cwd=TOP, text=True, errors="replace", process_group=0,
+        stdin=subprocess.DEVNULL, stdout=subprocess.PIPE, stderr=subprocess.DEVNULL,
+        env=dict(os.environ, PYTHONUNBUFFERED="1", PYTHONDONTWRITEBYTECODE="1", **environment or {}),
     )
     late = threading.Timer(limit, end, [test])
     late.start()
