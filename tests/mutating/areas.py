@@ -144,7 +144,7 @@ class Scripts:
     """The scripts at the top. Their tests are the parts of tests/scripts."""
 
     def __init__(self, folder):
-        self.folder, self.whole, self.reached = folder, None, {}
+        self.folder, self.whole, self.parts, self.reached = folder, None, [], {}
 
     def errors(self, random):
         return shell.errors_of_scripts(random)
@@ -155,7 +155,8 @@ class Scripts:
     def unchanged(self):
         self.whole = copied(self.folder / "scripts", None)
         parts = subprocess.run([TOP / SCRIPTS, "--parts"], stdout=subprocess.PIPE, text=True, check=True)
-        return {"%s %s" % (SCRIPTS, part): [self.whole / SCRIPTS, part] for part in parts.stdout.split()}
+        self.parts = ["%s %s" % (SCRIPTS, part) for part in parts.stdout.split()]
+        return {it: [self.whole / SCRIPTS, it.split()[1]] for it in self.parts}
 
     def note_reached(self, test):
         """Notes which scripts a part runs: all, if it fails while that is noted."""
@@ -175,7 +176,7 @@ class Scripts:
 
     def judge(self, error, seconds):
         copy = copied(self.folder, error)
-        order = sorted((it for it in seconds if it.startswith(SCRIPTS + " ")), key=seconds.get)
+        order = [it for it in self.parts if it in seconds]
         # a part that runs none of them reads all
         order = [it for it in order if error.path in (self.reached.get(it) or shell.SCRIPTS)]
         tests = [(it, [copy / SCRIPTS, it.split()[1]], [self.whole / SCRIPTS, it.split()[1]]) for it in order]

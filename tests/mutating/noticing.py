@@ -70,8 +70,11 @@ def run(command, limit, environment=None):
 
 
 def end(test):
-    """Ends a test, and the devices that it may leave behind."""
+    """Ends a test, and the devices that it may leave behind. tests/scripts ends what runs in other sessions itself."""
     with contextlib.suppress(ProcessLookupError):
+        os.killpg(test.pid, signal.SIGTERM)
+        with contextlib.suppress(subprocess.TimeoutExpired):
+            test.wait(5)
         os.killpg(test.pid, signal.SIGKILL)
     test.wait()
 
