@@ -39,7 +39,14 @@ static void is(const char *what, const char *how, int holds) {
 
 #define WORD(it) ((uint64_t)(uintptr_t)(it))
 
-enum { MOST_WORDS = 9, NOW = 5, LIFE = 6, ORIGINATOR = 7, NUMBER = 8, CLASS = 1, INSTANCE = 1, ATTRIBUTE = 1 };
+enum { MOST_WORDS = 9, NOW = 5, LIFE = 6, ORIGINATOR = 7, NUMBER = 8 };
+#ifdef LAYER
+/* Arguments that can be told apart. */
+enum { CLASS = 11, INSTANCE = 12, ATTRIBUTE = 13 };
+#else
+/* The vendor, which each device has. */
+enum { CLASS = 1, INSTANCE = 1, ATTRIBUTE = 1 };
+#endif
 
 static uint32_t peer;
 

@@ -1,15 +1,17 @@
 """Where errors are planted: the program, the C layer, and the scripts. Each area makes its errors, and judges one."""
 import os
 import shutil
+import subprocess
 import tempfile
 from pathlib import Path
 
 from mutating import layer, shell
-from mutating.noticing import in_order, noticed, tests_of_check
+from mutating.noticing import LONGEST, in_order, noticed, run, tests_of_check
 from mutating.program import Switched
 from mutating.rules import errors_in, errors_in_value, returned_by
 from mutating.sources import TOP, Sources
 
+SCRIPTS = "tests/scripts"
 NOTICED, UNNOTICED, EQUAL = "noticed", "UNNOTICED", "equal by construction"
 
 
@@ -18,6 +20,7 @@ class Program:
 
     def __init__(self, folder):
         self.folder, self.sources, self.switched, self.numbers = folder, Sources(), None, {}
+        self.reached = {}
 
     def errors(self, random):
         found = []
@@ -34,12 +37,18 @@ class Program:
         return found
 
     def planted(self, errors):
-        """Those of these errors that can be planted. They are all in one program."""
+        """Those of these errors that can be planted. They are all in one program. A list of those that the compiler
+        refuses is kept in the folder."""
         self.switched = self.switched or Switched(self.folder / "copy", self.sources)
-        self.numbers = {number: it for number, it in enumerate(errors, 1) if self.switched.place(it)}
-        for number in self.switched.build(self.numbers):
-            del self.numbers[number]
-        self.numbers = {it: number for number, it in self.numbers.items()}
+        refused = self.folder / "refused"
+        known = set(refused.read_text().splitlines()) if refused.exists() else set()
+        numbers = {
+            number: it for number, it in enumerate(errors, 1) if self.switched.place(it) and str(it) not in known
+        }
+        for number in self.switched.build(numbers):
+            with refused.open("a") as file:
+                print(numbers.pop(number), file=file)
+        self.numbers = {it: number for number, it in numbers.items()}
         return list(self.numbers)
 
     def plain(self):
@@ -55,24 +64,40 @@ class Program:
         """The commands that must pass without an error."""
         return {test: [TOP / test, self.plain()] for test in tests_of_check()}
 
+    def note_reached(self, test):
+        """Notes which errors a test reaches: all, if it fails while that is noted."""
+        name = test.replace("/", "-")
+        reached = self.folder / ("reached-" + name)
+        program = self.switched.program(0, self.folder / ("enip-" + name), reached)
+        if run([TOP / test, program], LONGEST)[0] is None:
+            self.reached[test] = reached.read_bytes()
+
+    def reaches(self, test, number):
+        return test not in self.reached or self.switched.is_reached(number, self.reached[test])
+
     def judge(self, error, seconds):
         number = self.numbers[error]
         program = self.switched.program(number, self.folder / ("enip-%d" % number))
+        order, by = [it for it in in_order(tests_of_check(), seconds, error.path) if self.reaches(it, number)], None
         try:
-            tests = [(test, [TOP / test, program]) for test in in_order(tests_of_check(), seconds, error.path)]
-            by = noticed(tests, seconds)
+            by = noticed([(it, [TOP / it, program], [TOP / it, self.plain()]) for it in order], seconds)
         finally:
-            program.unlink()
-        if by is None and self.switched.is_equal(number):
-            return EQUAL, ""
-        return (NOTICED, by) if by else (UNNOTICED, "")
+            if by:
+                program.unlink()
+        return (NOTICED, by) if by else (UNNOTICED, "%s, of %d tests that reach it" % (program.name, len(order)))
+
+    def equal(self, errors):
+        """Those of these errors with which the compiler makes the same bytes."""
+        numbers = {self.numbers[it]: it for it in errors}
+        return {numbers[it] for it in self.switched.equal(numbers)} if numbers else set()
 
 
 class Layer:
     """The C layer of the library."""
 
     def __init__(self, folder, prefix, program):
-        self.folder, self.prefix, self.program, self.layer, self.equal = folder, prefix, program, None, set()
+        self.folder, self.prefix, self.program, self.layer, self.same = folder, prefix, program, None, set()
+        self.whole = {}
 
     def errors(self, random):
         return layer.errors_of_layer(random)
@@ -81,7 +106,7 @@ class Layer:
         if errors and not self.layer:
             self.layer = layer.Layer(self.folder / "layer", self.prefix)
         states = {it: self.layer.state(it) for it in errors}
-        self.equal |= {it for it, (_, is_equal) in states.items() if is_equal}
+        self.same |= {it for it, (_, is_equal) in states.items() if is_equal}
         return [it for it, (can_be_planted, _) in states.items() if can_be_planted]
 
     def commands(self, copy):
@@ -94,24 +119,32 @@ class Layer:
         return found
 
     def unchanged(self):
-        return self.commands(copied(self.folder / "library", None))
+        self.whole = self.commands(copied(self.folder / "library", None))
+        return self.whole
+
+    def note_reached(self, test):
+        """Each of these tests reaches the whole layer."""
+
+    def equal(self, errors):
+        return self.same & set(errors)
 
     def judge(self, error, seconds):
-        if error in self.equal:
+        if error in self.same:
             return EQUAL, ""
         copy = copied(self.folder, error)
         try:
-            by = noticed([it for it in self.commands(copy).items() if it[0] in seconds], seconds)
+            tests = [(it, command, self.whole[it]) for it, command in self.commands(copy).items() if it in seconds]
+            by = noticed(tests, seconds)
         finally:
             shutil.rmtree(copy)
         return (NOTICED, by) if by else (UNNOTICED, "")
 
 
 class Scripts:
-    """The scripts at the top."""
+    """The scripts at the top. Their tests are the parts of tests/scripts."""
 
     def __init__(self, folder):
-        self.folder = folder
+        self.folder, self.whole, self.parts, self.reached = folder, None, [], {}
 
     def errors(self, random):
         return shell.errors_of_scripts(random)
@@ -120,15 +153,42 @@ class Scripts:
         return errors
 
     def unchanged(self):
-        return {"tests/scripts": [copied(self.folder / "scripts", None) / "tests/scripts"]}
+        self.whole = copied(self.folder / "scripts", None)
+        parts = subprocess.run([TOP / SCRIPTS, "--parts"], stdout=subprocess.PIPE, text=True, check=True)
+        self.parts = ["%s %s" % (SCRIPTS, part) for part in parts.stdout.split()]
+        return {it: [self.whole / SCRIPTS, it.split()[1]] for it in self.parts}
+
+    def note_reached(self, test):
+        """Notes which scripts a part runs: all, if it fails while that is noted."""
+        reached, copy = self.folder / ("reached-" + test.split()[1]), self.folder / ("copy-" + test.split()[1])
+        reached.mkdir()
+        copied(copy, None)
+        for path in shell.SCRIPTS:
+            script = copy / path
+            head, _, rest = script.read_text().partition("\n")
+            mode = script.stat().st_mode
+            script.unlink()
+            script.write_text('%s\n: >>"%s"\n%s' % (head, reached / path, rest))
+            script.chmod(mode)
+        if run([copy / SCRIPTS, test.split()[1]], LONGEST)[0] is None:
+            self.reached[test] = {it.name for it in reached.iterdir()}
+        shutil.rmtree(copy)
 
     def judge(self, error, seconds):
         copy = copied(self.folder, error)
+        order = [it for it in self.parts if it in seconds]
+        # a part that runs none of them reads all
+        order = [it for it in order if error.path in (self.reached.get(it) or shell.SCRIPTS)]
+        tests = [(it, [copy / SCRIPTS, it.split()[1]], [self.whole / SCRIPTS, it.split()[1]]) for it in order]
         try:
-            by = noticed([("tests/scripts", [copy / "tests/scripts"])] if seconds else [], seconds)
+            by = noticed(tests, seconds)
         finally:
             shutil.rmtree(copy)
         return (NOTICED, by) if by else (UNNOTICED, "")
+
+    def equal(self, errors):
+        """No script is compiled."""
+        return set()
 
 
 def copied(folder, error):

@@ -12,8 +12,15 @@ from mutating.sources import TOP
 
 # tests/memory also runs the proved tests, which are next to the proved program alone.
 NOT_RUN = ("memory",)
+NO_RESULT = "no result"
+# What differs between two runs: numbers, and the names of temporary files.
+VARIES = r"/tmp/\S+|\d+"
+# Lines of a test that are no failures.
+LEFT_OUT = re.compile(r"\s*$|this machine|.*: skipped: |\d+ commands were skipped")
+# A program that runs in a circle is ended long before its test gives it up. None needs so many processor seconds.
+LIMITED = ("bash", "-c", 'ulimit -t 30; exec "$@"', "")
 # The seconds after which a test that has printed no result has failed, next to four times those that it usually takes.
-LONGEST = 300
+LONGEST = 120
 
 
 def tests_of_check(top=TOP):
@@ -35,24 +42,25 @@ def first_tests(path, top=TOP):
 
 
 def in_order(tests, seconds, path):
-    """The tests, from the likeliest to the least likely to notice an error of a file. `seconds` lacks those that are
-    left out."""
+    """The tests, from the likeliest in each second to the least likely to notice an error of a file. `seconds` lacks
+    those that are left out."""
     alike, crate = first_tests(path)
-    return sorted((it for it in tests if it in seconds), key=lambda it: (-alike[it], -crate[it], seconds[it]))
+    tests = [it for it in tests if it in seconds]
+    return sorted(tests, key=lambda it: (alike[it] * 5 + crate[it] + 1) / (seconds[it] + 1), reverse=True)
 
 
 def run(command, limit, environment=None):
     """Runs a test up to the first failure that it prints. Returns the line, None if it passes, and the seconds."""
     start = time.monotonic()
     test = subprocess.Popen(
-        command, stdin=subprocess.DEVNULL, stdout=subprocess.PIPE, stderr=subprocess.DEVNULL, text=True, cwd=TOP,
-        env=dict(os.environ, PYTHONUNBUFFERED="1", PYTHONDONTWRITEBYTECODE="1", **environment or {}), errors="replace",
-        start_new_session=True,
+        [*LIMITED, *command], cwd=TOP, text=True, errors="replace", process_group=0,
+        stdin=subprocess.DEVNULL, stdout=subprocess.PIPE, stderr=subprocess.DEVNULL,
+        env=dict(os.environ, PYTHONUNBUFFERED="1", PYTHONDONTWRITEBYTECODE="1", **environment or {}),
     )
     late = threading.Timer(limit, end, [test])
     late.start()
     try:
-        line = next((it for it in test.stdout if not it.startswith("this machine")), "no result\n")
+        line = next((it for it in test.stdout if not LEFT_OUT.match(it)), NO_RESULT + "\n")
         is_passed = re.fullmatch(r"[1-9]\d* passed, 0 failed\n", line)
         return None if is_passed else line.rstrip("\n"), time.monotonic() - start
     finally:
@@ -62,18 +70,28 @@ def run(command, limit, environment=None):
 
 
 def end(test):
-    """Ends a test, and the devices that it may leave behind."""
+    """Ends a test, and the devices that it may leave behind. tests/scripts ends what runs in other sessions itself."""
     with contextlib.suppress(ProcessLookupError):
+        os.killpg(test.pid, signal.SIGTERM)
+        with contextlib.suppress(subprocess.TimeoutExpired):
+            test.wait(5)
         os.killpg(test.pid, signal.SIGKILL)
     test.wait()
 
 
 def noticed(tests, seconds):
-    """The first of these tests that fails twice, with what it printed, or None. A test is its name and its command, and
-    `seconds` are those that it takes without an error."""
-    for name, command in tests:
+    """The first of these tests that notices an error, with what it printed, or None. It must fail twice with the error:
+    with the same text, or else it must pass without the error. A test is its name, its command, and the command without
+    the error. `seconds` are those that it takes then."""
+    for name, command, unchanged in tests:
         limit = LONGEST + 4 * seconds[name]
         line, took = run(command, limit)
-        if line is not None and run(command, limit)[0] is not None:
+        again = line and run(command, limit)[0]
+        if again and (alike(line, again) or run(unchanged, limit)[0] is None):
             return "%s, %.0f s: %s" % (name, took, line[:160])
     return None
+
+
+def alike(line, other):
+    """Whether two lines are the same, but for numbers and the names of temporary files."""
+    return re.sub(VARIES, "", line) == re.sub(VARIES, "", other) and line != NO_RESULT
