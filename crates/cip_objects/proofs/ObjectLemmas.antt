@@ -1,6 +1,6 @@
 -- The application objects in the contents, by their index: what is read of them, and what a set and a write leave.
 use Rattle.std.specs.Prelude.{slice_index}
-use Rattle.std.proofs.Common.{◌≡◌, ℕ, zero, suc, ◌+◌, ◌<◌, eqb, Bool, true, false, cond, ◌&&◌, ◌||◌, not, nat_lt, List, [], ◌∷◌, length, get_or, set, map, max, Option, Some, None, option_map, is_some, unwrap_or, Result, Ok, Err, MatchOption, refl, sym, ap, ◌∙◌, arith, subst}
+use Rattle.std.proofs.Common.{◌≡◌, ℕ, zero, suc, ◌+◌, ◌<◌, eqb, Bool, true, false, cond, ◌&&◌, ◌||◌, not, nat_lt, List, [], ◌∷◌, length, get_or, set, map, max, Option, Some, None, option_map, is_some, unwrap_or, Result, Ok, Err, refl, sym, ap, ◌∙◌, arith, subst}
 use Rattle.std.proofs.lemmas.Bool.{eqb-true}
 use Rattle.std.proofs.lemmas.Bool.Decides.{nat_tests}
 use Rattle.std.specs.Result.{IsErr, IsErrAnd}
@@ -12,7 +12,7 @@ use Rattle.cip_application.specs.declared.attribute.SetFault.{SetFault}
 use Rattle.cip_application.specs.declared.attribute.SetFault.TheVariants as faults
 use Rattle.cip_application.specs.declared.kind.AttributeKind.{AttributeKind}
 use Rattle.cip_application.specs.declared.kind.AttributeKind.TheVariants.{Fixed}
-use Rattle.cip_application.specs.Attributes.{AttributeValues, attribute_at, with_attribute, attribute_set, attribute_write, can_be_set, one_more}
+use Rattle.cip_application.specs.Attributes.{AttributeValues, attribute_at, attribute_set, attribute_write, can_be_set, one_more}
 use Rattle.cip_application.specs.Check.{demand as demand_value}
 use Rattle.cip_application.specs.Configuration.{is_taken_class}
 use Rattle.cip_application.specs.Objects.{ObjectValues, position_of, object_in, value_in, object_with, objects_set, objects_write, changes_of, instances_of, greatest_of as greatest_in, summary_of, class_of}
@@ -22,17 +22,17 @@ use Rattle.cip_objects.specs.declared.object_ref.Settable.TheVariants as settabl
 use Rattle.cip_objects.specs.declared.service.Service.TheVariants.{Add, Clear, GetAttributeList, GetAttributeSingle, SetAttributeSingle}
 use Rattle.cip_objects.specs.declared.status.Refusal.{Refusal}
 use Rattle.cip_objects.specs.declared.status.Refusal.TheVariants as refusals
-use Rattle.cip_objects.specs.ChangeServices.{Change, change, change_result, is_allowed_limit, is_allowed}
+use Rattle.cip_objects.specs.ChangeServices.{Change, change, change_result, is_allowed_limit}
 use Rattle.cip_objects.specs.Changes.{changes_at, counted_in}
 use Rattle.cip_objects.specs.Check.{demand, check_size}
 use Rattle.cip_objects.specs.Contents.{Contents, value_at, bytes_at, with_value, with_change}
 use Rattle.cip_objects.specs.DeviceWrites.{with_attribute_of, object_write}
-use Rattle.cip_objects.specs.Entries.{IdentityValues, AssemblyValues, CounterValues, AreApart, AreDistinct, NoneIsClass, attribute_in, attributes_of_class, class_attributes, counter_attributes, object_attributes, object_shape_of, attribute_shape_of, object_tallies, contents_of, shapes_of}
+use Rattle.cip_objects.specs.Entries.{IdentityValues, AssemblyValues, CounterValues, AreApart, AreDistinct, NoneIsClass, attribute_in, attributes_of_class, class_attributes, counter_attributes, object_attributes, object_shape_of, attribute_shape_of, object_tallies, contents_of}
 use Rattle.cip_objects.specs.ObjectMap.{key}
 use Rattle.cip_objects.specs.ObjectRef.{IsFree, IsObjectIndex, IsObjectClass, IsSettable, kind_to_set, Resolves, value_to, bytes_to, after_set, object_in as shape_in}
 use Rattle.cip_objects.specs.ReadServices.{IDENTITY_ATTRIBUTES, all_attributes, numbers_of}
 use Rattle.cip_objects.specs.Status.{set_refusal}
-use Rattle.cip_objects.specs.Tables.{ObjectShape, AttributeShape, Shapes, object_at, position_at, attribute_at as shape_at_number, kind_of_settable, kind_in, settable_kind, numbers_in, greatest_number, services_of, application_services, object_services, is_counter_class}
+use Rattle.cip_objects.specs.Tables.{ObjectShape, Shapes, object_at, position_at, attribute_at as shape_at_number, kind_of_settable, kind_in, settable_kind, numbers_in, greatest_number, services_of, application_services, object_services, is_counter_class}
 use Rattle.cip_objects.proofs.Lookup.{find_object, object_value, own_value, object_at-map, above_none, both_true, taken_value, value_at-contents_of}
 use Rattle.cip_objects.proofs.Numbers.{enabled}
 use Rattle.cip_objects.proofs.ObjectRefs.{free_kind}

@@ -70,7 +70,7 @@ impl Model for Objects {
     ghost use Rattle.cip_objects.specs.Objects.{AreObjects};
 
     ghost view = { λ o. contents_of o.identity (boxed_slice_items o.assemblies) (counter_values o.counter)
-      o.application };
+        o.application };
 
     ghost invariant = { λ o. AreObjects o };
 }
@@ -345,7 +345,8 @@ impl Objects {
             ≡ unwrap_or (object_write self.old class instance attribute offset bytes.now) self.old }
         ensures reported { result ≡ is_some (object_write self.old class instance attribute offset bytes.now) }
     {
-        self.application.write(class, instance, attribute, offset, bytes)
+        self.application
+            .write(class, instance, attribute, offset, bytes)
     }
 
     /// Sets the device's status: attribute 5 of the Identity object, a WORD (Volume 1, Identity object). Allocates

@@ -1,4 +1,4 @@
-use Rattle.std.proofs.Common.{◌≡◌, ◌++◌, false, sym, ap, ◌∙◌, subst}
+use Rattle.std.proofs.Common.{◌++◌, sym, subst}
 use Rattle.std.specs.List.{flat_map}
 use Rattle.cip_objects.specs.declared.object_ref.ObjectRef.TheVariants as object_refs
 use Rattle.cip_objects.specs.ObjectRef.{Exists, IsObjectIndex, bytes_to, class_at, instance_at}

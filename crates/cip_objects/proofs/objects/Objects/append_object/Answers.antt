@@ -1,5 +1,4 @@
-use Rattle.std.proofs.Common.{◌≡◌, ◌+◌, ◌++◌, ◌∷◌, ◌∙◌, Some, drop, sym, ap, arith, append_assoc}
-use Rattle.std.specs.Prelude.{slice_index}
+use Rattle.std.proofs.Common.{◌+◌, ◌++◌, ◌∙◌, Some, drop, sym, ap, arith, append_assoc}
 use Rattle.std.proofs.lemmas.List.{append-nil, length-map}
 use Rattle.std.specs.List.{flat_map}
 use Rattle.cip_objects.specs.declared.object_ref.ObjectRef.TheVariants as object_refs

@@ -1,8 +1,8 @@
-use Rattle.std.proofs.Common.{◌≡◌, None, sym, ap, ◌∙◌, option_map, subst, MatchOption, eqb, false}
+use Rattle.std.proofs.Common.{◌≡◌, sym, ap, ◌∙◌, option_map, subst, MatchOption, eqb, false}
 use Rattle.std.specs.Box.{boxed_slice_items}
 use Rattle.cip_objects.specs.Counter.{counter_values}
 use Rattle.cip_objects.specs.ObjectRef.{HasNoValue, Resolves, services_at}
-use Rattle.cip_objects.specs.Tables.{application_services, object_services}
+use Rattle.cip_objects.specs.Tables.{object_services}
 use Rattle.cip_objects.proofs.Blocks.{eqb-other}
 use Rattle.cip_objects.proofs.ObjectLemmas.{free_services, no_class_services, class_services, class_found, services_at_place, object_found}
 use Rattle.cip_objects.proofs.ObjectRefs.{no_value}

@@ -1,4 +1,4 @@
-use Rattle.std.proofs.Common.{◌≡◌, false, true, is_some, not, Some, None, sym, ap, ◌∙◌, subst, refl}
+use Rattle.std.proofs.Common.{◌≡◌, false, true, is_some, Some, sym, ap, ◌∙◌, subst, refl}
 use Rattle.std.specs.Box.{boxed_slice_items}
 use Rattle.cip_objects.specs.Counter.{counter_values}
 use Rattle.cip_objects.specs.ObjectRef.{Exists, IsObjectIndex, class_at, instance_at, object_in}
