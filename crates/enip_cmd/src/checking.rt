@@ -157,7 +157,11 @@ fn print_attribute<W: Write>(
     if attribute.checked {
         write!(output, ", checked")?;
     }
-    if let AttributeKind::Fixed { range: Some(range), .. } = attribute.kind {
+    if let AttributeKind::Fixed {
+        range: Some(range),
+        ..
+    } = attribute.kind
+    {
         print_range(alloc, output, of_type, range)?;
     }
     writeln!(output)
@@ -178,12 +182,7 @@ fn print_range<W: Write>(
     write!(output, ", from ")?;
     print_value(alloc, output, one, &range.least.to_le_bytes()[..width])?;
     write!(output, " to ")?;
-    print_value(
-        alloc,
-        output,
-        one,
-        &range.greatest.to_le_bytes()[..width],
-    )
+    print_value(alloc, output, one, &range.greatest.to_le_bytes()[..width])
 }
 
 /// The type of an attribute's value as `--as` knows it. Bytes of any meaning have none.

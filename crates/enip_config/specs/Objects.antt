@@ -102,9 +102,16 @@ object_in (table described) =
 object_in _ = None
 
 abbrev pub object_seen : ObjectConfig → ObjectSeen
-object_seen object =
-    (object.class, (object.instance, (option_map string_bytes object.name,
-    (map attribute_seen object.attributes.items, map service_seen object.services.items))))
+object_seen object = (
+  object.class,
+  (
+    object.instance,
+    (
+      option_map string_bytes object.name,
+      (map attribute_seen object.attributes.items, map service_seen object.services.items),
+    ),
+  ),
+)
 
 -- the objects, in the order of the file
 abbrev pub objects_in : Data → Option (List ObjectSeen)

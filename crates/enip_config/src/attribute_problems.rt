@@ -2,8 +2,8 @@
 
 use crate::attribute_type::{AttributeType, width_of};
 use crate::explanation::part_at;
-use crate::typed::{bound, number_type, value_bytes};
 use crate::fault::LoadFault;
+use crate::typed::{bound, number_type, value_bytes};
 use cip_application::{AttributeConfig, AttributeKind, NumberRange, SetFault};
 use cip_values::ElementaryType;
 use std::alloc::{AllocError, Global};
@@ -80,10 +80,7 @@ pub(crate) fn attribute_problem(
 }
 
 /// What is wrong with the bounds of a type's numbers, and at which key.
-fn bad_bounds(
-    of_type: AttributeType,
-    table: &Table,
-) -> Option<(&'static str, AttributeProblem)> {
+fn bad_bounds(of_type: AttributeType, table: &Table) -> Option<(&'static str, AttributeProblem)> {
     for key in ["min", "max"] {
         let Some(value) = table.get(key) else {
             continue;
@@ -103,10 +100,7 @@ fn bad_bounds(
 fn element_of(of_type: AttributeType) -> Option<ElementaryType> {
     match of_type {
         AttributeType::One(element) | AttributeType::Array(element, _)
-            if number_type(element).is_some() =>
-        {
-            Some(element)
-        }
+            if number_type(element).is_some() => { Some(element) }
         _ => None,
     }
 }
@@ -117,10 +111,17 @@ fn bad_value(
     table: &Table,
     attribute: &AttributeConfig,
 ) -> Option<(&'static str, AttributeProblem)> {
-    if let AttributeKind::Fixed { range: Some(range), .. } = attribute.kind
+    if let AttributeKind::Fixed {
+        range: Some(range),
+        ..
+    } = attribute.kind
         && is_falling(of_type, range)
     {
-        let key = if table.get("min").is_some() { "min" } else { "max" };
+        let key = if table.get("min").is_some() {
+            "min"
+        } else {
+            "max"
+        };
         return Some((key, AttributeProblem::Range));
     }
     let value = attribute.value.as_slice();

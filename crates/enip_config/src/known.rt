@@ -10,7 +10,9 @@ ghost use Rattle.enip_config.specs.Known.{are_other_keys, has_other_keys, has_ot
 ghost use Rattle.enip_config.specs.Known.{has_other_keys_in_objects, object_has_other_keys, are_other_object_keys};
 ghost use Rattle.enip_config.specs.Known.{is_unknown_in_object};
 
-use crate::key::{ATTRIBUTE_NUMBER, CLASS, INSTANCE, LIFE, NumberKey, ORIGINATORS, REPLY, SERVICE_NUMBER};
+use crate::key::{
+    ATTRIBUTE_NUMBER, CLASS, INSTANCE, LIFE, NumberKey, ORIGINATORS, REPLY, SERVICE_NUMBER,
+};
 use toml::{Table, Value};
 
 /// The kinds of tables in a configuration.

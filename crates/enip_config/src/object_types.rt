@@ -10,10 +10,7 @@ use std::alloc::{AllocError, Global};
 use toml::{Table, Value};
 
 /// The types of the attributes of each object, in the order of the file.
-pub(crate) fn types_of(
-    alloc: Global,
-    text: &Table,
-) -> Result<Vec<Vec<AttributeType>>, AllocError>
+pub(crate) fn types_of(alloc: Global, text: &Table) -> Result<Vec<Vec<AttributeType>>, AllocError>
     ensures { IfOk result (λ types. map types_seen types.items ≡ types_of (table_view text.now)) }
 {
     match value_of(text, "object") {

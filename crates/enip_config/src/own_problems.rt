@@ -93,10 +93,7 @@ fn object_problem(
         _ if is_twice => ("instance", ObjectProblem::Twice(class, instance)),
         _ => ("class", ObjectProblem::Count(count)),
     };
-    Ok(Some((
-        Location::InObject(place, key),
-        Problem::Object(problem),
-    )))
+    Ok(Some((Location::InObject(place, key), Problem::Object(problem))))
 }
 
 /// Whether a name is empty, too long, or not printable.
@@ -142,10 +139,7 @@ fn attributes_problem(
 }
 
 /// What is wrong with the services of an object.
-fn service_problem(
-    place: usize,
-    object: &ObjectConfig,
-) -> Option<(Location<'static>, Problem)> {
+fn service_problem(place: usize, object: &ObjectConfig) -> Option<(Location<'static>, Problem)> {
     let services = object.services.as_slice();
     if services.len() > 16 {
         let problem = ServiceProblem::Count(services.len());

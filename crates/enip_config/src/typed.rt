@@ -64,11 +64,7 @@ fn typed_by(alloc: Global, table: &Table, name: &str) -> Result<TypedValue, Load
 }
 
 /// Reads the value and the bounds of an attribute of this type.
-fn typed_as(
-    alloc: Global,
-    table: &Table,
-    of_type: AttributeType,
-) -> Result<TypedValue, LoadFault>
+fn typed_as(alloc: Global, table: &Table, of_type: AttributeType) -> Result<TypedValue, LoadFault>
     ensures read { IfOk result (λ typed. typed_as (table_view table.now) of_type ≡ Some (typed_seen typed)) }
     ensures refused { IfErr result (IsBadOrMemory (typed_as (table_view table.now) of_type)) }
 {
@@ -97,7 +93,11 @@ fn first_value(
 }
 
 /// Reads a value of this type, and returns its bytes.
-pub(crate) fn value_bytes(alloc: Global, of_type: AttributeType, value: &Value) -> Result<Vec<u8>, LoadFault>
+pub(crate) fn value_bytes(
+    alloc: Global,
+    of_type: AttributeType,
+    value: &Value,
+) -> Result<Vec<u8>, LoadFault>
     ensures read { IfOk result (λ bytes. value_bytes of_type (view value.now) ≡ Some bytes.items) }
     ensures refused { IfErr result (IsBadOrMemory (value_bytes of_type (view value.now))) }
 {
@@ -110,11 +110,7 @@ pub(crate) fn value_bytes(alloc: Global, of_type: AttributeType, value: &Value) 
 }
 
 /// Reads an array of values, and returns their bytes.
-fn array_bytes(
-    alloc: Global,
-    element: ElementaryType,
-    value: &Value,
-) -> Result<Vec<u8>, LoadFault>
+fn array_bytes(alloc: Global, element: ElementaryType, value: &Value) -> Result<Vec<u8>, LoadFault>
     ensures read { IfOk result (λ bytes. array_bytes element (view value.now) ≡ Some bytes.items) }
     ensures refused { IfErr result (IsBadOrMemory (array_bytes element (view value.now))) }
 {
@@ -186,7 +182,11 @@ fn element_range(
 }
 
 /// The bits of a bound, or these if it is left out.
-pub(crate) fn bound(element: ElementaryType, value: Option<&Value>, default: u64) -> Result<u64, LoadFault>
+pub(crate) fn bound(
+    element: ElementaryType,
+    value: Option<&Value>,
+    default: u64,
+) -> Result<u64, LoadFault>
     ensures read { IfOk result (λ bits. bound_bits element (option_map (λ v. view v.now) value.entry) default
         ≡ Some bits) }
     ensures refused { IfErr result (IsBad (bound_bits element (option_map (λ v. view v.now) value.entry) default)) }

@@ -44,7 +44,12 @@ pub(crate) fn bad_number(table: &Table, row: Row) -> Option<Problem> {
 }
 
 /// What is wrong with a number.
-pub(crate) fn out_of_range(name: &'static str, value: &Value, least: u64, greatest: u64) -> Option<Problem> {
+pub(crate) fn out_of_range(
+    name: &'static str,
+    value: &Value,
+    least: u64,
+    greatest: u64,
+) -> Option<Problem> {
     if number_in(value, least, greatest).is_ok() {
         return None;
     }

@@ -10,6 +10,7 @@ mod exchanges;
 mod ladders;
 mod ledger;
 mod once;
+mod own_objects;
 mod replaying;
 mod showing;
 mod streams;
