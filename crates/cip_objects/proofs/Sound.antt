@@ -1,14 +1,17 @@
 -- What holds of a configuration that no check refuses.
-use Rattle.std.proofs.Common.{◌≡◌, ℕ, zero, suc, ◌<◌, ◌≤◌, eqb, Bool, true, false, cond, ◌||◌, nat_lt, List, [], ◌∷◌, length, get_or, map, sum, Option, Some, None, refl, arith}
+use Rattle.std.proofs.Common.{◌≡◌, ℕ, zero, suc, ◌<◌, ◌≤◌, eqb, Bool, true, false, cond, ◌||◌, nat_lt, List, [], ◌∷◌, length, get_or, map, sum, Option, Some, None, option_map, refl, arith}
 use Rattle.std.proofs.lemmas.Bool.Decides.{nat_tests}
 use Rattle.std.specs.List.{list_any, All}
 use Rattle.std.specs.String.{string_bytes}
+use Rattle.cip_application.specs.declared.config.ObjectFault.{ObjectFault}
+use Rattle.cip_application.specs.Configuration.{fault_of as objects_fault, objects_of_config}
 use Rattle.cip_objects.specs.declared.config.Config.{Config}
 use Rattle.cip_objects.specs.declared.config.AssemblyConfig.{AssemblyConfig}
 use Rattle.cip_objects.specs.declared.config.ConfigFault.{ConfigFault}
 use Rattle.cip_objects.specs.Limits.{LONGEST_DATA}
-use Rattle.cip_objects.specs.Configuration.{fault_of, is_invalid_name, is_invalid_size, are_invalid_members, are_invalid_instances, instances, assembly_of_config}
-use Rattle.cip_objects.specs.Entries.{NoneIsClass}
+use Rattle.cip_objects.specs.Configuration.{fault_of, config_fault, is_invalid_name, is_invalid_size, are_invalid_members, are_invalid_instances, instances, assembly_of_config}
+use Rattle.cip_objects.specs.Entries.{NoneIsClass, AreApart, object_shape_of}
+use Rattle.cip_objects.proofs.ObjectsApart.{apart_objects}
 
 pub record IsSound (c : Config) : Type 0 where
   pub name : length (string_bytes c.name) ≤ 32
@@ -17,6 +20,7 @@ pub record IsSound (c : Config) : Type 0 where
   pub split : All (λ a. length a.members.items ≤ 64) c.assemblies.items
   pub numbered : NoneIsClass (map assembly_of_config c.assemblies.items)
   pub counter : c.counter.value ≤ c.counter.limit
+  pub free : AreApart c.counter.enabled (map object_shape_of (objects_of_config c.objects.items))
 
 none_cond : (b : Bool) (x : ConfigFault) (r : Option ConfigFault) → cond b (Some x) r ≡ None → (b ≡ false) × (r ≡ None)
 none_cond true x r e = absurd (cc)
@@ -44,6 +48,10 @@ numbers (x ∷ xs) e =
     let number = or_false (eqb x.instance 0) _ here.0 in
     (above x.instance number.0, numbers xs here.1)
 
+no_fault : (f : Option ObjectFault) → option_map config_fault f ≡ None → f ≡ None
+no_fault None e = refl
+no_fault (Some x) e = absurd (cc)
+
 pub sound : (c : Config) → fault_of c ≡ None → IsSound c
 unfolding fault_of
 sound c e =
@@ -61,4 +69,5 @@ sound c e =
       split = λ k d h. at_most 64 (length (get_or c.assemblies.items k d).members.items) (or_false _ _ (none_any are_invalid_members c.assemblies.items split.0 k d h)).0;
       numbered = numbers c.assemblies.items number.0;
       counter = at_most c.counter.limit c.counter.value limit.0;
+      free = apart_objects c.counter.enabled c.objects.items (no_fault (objects_fault c.counter.enabled c.objects.items) limit.1);
     }

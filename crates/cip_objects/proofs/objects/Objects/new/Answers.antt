@@ -34,9 +34,10 @@ invariant_of-result c =
     record {
       few = omega (arith, s.few, ap length items, length-map c.args.config.now.assemblies.items assembly_of_config);
       numbered = rw items s.numbered;
-      value = rw c.new.ensures.new c.new.ensures.value;
-      limit = rw c.new.ensures.new c.new.ensures.limit;
-      additions = rw c.new.ensures.new (omega arith);
+      free = rw (ap (λ k. k.enabled) c.new.ensures.new, own) s.free;
+      value = rw (ap (λ k. k.value) c.new.ensures.new) c.new.ensures.value;
+      limit = rw (ap (λ k. k.limit) c.new.ensures.new) c.new.ensures.limit;
+      additions = rw (ap (λ k. k.additions) c.new.ensures.new) (omega arith);
     }
 
 pub returns-clause-made : goal.returns-clause-made

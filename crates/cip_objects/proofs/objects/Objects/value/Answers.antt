@@ -18,5 +18,5 @@ returns-in-Assembly-clause-value c =
     let p : IsAssemblyIndex m.shapes assembly_index = subst (Exists m.shapes) c.in-Assembly.is c.requires in
     c.attribute-in-Assembly.ensures.value
     ∙ ap (λ b. attribute_in a (assembly_attributes b)) c.index.ensures
-    ∙ sym (place_value c.self.inside m assembly_index a c.index.result.now c.self.view_is c.self.invariant.numbered p)
+    ∙ sym (place_value c.self.inside m assembly_index a c.index.result.now c.self.view_is c.self.invariant.numbered c.self.invariant.free p)
     ∙ ap (λ d. value_to m d a) (sym c.in-Assembly.is)

@@ -1,0 +1,6 @@
+pub mod Numbers
+pub mod Lookup
+pub mod Sound
+pub mod Contents
+pub mod Writes
+pub mod AfterSet

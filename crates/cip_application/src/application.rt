@@ -1,0 +1,233 @@
+//! The application objects of a device: a list of objects to a caller.
+//! Text: docs/PROTOCOL.md, "Objects".
+ghost use Rattle.std.specs.Prelude.{◌≡◌, ◌≤◌, ◌<◌, IfOk, IfErr, IfSome, OnErr, OnOk, Ok, Err, Some, None, length, option_map};
+ghost use Rattle.std.specs.Prelude.{option_copied, option_and_then, unwrap_or, is_some, slice_index_or, map};
+ghost use Rattle.std.specs.List.{All};
+ghost use Rattle.std.specs.Box.{boxed_slice_items};
+ghost use Rattle.cip_application.specs.Attributes.{AttributeValues, attribute_at, can_be_set};
+ghost use Rattle.cip_application.specs.Configuration.{fault_of, objects_of_config, object_of_config, AreOwn, AreInOrder};
+ghost use Rattle.cip_application.specs.Objects.{ObjectValues, position_of, object_in, value_in, value_of, service_in};
+ghost use Rattle.cip_application.specs.Objects.{objects_set, objects_write, changes_of, class_of};
+ghost use Rattle.cip_application.specs.Whole.{IsSound};
+
+use crate::attribute::SetFault;
+use crate::config::{ObjectConfig, ObjectFault, ServiceConfig, fault};
+use crate::kind::VALUE_LIMIT;
+use crate::object::Object;
+use std::alloc::{AllocError, Global};
+use std::boxed::BoxedSlice;
+use std::marker::Model;
+
+/// What a class has: attributes 2 and 3 of its instance 0 (Volume 1, class attributes).
+#[derive(Clone, Copy, Debug)]
+pub struct ClassSummary {
+    /// The greatest instance number.
+    pub greatest: u16,
+    /// The number of instances.
+    pub instances: u16,
+}
+
+/// The application objects of a device. Only `new` allocates.
+///
+/// ```
+/// let mut objects = ApplicationObjects::new(alloc, true, &configs)?;
+/// objects.write(768, 1, 1, 0, &[0x10, 0x27]); // the device writes attribute 1 of instance 1 of class 768
+/// let value = objects.read(768, 1, 1);
+/// ```
+#[derive(Debug, Drop)]
+pub struct ApplicationObjects {
+    objects: BoxedSlice<Object>,
+}
+
+impl Model for ApplicationObjects {
+    ghost use Rattle.std.specs.Prelude.{List};
+    ghost use Rattle.std.specs.Box.{boxed_slice_items};
+    ghost use Rattle.cip_application.specs.Objects.{ObjectValues};
+
+    ghost Value = { List ObjectValues };
+
+    ghost view = { λ o. boxed_slice_items o.objects };
+
+    ghost use Rattle.cip_application.specs.Whole.{AreFew};
+
+    ghost invariant = { λ o. AreFew o };
+}
+
+impl ApplicationObjects {
+    /// Makes the objects of a configuration. `counter` says whether the adapter has its counter, so that no object can
+    /// have the counter's class.
+    ///
+    /// # Errors
+    ///
+    /// The first check of the configuration that fails, in the order of `ObjectFault`. `Memory` only if all hold and
+    /// memory is refused.
+    pub fn new(
+        alloc: Global,
+        counter: bool,
+        configs: &[ObjectConfig],
+    ) -> Result<ApplicationObjects, ObjectFault>
+        ensures refused { IfSome (fault_of counter configs.now) (λ fault. result ≡ Err fault) }
+        ensures allowed { fault_of counter configs.now ≡ None → IfErr result (λ fault. fault ≡ ObjectFault.Memory) }
+        ensures made { IfOk result (λ objects. objects ≡ objects_of_config configs.now) }
+        ensures own { IfOk result (AreOwn counter) }
+        ensures in_order { IfOk result (All (λ o. AreInOrder o.attributes)) }
+    {
+        if let Some(fault) = fault(counter, configs) {
+            return Err(fault);
+        }
+        Ok(ApplicationObjects {
+            objects: objects_of(alloc, configs)?,
+        })
+    }
+
+    /// The number of objects.
+    pub fn count(&self) -> usize
+        ensures { result ≡ length self.now }
+    {
+        self.objects.len()
+    }
+
+    /// The index of the object of this class with this instance number.
+    pub fn position(&self, class: u16, instance: u32) -> Option<usize>
+        ensures position { result ≡ position_of class instance self.now }
+        ensures within { IfSome result (λ k. k < length self.now) }
+    {
+        for (i, object) in self.objects.iter().enumerate() {
+            if object.class() == class && u32::from(object.instance()) == instance {
+                return Some(i);
+            }
+        }
+        None
+    }
+
+    /// The value of an attribute of the object at an index, or `None` if it has no such attribute.
+    pub fn attribute(&self, position: usize, number: u16) -> Option<&[u8]>
+        requires { position < length self.now }
+        ensures value { option_copied result ≡ value_in (object_in self.now position) number }
+        ensures short { IfSome result (λ value. length value.now ≤ VALUE_LIMIT) }
+    {
+        self.objects[position].value(number)
+    }
+
+    /// The number of attributes of the object at an index.
+    pub fn attribute_count(&self, position: usize) -> usize
+        requires { position < length self.now }
+        ensures { result ≡ length (object_in self.now position).attributes }
+    {
+        self.objects[position].attribute_count()
+    }
+
+    /// The value of an attribute of the object at an index, by the attribute's index in the order of the numbers.
+    pub fn value_at(&self, position: usize, index: usize) -> &[u8]
+        requires object { position < length self.now }
+        requires attribute { index < length (object_in self.now position).attributes }
+        ensures value { (d : AttributeValues)
+            → result.now ≡ (slice_index_or (object_in self.now position).attributes index d).value }
+        ensures short { length result.now ≤ VALUE_LIMIT }
+    {
+        self.objects[position].value_at(index)
+    }
+
+    /// Whether peers can set an attribute of the object at an index without a question to the owner of the device.
+    pub fn is_settable(&self, position: usize, number: u16) -> bool
+        requires { position < length self.now }
+        ensures { result ≡ can_be_set (attribute_at number (object_in self.now position).attributes) }
+    {
+        self.objects[position].is_settable(number)
+    }
+
+    /// Sets an attribute of the object at an index to these data, for a peer. A set that is executed is counted.
+    ///
+    /// # Errors
+    ///
+    /// The first check that fails, in the order of `SetFault`. Nothing changes then.
+    pub fn set(&mut self, position: usize, number: u16, data: &[u8]) -> Result<(), SetFault>
+        requires { position < length self.old }
+        ensures set { OnOk result (objects_set self.old position number data.now ≡ Ok self.new) }
+        ensures fault { IfErr result (λ fault. objects_set self.old position number data.now ≡ Err fault) }
+        ensures refused { OnErr result (self.new ≡ self.old) }
+    {
+        self.objects[position].set(number, data)
+    }
+
+    /// The own service of the object at an index that has this number.
+    pub fn service(&self, position: usize, number: u8) -> Option<ServiceConfig>
+        requires { position < length self.now }
+        ensures { result ≡ service_in number (object_in self.now position).services }
+    {
+        self.objects[position].service(number)
+    }
+
+    /// The greatest instance number of a class and the number of its instances, or `None` if it has no instance.
+    pub fn class(&self, class: u16) -> Option<ClassSummary>
+        ensures { result ≡ class_of class self.now }
+    {
+        let mut greatest: u16 = 0;
+        let mut instances: u16 = 0;
+        for object in self.objects.iter() {
+            if object.class() == class {
+                greatest = greatest.max(object.instance());
+                instances += 1;
+            }
+        }
+        if instances == 0 {
+            return None;
+        }
+        Some(ClassSummary {
+            greatest,
+            instances,
+        })
+    }
+
+    /// The value of an attribute, for the device itself, or `None` if there is no such attribute.
+    pub fn read(&self, class: u16, instance: u32, attribute: u16) -> Option<&[u8]>
+        ensures value { option_copied result ≡ value_of self.now class instance attribute }
+        ensures short { IfSome result (λ value. length value.now ≤ VALUE_LIMIT) }
+    {
+        let position = self.position(class, instance)?;
+        self.attribute(position, attribute)
+    }
+
+    /// Writes bytes into an attribute from an offset on, for the device itself, even if peers cannot set it, and
+    /// returns whether it did. The bytes must end within the value; a SHORT_STRING is written as a whole. Otherwise, or
+    /// if there is no such attribute, it returns `false` and changes nothing. It is not counted as a change, and the
+    /// attribute's range does not bind it.
+    pub fn write(
+        &mut self,
+        class: u16,
+        instance: u32,
+        attribute: u16,
+        offset: usize,
+        bytes: &[u8],
+    ) -> bool
+        ensures written { self.new
+            ≡ unwrap_or (objects_write self.old class instance attribute offset bytes.now) self.old }
+        ensures reported { result ≡ is_some (objects_write self.old class instance attribute offset bytes.now) }
+    {
+        let Some(position) = self.position(class, instance) else {
+            return false;
+        };
+        self.objects[position].write(attribute, offset, bytes)
+    }
+
+    /// How often peers have set an attribute, modulo 2^32. Refused sets and the device's own writes do not count.
+    /// `None` if there is no such attribute.
+    pub fn changes(&self, class: u16, instance: u32, attribute: u16) -> Option<u32>
+        ensures { result ≡ changes_of self.now class instance attribute }
+    {
+        let position = self.position(class, instance)?;
+        self.objects[position].changes(attribute)
+    }
+}
+
+/// Makes the objects of a configuration.
+fn objects_of(alloc: Global, configs: &[ObjectConfig]) -> Result<BoxedSlice<Object>, AllocError>
+    requires { All IsSound configs.now }
+    ensures { IfOk result (λ objects. boxed_slice_items objects ≡ map object_of_config configs.now) }
+{
+    let mut objects = Vec::with_capacity(alloc, configs.len())?;
+    for config in configs {
+        objects.push(Object::new(alloc, config)?)?;
+    }
+    Ok(objects.into_boxed_slice())
+}

@@ -1,0 +1,13 @@
+//! What holds of every set. The functions do nothing: their clauses are the laws.
+
+ghost use Rattle.cip_application.specs.Laws.{get_after_set_law, set_leaves_others_law};
+
+/// After a set that is executed, the attribute has the value that was set.
+pub fn get_after_set()
+    ensures { get_after_set_law }
+{}
+
+/// A set changes the value of no other attribute, of this object or of another.
+pub fn set_leaves_others()
+    ensures { set_leaves_others_law }
+{}
