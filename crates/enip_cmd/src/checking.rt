@@ -96,11 +96,7 @@ fn print_limits<W: Write>(output: &mut W, configuration: &Configuration) -> io::
 /// Assembly.)
 fn print_assembly<W: Write>(output: &mut W, assembly: &AssemblyConfig) -> io::Result<()> {
     let instance = assembly.instance;
-    let access = if assembly.settable {
-        "settable"
-    } else {
-        "read-only"
-    };
+    let access = access_of(assembly.settable);
     let bytes = assembly
         .members
         .iter()
@@ -113,6 +109,11 @@ fn print_assembly<W: Write>(output: &mut W, assembly: &AssemblyConfig) -> io::Re
         write!(output, " {size}")?;
     }
     writeln!(output)
+}
+
+/// What clients can do with data: set them too, or only read them.
+fn access_of(settable: bool) -> &'static str {
+    if settable { "settable" } else { "read-only" }
 }
 
 /// Prints an own object: its class, its instance and its name, then a line for each attribute and each service.
@@ -148,12 +149,7 @@ fn print_attribute<W: Write>(
     let number = attribute.number;
     write!(output, "  attribute {number}, {of_type}, value ")?;
     print_value(alloc, output, value_type_of(of_type), &attribute.value)?;
-    let access = if attribute.settable {
-        "settable"
-    } else {
-        "read-only"
-    };
-    write!(output, ", {access}")?;
+    write!(output, ", {}", access_of(attribute.settable))?;
     if attribute.checked {
         write!(output, ", checked")?;
     }
