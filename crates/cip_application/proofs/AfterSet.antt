@@ -1,5 +1,5 @@
 -- What is read after a set.
-use Rattle.std.proofs.Common.{◌≡◌, ℕ, zero, suc, ◌+◌, ◌<◌, eqb, Bool, true, false, cond, List, [], ◌∷◌, length, get_or, set, Option, Some, None, Result, Ok, Err, option_map, ok_or, refl, sym, ap, ◌∙◌, arith}
+use Rattle.std.proofs.Common.{◌≡◌, ℕ, zero, suc, ◌<◌, eqb, Bool, true, false, cond, List, [], ◌∷◌, length, get_or, set, Option, Some, None, Result, Ok, Err, option_map, ok_or, refl, sym, ap, ◌∙◌, arith}
 use Rattle.std.proofs.lemmas.Bool.Decides.{nat_tests}
 use Rattle.std.proofs.lemmas.Bool.{eqb-true}
 use Rattle.cip_bytes.specs.Reading.{◌>>=◌, ◌>>◌, map_ok}
@@ -10,7 +10,7 @@ use Rattle.cip_application.specs.Check.{demand}
 use Rattle.cip_application.specs.Laws.{get_after_set_law, set_leaves_others_law}
 use Rattle.cip_application.specs.Objects.{ObjectValues, value_in, object_with, object_set, object_in, objects_set}
 use Rattle.cip_application.specs.Values.{check_value}
-use Rattle.cip_application.proofs.Lookup.{eqb-same, eqb-other, same_get}
+use Rattle.cip_application.proofs.Lookup.{eqb-same, eqb-other}
 
 apart : (a b : ℕ) → eqb a b ≡ false → a ≡ b → ⊥
 apart a b e h = grind (arith, nat_tests)
@@ -54,19 +54,20 @@ pub record WasSet (o p : ObjectValues) (n : ℕ) (content : List ℕ) (a b : Att
   pub at : attribute_at n o.attributes ≡ Some a
   pub number : b.number ≡ n
   pub value : b.value ≡ content
+  pub allowed : check_value b.kind b.value ≡ Ok tt
   pub after : p ≡ object_with o b
 
-was_set_with : (o p : ObjectValues) (n : ℕ) (content : List ℕ) (a : AttributeValues) → attribute_at n o.attributes ≡ Some a → (s t : Result (Unit {0}) SetFault) → ((s >> (t >> Ok (record a { value = content; changes = one_more a.changes }))) >>= (λ after. Ok (object_with o after))) ≡ Ok p → WasSet o p n content a (record a { value = content; changes = one_more a.changes })
-was_set_with o p n content a at (Ok u) (Ok v) e = record { at = at; number = found n o.attributes a at; value = refl; after = cc }
-was_set_with o p n content a at (Ok u) (Err f) e = absurd (cc)
-was_set_with o p n content a at (Err f) t e = absurd (cc)
+was_set_with : (o p : ObjectValues) (n : ℕ) (content : List ℕ) (a : AttributeValues) → attribute_at n o.attributes ≡ Some a → (s t : Result (Unit {0}) SetFault) → check_value a.kind content ≡ t → ((s >> (t >> Ok (record a { value = content; changes = one_more a.changes }))) >>= (λ after. Ok (object_with o after))) ≡ Ok p → WasSet o p n content a (record a { value = content; changes = one_more a.changes })
+was_set_with o p n content a at (Ok u) (Ok v) c e = record { at = at; number = found n o.attributes a at; value = refl; allowed = c; after = cc }
+was_set_with o p n content a at (Ok u) (Err f) c e = absurd (cc)
+was_set_with o p n content a at (Err f) t c e = absurd (cc)
 
 was_set_at : (o p : ObjectValues) (n : ℕ) (content : List ℕ) (w : Option AttributeValues) → attribute_at n o.attributes ≡ w → (ok_or w AttributeNotSupported >>= (λ y. attribute_set y content >>= (λ after. Ok (object_with o after)))) ≡ Ok p → (a : AttributeValues) × (b : AttributeValues) × WasSet o p n content a b
 was_set_at o p n content None at e = absurd (cc)
 was_set_at o p n content (Some a) at e =
-    (a, record a { value = content; changes = one_more a.changes }, was_set_with o p n content a at (demand a.settable AttributeNotSettable) (check_value a.kind content) e)
+    (a, record a { value = content; changes = one_more a.changes }, was_set_with o p n content a at (demand a.settable AttributeNotSettable) (check_value a.kind content) refl e)
 
-was_set : (o p : ObjectValues) (n : ℕ) (content : List ℕ) → object_set o n content ≡ Ok p → (a : AttributeValues) × (b : AttributeValues) × WasSet o p n content a b
+pub was_set : (o p : ObjectValues) (n : ℕ) (content : List ℕ) → object_set o n content ≡ Ok p → (a : AttributeValues) × (b : AttributeValues) × WasSet o p n content a b
 was_set o p n content e = was_set_at o p n content (attribute_at n o.attributes) refl e
 
 set_value : (o p : ObjectValues) (n : ℕ) (content : List ℕ) → object_set o n content ≡ Ok p → value_in p n ≡ Some content

@@ -4,3 +4,4 @@ pub mod Sound
 pub mod Contents
 pub mod Writes
 pub mod AfterSet
+pub mod Allowed

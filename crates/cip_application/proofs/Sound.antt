@@ -1,5 +1,5 @@
 -- What holds of a configuration that no check refuses.
-use Rattle.std.proofs.Common.{◌≡◌, ℕ, zero, suc, ◌+◌, ◌<◌, ◌≤◌, eqb, Bool, true, false, cond, ◌||◌, ◌&&◌, nat_lt, nat_le, List, [], ◌∷◌, length, get_or, map, sum, Option, Some, None, Result, Ok, Err, is_err, slice_index, option_map, refl, ap, ◌∙◌, arith}
+use Rattle.std.proofs.Common.{◌≡◌, ℕ, zero, suc, ◌+◌, ◌<◌, ◌≤◌, eqb, Bool, true, false, cond, ◌||◌, ◌&&◌, nat_lt, nat_le, List, [], ◌∷◌, length, get_or, map, Option, Some, None, Result, Ok, Err, is_err, slice_index, option_map, refl, ap, ◌∙◌, arith}
 use Rattle.std.proofs.lemmas.Bool.Decides.{nat_tests}
 use Rattle.std.specs.List.{list_any, All}
 use Rattle.cip_bytes.specs.Reading.{◌>>◌}
@@ -11,10 +11,10 @@ use Rattle.cip_application.specs.declared.config.ObjectFault.{ObjectFault}
 use Rattle.cip_application.specs.declared.kind.AttributeKind.{AttributeKind}
 use Rattle.cip_application.specs.declared.kind.AttributeKind.TheVariants.{Fixed, ShortString}
 use Rattle.cip_application.specs.Check.{demand}
-use Rattle.cip_application.specs.Attributes.{AttributeValues, attribute_at, with_placed, in_order}
-use Rattle.cip_application.specs.Objects.{position_of}
+use Rattle.cip_application.specs.Attributes.{AttributeValues, attribute_at, with_placed, in_order, AreAllowed}
+use Rattle.cip_application.specs.Objects.{position_of, AllAllowed}
 use Rattle.cip_application.specs.Values.{capacity, is_allowed, check_value}
-use Rattle.cip_application.specs.Configuration.{is_taken_class, has_invalid_name, is_invalid_object, has_object, are_invalid_objects, has_invalid_range, is_invalid_kind, is_invalid_attribute, are_invalid_attributes, has_invalid_attributes, total_capacity, has_invalid_services, fault_of, attribute_of_config, object_of_config, AreOwn, IsBefore, AreInOrder}
+use Rattle.cip_application.specs.Configuration.{is_taken_class, has_invalid_name, is_invalid_object, has_object, are_invalid_objects, has_invalid_range, is_invalid_kind, is_invalid_attribute, are_invalid_attributes, has_invalid_attributes, total_capacity, fault_of, attribute_of_config, object_of_config, AreOwn, IsBefore, AreInOrder}
 use Rattle.cip_application.specs.Whole.{IsSound}
 
 none_cond : (b : Bool) (x : ObjectFault) (r : Option ObjectFault) → cond b (Some x) r ≡ None → (b ≡ false) × (r ≡ None)
@@ -174,10 +174,40 @@ each_in_order (x ∷ xs) e zero d h =
 each_in_order (x ∷ xs) e (suc k) d h =
     each_in_order xs (or_false (has_invalid_attributes x) (list_any has_invalid_attributes xs) e).1 k d (omega arith)
 
+-- the initial values are allowed
+no_fault : (r : Result (Unit {0}) SetFault) → is_err r ≡ false → r ≡ Ok tt
+no_fault (Ok u) e = refl
+no_fault (Err f) e = absurd (cc)
+
+placed_allowed : (a : AttributeValues) (xs : List AttributeValues) → check_value a.kind a.value ≡ Ok tt → AreAllowed xs → AreAllowed (with_placed a xs)
+placed_allowed a [] ok h = (ok, tt)
+placed_allowed a (b ∷ xs) ok h =
+    elim (nat_lt a.number b.number) as (λ t. AreAllowed (cond t (a ∷ b ∷ xs) (b ∷ with_placed a xs))) [
+      | true ↦ (ok, h)
+      | false ↦ (h.0, placed_allowed a xs ok h.1)
+    ]
+
+attributes_allowed : (xs : List AttributeConfig) → are_invalid_attributes xs ≡ false → AreAllowed (in_order (map attribute_of_config xs))
+attributes_allowed [] e = tt
+attributes_allowed (x ∷ xs) e =
+    let a = or_false (is_invalid_attribute x || list_any (λ b. eqb b.number x.number) xs) (are_invalid_attributes xs) e in
+    let b = or_false (is_invalid_attribute x) (list_any (λ b. eqb b.number x.number) xs) a.0 in
+    let p = or_false (eqb x.number 0 || is_invalid_kind x.kind) (is_err (check_value x.kind x.value.items)) b.0 in
+    placed_allowed (attribute_of_config x) (in_order (map attribute_of_config xs)) (no_fault (check_value x.kind x.value.items) p.1)
+    (attributes_allowed xs a.1)
+
+objects_allowed : (xs : List ObjectConfig) → list_any has_invalid_attributes xs ≡ false → AllAllowed (map object_of_config xs)
+objects_allowed [] e = tt
+objects_allowed (x ∷ xs) e =
+    let a = or_false (has_invalid_attributes x) (list_any has_invalid_attributes xs) e in
+    let p = or_false (nat_lt 32 (length x.attributes.items)) (are_invalid_attributes x.attributes.items) a.0 in
+    (attributes_allowed x.attributes.items p.1, objects_allowed xs a.1)
+
 pub record AreSound (counter : Bool) (xs : List ObjectConfig) : Type 0 where
   pub few : length xs ≤ 32
   pub sound : All IsSound xs
   pub own : AreOwn counter (map object_of_config xs)
+  pub allowed : AllAllowed (map object_of_config xs)
   pub in_order : All (λ o. AreInOrder o.attributes) (map object_of_config xs)
 
 pub sound : (counter : Bool) (xs : List ObjectConfig) → fault_of counter xs ≡ None → AreSound counter xs
@@ -191,5 +221,6 @@ sound counter xs e =
       few = at_most 32 (length xs) p.0;
       sound = λ k d h. object_sound (get_or xs k d) (none_any has_invalid_attributes xs q.0 k d h);
       own = own_objects counter xs p.1;
+      allowed = objects_allowed xs q.0;
       in_order = each_in_order xs q.0;
     }

@@ -1,9 +1,9 @@
 -- What a set by a peer and a write by the device change, by indices.
-use Rattle.std.proofs.Common.{◌≡◌, ℕ, zero, suc, ◌<◌, List, [], ◌∷◌, length, get_or, set, Option, Some, None, Result, Ok, Err, OnOk, IfErr, option_map, option_and_then, ok_or, unwrap_or, is_some, refl, sym, ap, ◌∙◌, arith, subst}
+use Rattle.std.proofs.Common.{◌≡◌, ℕ, zero, suc, ◌<◌, List, [], ◌∷◌, length, get_or, set, Option, Some, None, Result, Ok, Err, OnOk, IfErr, option_map, option_and_then, ok_or, unwrap_or, is_some, refl, sym, ap, ◌∙◌}
 use Rattle.cip_bytes.specs.Reading.{◌>>=◌, ◌>>◌, map_ok}
 use Rattle.cip_application.specs.declared.attribute.SetFault.{SetFault}
 use Rattle.cip_application.specs.declared.attribute.SetFault.TheVariants.{AttributeNotSettable, AttributeNotSupported}
-use Rattle.cip_application.specs.Attributes.{AttributeValues, attribute_at, with_attribute, attribute_set, attribute_write, one_more}
+use Rattle.cip_application.specs.Attributes.{AttributeValues, attribute_at, attribute_set, attribute_write, one_more}
 use Rattle.cip_application.specs.Check.{demand}
 use Rattle.cip_application.specs.Objects.{ObjectValues, IsAttributeAt, object_with, object_set, object_write, position_of, object_in, objects_set, objects_write}
 use Rattle.cip_application.specs.Values.{check_value, written_value}

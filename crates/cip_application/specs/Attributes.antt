@@ -1,6 +1,6 @@
 -- An attribute of an application object: what the configuration fixed, its value, and how often peers set it.
-use Rattle.std.specs.Prelude.{ℕ, ◌+◌, ◌%◌, ◌^◌, Bool, false, not, ◌&&◌, ◌==◌, nat_lt, if◌then◌else◌, List, [], ◌∷◌, Option, Some, None}
-use Rattle.std.specs.Prelude.{option_map, Result, Ok, Err}
+use Rattle.std.specs.Prelude.{◌≡◌, ℕ, ◌+◌, ◌%◌, ◌^◌, Bool, false, not, ◌&&◌, ◌==◌, nat_lt, if◌then◌else◌, List, []}
+use Rattle.std.specs.Prelude.{◌∷◌, Option, Some, None, option_map, Result, Ok}
 use Rattle.cip_bytes.specs.Reading.{◌>>◌}
 use Rattle.cip_application.specs.declared.attribute.SetFault.{SetFault}
 use Rattle.cip_application.specs.declared.attribute.SetFault.TheVariants.{AttributeNotSettable}
@@ -32,6 +32,11 @@ abbrev pub with_attribute : AttributeValues → List AttributeValues → List At
 with_attribute a [] = []
 with_attribute a (b ∷ attributes) =
     if b.number == a.number then a ∷ attributes else b ∷ with_attribute a attributes
+
+-- Each value is one that its attribute may have.
+abbrev pub AreAllowed : List AttributeValues → Type 0
+AreAllowed [] = Unit {0}
+AreAllowed (a ∷ attributes) = (check_value a.kind a.value ≡ Ok tt) × AreAllowed attributes
 
 -- The count after one more change.
 abbrev pub one_more : ℕ → ℕ

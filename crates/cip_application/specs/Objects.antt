@@ -1,14 +1,15 @@
 -- The application objects, and what is read and written of them by class, instance and attribute (Volume 1, object
 -- model). The first object of a class and an instance number serves, and the first attribute of a number.
-use Rattle.std.specs.Prelude.{◌≡◌, ◌<◌, ℕ, ◌+◌, Bool, ◌==◌, ◌&&◌, if◌then◌else◌, List, [], ◌∷◌, length, max, slice_index_or}
-use Rattle.std.specs.Prelude.{slice_set, Option, Some, None, option_map, option_and_then, ok_or, Result, Ok, Err}
+use Rattle.std.specs.Prelude.{◌≡◌, ◌<◌, ℕ, ◌+◌, Bool, ◌==◌, ◌&&◌, if◌then◌else◌, List, [], ◌∷◌, length, max}
+use Rattle.std.specs.Prelude.{slice_index_or, slice_set, Option, Some, None, option_map, option_and_then, ok_or}
+use Rattle.std.specs.Prelude.{Result, Ok}
 use Rattle.cip_bytes.specs.Reading.{◌>>=◌, map_ok}
 use Rattle.cip_application.specs.declared.application.ClassSummary.{ClassSummary}
 use Rattle.cip_application.specs.declared.attribute.SetFault.{SetFault}
 use Rattle.cip_application.specs.declared.attribute.SetFault.TheVariants.{AttributeNotSupported}
 use Rattle.cip_application.specs.declared.config.ServiceConfig.{ServiceConfig}
 use Rattle.cip_application.specs.Attributes.{AttributeValues, attribute_at, with_attribute, attribute_set}
-use Rattle.cip_application.specs.Attributes.{attribute_write}
+use Rattle.cip_application.specs.Attributes.{attribute_write, AreAllowed}
 
 pub record ObjectValues : Type 0 where
   pub class : ℕ
@@ -40,7 +41,8 @@ object_set o number content = do
 -- The object after the device itself wrote these bytes into an attribute, from an offset on.
 abbrev pub object_write : ObjectValues → ℕ → ℕ → List ℕ → Option ObjectValues
 object_write o number offset bytes =
-    option_map (object_with o) (option_and_then (λ a. attribute_write a offset bytes) (attribute_at number o.attributes))
+    option_map (object_with o)
+    (option_and_then (λ a. attribute_write a offset bytes) (attribute_at number o.attributes))
 
 abbrev pub is_object : ℕ → ℕ → ObjectValues → Bool
 is_object class instance o = (o.class == class) && (o.instance == instance)
@@ -79,6 +81,11 @@ objects_write objects class instance number offset bytes =
     option_and_then
     (λ k. option_map (slice_set objects k) (object_write (object_in objects k) number offset bytes))
     (position_of class instance objects)
+
+-- Each value of each object is one that its attribute may have.
+abbrev pub AllAllowed : List ObjectValues → Type 0
+AllAllowed [] = Unit {0}
+AllAllowed (o ∷ objects) = AreAllowed o.attributes × AllAllowed objects
 
 -- The instance numbers of a class.
 abbrev pub instances_of : ℕ → List ObjectValues → List ℕ

@@ -1,5 +1,5 @@
 -- Worked examples: each order of numbers at its limits, the sizes of a SHORT_STRING, and the order of attributes.
-use Rattle.std.specs.Prelude.{◌≡◌, ℕ, [], ◌∷◌, Bool, Some, None, true, false, Ok, Err, refl}
+use Rattle.std.specs.Prelude.{◌≡◌, ℕ, [], ◌∷◌, Some, None, true, false, Ok, Err, refl}
 use Rattle.cip_application.specs.declared.attribute.SetFault.TheVariants.{NotEnoughData, TooMuchData}
 use Rattle.cip_application.specs.declared.attribute.SetFault.TheVariants.{InvalidAttributeValue, AttributeNotSettable}
 use Rattle.cip_application.specs.declared.attribute.SetFault.TheVariants.{AttributeNotSupported}
@@ -7,8 +7,8 @@ use Rattle.cip_application.specs.declared.kind.AttributeKind.{AttributeKind}
 use Rattle.cip_application.specs.declared.kind.AttributeKind.TheVariants.{Fixed, ShortString}
 use Rattle.cip_application.specs.declared.number.NumberRange.{NumberRange}
 use Rattle.cip_application.specs.declared.number.NumberType.{NumberType}
-use Rattle.cip_application.specs.declared.number.NumberType.TheVariants.{Usint, Uint, Sint, Int, Lint, Real, Lreal}
-use Rattle.cip_application.specs.Attributes.{AttributeValues, attribute_set, in_order}
+use Rattle.cip_application.specs.declared.number.NumberType.TheVariants.{Uint, Sint, Int, Lint, Real, Lreal}
+use Rattle.cip_application.specs.Attributes.{AttributeValues, in_order}
 use Rattle.cip_application.specs.Configuration.{is_taken_class, is_invalid_name, is_invalid_kind, is_invalid_service}
 use Rattle.cip_application.specs.Numbers.{is_at_most, is_within, are_within, numbers_of}
 use Rattle.cip_application.specs.Objects.{ObjectValues, object_set, object_write, position_of, class_of}

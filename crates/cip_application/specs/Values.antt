@@ -1,6 +1,6 @@
 -- The values that an attribute can have, by its kind (Volume 1, elementary data types).
 use Rattle.std.specs.Prelude.{ℕ, ◌+◌, ◌==◌, Bool, true, ◌&&◌, nat_le, if◌then◌else◌, List, ◌++◌, take, drop, length}
-use Rattle.std.specs.Prelude.{slice_index, Option, Some, None, Result, Ok, is_ok}
+use Rattle.std.specs.Prelude.{slice_index, Option, Some, None, Result, is_ok}
 use Rattle.cip_bytes.specs.Reading.{◌>>◌}
 use Rattle.cip_application.specs.declared.attribute.SetFault.{SetFault}
 use Rattle.cip_application.specs.declared.attribute.SetFault.TheVariants.{InvalidAttributeValue}

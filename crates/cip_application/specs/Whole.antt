@@ -1,7 +1,7 @@
 -- The invariants of what is in memory.
 use Rattle.std.specs.Prelude.{◌≡◌, ◌≤◌, length}
 use Rattle.std.specs.List.{All}
-use Rattle.std.specs.Box.{boxed_slice_items, boxed_slice_len}
+use Rattle.std.specs.Box.{boxed_slice_len}
 use Rattle.cip_application.specs.declared.attribute.Attribute.TheInside as attribute
 use Rattle.cip_application.specs.declared.application.ApplicationObjects.TheInside as objects
 use Rattle.cip_application.specs.declared.config.ObjectConfig.{ObjectConfig}

@@ -1,13 +1,14 @@
 //! The application objects of a device: a list of objects to a caller.
 //! Text: docs/PROTOCOL.md, "Objects".
-ghost use Rattle.std.specs.Prelude.{◌≡◌, ◌≤◌, ◌<◌, IfOk, IfErr, IfSome, OnErr, OnOk, Ok, Err, Some, None, length, option_map};
-ghost use Rattle.std.specs.Prelude.{option_copied, option_and_then, unwrap_or, is_some, slice_index_or, map};
+ghost use Rattle.std.specs.Prelude.{◌≡◌, ◌≤◌, ◌<◌, IfOk, IfErr, IfSome, OnErr, OnOk, Ok, Err, None, length};
+ghost use Rattle.std.specs.Prelude.{option_copied, unwrap_or, is_some, slice_index_or, map};
 ghost use Rattle.std.specs.List.{All};
 ghost use Rattle.std.specs.Box.{boxed_slice_items};
 ghost use Rattle.cip_application.specs.Attributes.{AttributeValues, attribute_at, can_be_set};
-ghost use Rattle.cip_application.specs.Configuration.{fault_of, objects_of_config, object_of_config, AreOwn, AreInOrder};
-ghost use Rattle.cip_application.specs.Objects.{ObjectValues, position_of, object_in, value_in, value_of, service_in};
-ghost use Rattle.cip_application.specs.Objects.{objects_set, objects_write, changes_of, class_of};
+ghost use Rattle.cip_application.specs.Configuration.{fault_of, objects_of_config, object_of_config, AreOwn};
+ghost use Rattle.cip_application.specs.Configuration.{AreInOrder};
+ghost use Rattle.cip_application.specs.Objects.{position_of, object_in, value_in, value_of, service_in, objects_set};
+ghost use Rattle.cip_application.specs.Objects.{objects_write, changes_of, class_of, AllAllowed};
 ghost use Rattle.cip_application.specs.Whole.{IsSound};
 
 use crate::attribute::SetFault;
@@ -70,6 +71,7 @@ impl ApplicationObjects {
         ensures allowed { fault_of counter configs.now ≡ None → IfErr result (λ fault. fault ≡ ObjectFault.Memory) }
         ensures made { IfOk result (λ objects. objects ≡ objects_of_config configs.now) }
         ensures own { IfOk result (AreOwn counter) }
+        ensures values { IfOk result AllAllowed }
         ensures in_order { IfOk result (All (λ o. AreInOrder o.attributes)) }
     {
         if let Some(fault) = fault(counter, configs) {

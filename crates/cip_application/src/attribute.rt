@@ -1,10 +1,9 @@
 //! An attribute of an application object: its value in memory of a fixed size, and how often peers set it.
 //! Text: docs/PROTOCOL.md, "Objects".
-ghost use Rattle.std.specs.Prelude.{◌≡◌, ◌≤◌, ◌+◌, ◌<◌, IfOk, IfErr, OnErr, OnOk, Ok, Err, length, unwrap_or, is_some, insert, take, None};
-ghost use Rattle.std.specs.Prelude.{is_ok, ◌==◌, ◌&&◌, nat_le, not};
+ghost use Rattle.std.specs.Prelude.{◌≡◌, ◌≤◌, ◌+◌, IfOk, IfErr, OnErr, OnOk, Ok, Err, length, unwrap_or, is_some};
+ghost use Rattle.std.specs.Prelude.{◌&&◌, nat_le, not};
 ghost use Rattle.cip_application.specs.Values.{capacity, with_bytes_at};
-ghost use Rattle.cip_application.specs.Attributes.{AttributeValues, attribute_set, attribute_write, with_placed};
-ghost use Rattle.cip_application.specs.Attributes.{attribute_at, one_more};
+ghost use Rattle.cip_application.specs.Attributes.{attribute_set, attribute_write};
 
 use crate::kind::{AttributeKind, VALUE_LIMIT};
 use std::alloc::{AllocError, Global};

@@ -1,7 +1,6 @@
 //! What application objects are made from, and which configurations are refused.
 //! Text: docs/PROGRAM.md, "The configuration".
-ghost use Rattle.std.specs.Prelude.{◌≡◌, ◌≤◌, ◌+◌, ◌-◌, ◌<◌, ◌==◌, ◌||◌, ◌&&◌, not, nat_lt, if◌then◌else◌, length, sum, map, is_err, Some};
-ghost use Rattle.std.specs.Prelude.{None};
+ghost use Rattle.std.specs.Prelude.{◌≡◌, ◌-◌, ◌==◌, nat_lt, if◌then◌else◌, Some, None};
 ghost use Rattle.std.specs.List.{list_any};
 ghost use Rattle.cip_application.specs.Configuration.{is_taken_class, is_invalid_name, is_invalid_object, has_object};
 ghost use Rattle.cip_application.specs.Configuration.{are_invalid_objects, is_invalid_range, is_invalid_kind};

@@ -1,7 +1,8 @@
 //! An application object: its attributes in the order of their numbers, and its own services.
 //! Text: docs/PROTOCOL.md, "Objects".
-ghost use Rattle.std.specs.Prelude.{◌≡◌, ◌≤◌, ◌<◌, ◌+◌, IfOk, IfErr, IfSome, OnErr, OnOk, Ok, Err, MatchOption, Some, None, length, map};
-ghost use Rattle.std.specs.Prelude.{option_map, option_copied, unwrap_or, is_some, insert, slice_index_or};
+ghost use Rattle.std.specs.Prelude.{◌≡◌, ◌≤◌, ◌<◌, IfOk, IfErr, IfSome, OnErr, OnOk, Ok, Err, MatchOption, None};
+ghost use Rattle.std.specs.Prelude.{length, map, option_map, option_copied, unwrap_or, is_some, insert};
+ghost use Rattle.std.specs.Prelude.{slice_index_or};
 ghost use Rattle.std.specs.List.{All};
 ghost use Rattle.std.specs.Box.{boxed_slice_items};
 ghost use Rattle.cip_application.specs.Attributes.{AttributeValues, attribute_at, can_be_set, with_placed, in_order};

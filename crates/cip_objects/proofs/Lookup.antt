@@ -269,7 +269,7 @@ parts : (d : IdentityValues) (bs : List AssemblyValues) (c : CounterValues) (os 
 unfolding entries_of
 parts d bs c os q h =
     let counter = if_enabled q c.enabled (eqb q.class COUNTER) c refl in
-    let own = find_own q c.enabled os h in
+    let own = sym (find_append q (class_entries (map object_shape_of os) (map object_shape_of os)) (object_entries os)) ∙ find_own q c.enabled os h in
     simp (find_append, find_at, find_blocks, counter, own)
 
 pick : {A : Type 0} (z o : Bool) (x y : Option A) → (z ≡ true → o ≡ false) → option_or (cond z x None) (cond o y None) ≡ cond z x (cond o y None)

@@ -18,6 +18,7 @@ use Rattle.cip_application.specs.Objects.{ObjectValues, position_of, object_in, 
 use Rattle.cip_application.specs.Values.{size_for, is_allowed as is_allowed_value, written_value}
 use Rattle.cip_objects.specs.declared.object_ref.ObjectRef.TheVariants as object_refs
 use Rattle.cip_objects.specs.declared.object_ref.Settable.TheVariants as settables
+use Rattle.cip_objects.specs.declared.service.Service.TheVariants.{GetAttributeSingle}
 use Rattle.cip_objects.specs.declared.status.Refusal.{Refusal}
 use Rattle.cip_objects.specs.declared.status.Refusal.TheVariants as refusals
 use Rattle.cip_objects.specs.ChangeServices.{Change, change, is_allowed_limit, is_allowed}
@@ -25,12 +26,14 @@ use Rattle.cip_objects.specs.Changes.{changes_at, counted_in}
 use Rattle.cip_objects.specs.Check.{demand, check_size}
 use Rattle.cip_objects.specs.Contents.{Contents, value_at, bytes_at, with_value, with_change}
 use Rattle.cip_objects.specs.DeviceWrites.{with_attribute_of, object_write}
-use Rattle.cip_objects.specs.Entries.{IdentityValues, AssemblyValues, CounterValues, AreApart, AreDistinct, NoneIsClass, attribute_in, attributes_of_class, class_attributes, object_attributes, object_shape_of, attribute_shape_of, object_tallies, contents_of, shapes_of}
+use Rattle.cip_objects.specs.Entries.{IdentityValues, AssemblyValues, CounterValues, AreApart, AreDistinct, NoneIsClass, attribute_in, attributes_of_class, class_attributes, counter_attributes, object_attributes, object_shape_of, attribute_shape_of, object_tallies, contents_of, shapes_of}
 use Rattle.cip_objects.specs.ObjectMap.{key}
 use Rattle.cip_objects.specs.ObjectRef.{IsFree, IsObjectIndex, IsObjectClass, IsSettable, kind_to_set, value_to, bytes_to, after_set, object_in as shape_in}
 use Rattle.cip_objects.specs.Status.{set_refusal}
-use Rattle.cip_objects.specs.Tables.{ObjectShape, AttributeShape, Shapes, object_at, position_at, attribute_at as shape_at_number, kind_of_settable, kind_in, numbers_in, greatest_number, services_of, application_services, object_services, is_counter_class}
-use Rattle.cip_objects.proofs.Lookup.{find_object, object_value, own_value, object_at-map, above_none, both_true, value_at-contents_of}
+use Rattle.cip_objects.specs.Tables.{ObjectShape, AttributeShape, Shapes, object_at, position_at, attribute_at as shape_at_number, kind_of_settable, kind_in, settable_kind, numbers_in, greatest_number, services_of, application_services, object_services, is_counter_class}
+use Rattle.cip_objects.proofs.Lookup.{find_object, object_value, own_value, object_at-map, above_none, both_true, taken_value, value_at-contents_of}
+use Rattle.cip_objects.proofs.Numbers.{enabled}
+use Rattle.cip_objects.proofs.ObjectRefs.{free_kind}
 use Rattle.cip_objects.proofs.ObjectWrites.{IsOwn, IsWritten, attributes_written, same_parts, attribute_counted, object_written, object_changed, map_set}
 use Rattle.cip_objects.proofs.Shapes.{shapes-contents, object_changes, in_object}
 
@@ -590,3 +593,78 @@ value_by_number d bs c os m k index a is h own p w =
     ap (λ s. bytes_to m (object_refs.Application k) (slice_index (map (λ x. x.number) s.attributes) index)) here
     ∙ ap (λ x. unwrap_or x []) (object_read d bs c os m k (slice_index (numbers o.attributes) index) is h own p)
     ∙ ap (λ x. unwrap_or (option_map (λ y. y.value) x) []) (attribute_by_index index o.attributes a f.distinct w)
+
+-- the application object that the shapes have at an index
+abbrev no_object : ObjectShape
+no_object = record { class = 0; instance = 0; attributes = []; services = [] }
+
+later_shape : (s : ObjectShape) (ss : List ObjectShape) (p : Option ℕ) → option_map (λ k. get_or ss k no_object) p ≡ option_map (λ k. get_or (s ∷ ss) k no_object) (option_map (λ k. k + 1) p)
+later_shape s ss None = refl
+later_shape s ss (Some k) =
+    let e : k + 1 ≡ suc k = omega arith in sym (ap (λ n. Some (get_or (s ∷ ss) n no_object)) e)
+
+shape_position : (class instance : ℕ) (ss : List ObjectShape) → object_at class instance ss ≡ option_map (λ k. get_or ss k no_object) (position_at class instance ss)
+shape_position class instance [] = refl
+shape_position class instance (s ∷ ss) =
+    ap (cond (eqb s.class class && eqb s.instance instance) (Some s)) (shape_position class instance ss ∙ later_shape s ss (position_at class instance ss))
+    ∙ elim (eqb s.class class && eqb s.instance instance) as (λ t. cond t (Some s) (option_map (λ k. get_or (s ∷ ss) k no_object) (option_map (λ k. k + 1) (position_at class instance ss))) ≡ option_map (λ k. get_or (s ∷ ss) k no_object) (cond t (Some 0) (option_map (λ k. k + 1) (position_at class instance ss)))) [
+      | true ↦ refl
+      | false ↦ refl
+    ]
+
+pub kind_at_index : (shapes : Shapes) (k n : ℕ) → IsObjectIndex shapes k → settable_kind shapes (shape_in shapes k).class (shape_in shapes k).instance n ≡ kind_in n (Some (shape_in shapes k))
+kind_at_index shapes k n p =
+    free_kind shapes (shape_in shapes k).class (shape_in shapes k).instance n p.free
+    ∙ ap (kind_in n) (shape_position (shape_in shapes k).class (shape_in shapes k).instance shapes.objects ∙ ap (option_map (λ j. get_or shapes.objects j no_object)) p.first)
+
+whole_kind : (o : Option AttributeKind) → is_some o ≡ true → Some (unwrap_or o (Fixed 0 None)) ≡ o
+whole_kind None e = absurd (cc)
+whole_kind (Some kind) e = refl
+
+no_kind : (o : Option AttributeKind) → is_some o ≡ false → o ≡ None
+no_kind None e = refl
+no_kind (Some kind) e = absurd (cc)
+
+pub kind_set : (shapes : Shapes) (k n : ℕ) → IsObjectIndex shapes k → is_some (kind_in n (Some (shape_in shapes k))) ≡ true → Some (kind_to_set shapes (settables.Attribute k n)) ≡ settable_kind shapes (shape_in shapes k).class (shape_in shapes k).instance n
+kind_set shapes k n p e = whole_kind (kind_in n (Some (shape_in shapes k))) e ∙ sym (kind_at_index shapes k n p)
+
+pub kind_unset : (shapes : Shapes) (k n : ℕ) → IsObjectIndex shapes k → is_some (kind_in n (Some (shape_in shapes k))) ≡ false → settable_kind shapes (shape_in shapes k).class (shape_in shapes k).instance n ≡ None
+kind_unset shapes k n p e = kind_at_index shapes k n p ∙ no_kind (kind_in n (Some (shape_in shapes k))) e
+
+-- the services of a free class
+pub free_services : (shapes : Shapes) (class instance : ℕ) → IsFree shapes class → services_of shapes class instance ≡ application_services class instance shapes.objects
+unfolding services_of
+free_services shapes class instance f = rw (f.identity, f.assembly, f.manager, f.counter) refl
+
+-- what a class and a number lead to, among the application objects
+pub services_at_place : (d : IdentityValues) (bs : List AssemblyValues) (c : CounterValues) (os : List ObjectValues) (m : Contents) (class instance : ℕ) → contents_of d bs c os ≡ m → eqb instance 0 ≡ false
+    → application_services class instance m.shapes.objects ≡ option_map (λ _. object_services) (position_of class instance os)
+services_at_place d bs c os m class instance is z =
+    let all = m.shapes.objects in
+    ap (λ t. cond t (cond (list_any (λ o. eqb o.class class) all) (Some (GetAttributeSingle ∷ [])) None) (option_map (λ _. object_services) (object_at class instance all))) z
+    ∙ ap (λ x. option_map (λ _. object_services) (object_at class instance x.objects)) (shapes-contents d bs c os m is)
+    ∙ ap (option_map (λ _. object_services)) (object_at-map class instance os ∙ ap (option_map object_shape_of) (find_position class instance os))
+    ∙ elim (position_of class instance os) as (λ p. option_map (λ _. object_services) (option_map object_shape_of (option_map (object_in os) p)) ≡ option_map (λ _. object_services) p) [
+      | None ↦ refl
+      | Some k ↦ refl
+    ]
+
+pub services_at_class : (d : IdentityValues) (bs : List AssemblyValues) (c : CounterValues) (os : List ObjectValues) (m : Contents) (class : ℕ) → contents_of d bs c os ≡ m
+    → application_services class 0 m.shapes.objects ≡ cond (list_any (λ o. eqb o.class class) (map object_shape_of os)) (Some (GetAttributeSingle ∷ [])) None
+services_at_class d bs c os m class is =
+    ap (λ x. cond (list_any (λ o. eqb o.class class) x.objects) (Some (GetAttributeSingle ∷ [])) None) (shapes-contents d bs c os m is)
+
+-- the values of the other objects
+pub manager_value : (d : IdentityValues) (bs : List AssemblyValues) (c : CounterValues) (os : List ObjectValues) (m : Contents) (n : ℕ) → contents_of d bs c os ≡ m → NoneIsClass bs → AreApart c.enabled (map object_shape_of os) → value_at m 6 1 n ≡ None
+manager_value d bs c os m n is h own =
+    ap (λ x. value_at x 6 1 n) (sym is) ∙ value_at-contents_of d bs c os h own 6 1 n ∙ taken_value c.enabled 6 1 n os own refl
+
+pub counter_value : (d : IdentityValues) (bs : List AssemblyValues) (c : CounterValues) (os : List ObjectValues) (m : Contents) (n : ℕ) → contents_of d bs c os ≡ m → NoneIsClass bs → AreApart c.enabled (map object_shape_of os) → m.shapes.has_counter ≡ true → value_at m 100 1 n ≡ attribute_in n (counter_attributes c)
+counter_value d bs c os m n is h own there =
+    ap (λ x. value_at x 100 1 n) (sym is) ∙ value_at-contents_of d bs c os h own 100 1 n
+    ∙ ap (λ t. cond t (attribute_in n (counter_attributes c)) (own_value 100 1 n os)) (enabled d bs c os m is there)
+
+pub counter_class_value : (d : IdentityValues) (bs : List AssemblyValues) (c : CounterValues) (os : List ObjectValues) (m : Contents) (n : ℕ) → contents_of d bs c os ≡ m → NoneIsClass bs → AreApart c.enabled (map object_shape_of os) → m.shapes.has_counter ≡ true → value_at m 100 0 n ≡ attribute_in n (class_attributes 1 1 1)
+counter_class_value d bs c os m n is h own there =
+    ap (λ x. value_at x 100 0 n) (sym is) ∙ value_at-contents_of d bs c os h own 100 0 n
+    ∙ ap (λ t. cond t (attribute_in n (class_attributes 1 1 1)) (own_value 100 0 n os)) (enabled d bs c os m is there)

@@ -178,7 +178,7 @@ at_block d bs c os i s (Some b) h own w e f =
     let here = of_block bs i b h w e in
     let shape : shape_of b ≡ s = same_some (shape_of b) s f in
     let above = here.above in
-    let read : bytes_at (contents_of d bs c) 4 i 3 ≡ b.content = ap (λ o. unwrap_or o [])
+    let read : bytes_at (contents_of d bs c os) 4 i 3 ≡ b.content = ap (λ o. unwrap_or o [])
     (value_at-contents_of d bs c os h own 4 i 3)
     ∙ ap (λ t. unwrap_or (cond t (attribute_in 3 (class_attributes 2 (greatest_of bs) (length bs)))
     (block_value 3 (assembly_at i bs))) []) (eqb-other i 0 (λ z. omega arith))

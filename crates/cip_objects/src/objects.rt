@@ -168,7 +168,8 @@ impl Objects {
                 self.assemblies.len() as u16,
                 attribute,
             ),
-            ObjectRef::Class(_) => class_attribute(1, 1, 1, attribute),
+            ObjectRef::Class(Class::Identity) => class_attribute(1, 1, 1, attribute),
+            ObjectRef::Class(Class::Counter) => class_attribute(1, 1, 1, attribute),
             ObjectRef::Identity => self.identity.attribute(attribute),
             ObjectRef::Assembly(assembly_index) => self.assemblies[assembly_index].attribute(
                 attribute,

@@ -1,5 +1,4 @@
-use Rattle.std.proofs.Common.{◌≡◌, ℕ, ◌<◌, get_or, sym, ap, ◌∙◌, arith}
-use Rattle.cip_application.specs.Attributes.{AttributeValues}
+use Rattle.std.proofs.Common.{◌≡◌, get_or, sym, ap, ◌∙◌, arith}
 use Rattle.cip_application.proofs.Lookup.{placed_at, placed_last, same_get}
 use Rattle.cip_application.proofs.object.index_for.Goals as goal
 

@@ -21,3 +21,8 @@ pub returns-clause-in_order : goal.returns-clause-in_order
 returns-clause-in_order c =
     let s = sound c.args.counter c.args.configs.now (sym c.in_default.ensures) in
     rw c.in_ok-objects_of.ensures s.in_order
+
+pub returns-clause-values : goal.returns-clause-values
+returns-clause-values c =
+    let s = sound c.args.counter c.args.configs.now (sym c.in_default.ensures) in
+    rw c.in_ok-objects_of.ensures s.allowed

@@ -1,4 +1,4 @@
-use Rattle.std.proofs.Common.{◌≡◌, ◌<◌, length, ap, ◌∙◌, sym, subst}
+use Rattle.std.proofs.Common.{◌<◌, length, ap, ◌∙◌, sym}
 use Rattle.std.specs.Box.{boxed_slice_items}
 use Rattle.cip_application.specs.Objects.{objects_set}
 use Rattle.cip_application.proofs.Writes.{on_ok, if_err, objects_set_ok, objects_set_err}

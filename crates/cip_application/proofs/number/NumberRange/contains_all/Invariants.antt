@@ -1,5 +1,5 @@
 use Rattle.std.proofs.Common.{◌≡◌, length}
-use Rattle.cip_application.specs.Numbers.{width_of, are_within}
+use Rattle.cip_application.specs.Numbers.{are_within}
 use Rattle.cip_application.proofs.number.NumberRange.contains_all.Given as goal
 
 abbrev pub invariant-loop-rest : goal.invariant-loop-rest

@@ -1,4 +1,4 @@
-use Rattle.std.proofs.Common.{◌≡◌, Ok, Err, ap, ◌∙◌, sym}
+use Rattle.std.proofs.Common.{ap, ◌∙◌, sym}
 use Rattle.std.specs.Box.{boxed_slice_items}
 use Rattle.cip_application.specs.Objects.{ObjectValues, IsAttributeAt, object_set}
 use Rattle.cip_application.proofs.Writes.{on_ok, if_err, set_ok, set_err}
