@@ -10,7 +10,6 @@ mod exchanges;
 mod ladders;
 mod ledger;
 mod once;
-mod own_objects;
 mod replaying;
 mod showing;
 mod streams;
