@@ -25,19 +25,28 @@
 
 mod adapter;
 mod assemblies;
+mod attribute_problems;
+mod attribute_type;
 mod configuration;
+mod elements;
 mod explanation;
 mod fault;
 mod key;
 mod known;
 mod ledger;
 mod object_problems;
+mod object_types;
+mod objects;
+mod own_problems;
+mod own_value_problems;
 mod text_problems;
+mod typed;
 mod value_problems;
 mod values;
 mod width;
 
 pub use adapter::{adapter_from, adapter_in_life};
+pub use attribute_type::AttributeType;
 pub use configuration::Configuration;
 pub use explanation::{Explanation, explain};
 pub use fault::{ConfigurationRefusal, LoadFault};
