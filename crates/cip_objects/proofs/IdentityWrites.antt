@@ -7,10 +7,10 @@ use Rattle.byteorder.specs.Endian.{little_bytes}
 use Rattle.cip_bytes.specs.declared.protocol.TheConstants.{IDENTITY}
 use Rattle.cip_objects.specs.ObjectMap.{key}
 use Rattle.cip_objects.specs.Contents.{with_value}
-use Rattle.cip_objects.specs.DeviceWrites.{with_device_status, with_device_state}
-use Rattle.cip_objects.specs.Entries.{IdentityValues, AssemblyValues, CounterValues, Attributes, Entries, entries_at, attribute_in, class_attributes, identity_attributes, greatest_of, entries_of, contents_of, shapes_of, tally_of, object_tallies, device_of}
+use Rattle.cip_objects.specs.DeviceWrites.{with_device_status}
+use Rattle.cip_objects.specs.Entries.{IdentityValues, AssemblyValues, CounterValues, Attributes, entries_at, attribute_in, class_attributes, identity_attributes, greatest_of, entries_of, contents_of, shapes_of, tally_of, object_tallies, device_of}
 use Rattle.cip_objects.proofs.Lookup.{blocks_of}
-use Rattle.cip_objects.proofs.Map.{Updates, updates_front, updates_back, absent_at, updates_at}
+use Rattle.cip_objects.proofs.Map.{updates_front, updates_back, absent_at, updates_at}
 use Rattle.cip_objects.proofs.Writes.{assembled, rest_of, written}
 
 none_front : (t : Bool) (x : List ℕ) (r : Option (List ℕ)) → cond t (Some x) r ≡ None → (t ≡ false) × (r ≡ None)

@@ -191,7 +191,7 @@ find_objects q counter (o ∷ os) h =
     ∙ sym (object_cond q.attribute (eqb o.class q.class && eqb o.instance q.instance) o (find_object q.class q.instance os))
 
 -- no application object is a class itself
-above_none : (counter : Bool) (class : ℕ) (os : List ObjectValues) → AreApart counter (map object_shape_of os) → find_object class 0 os ≡ None
+pub above_none : (counter : Bool) (class : ℕ) (os : List ObjectValues) → AreApart counter (map object_shape_of os) → find_object class 0 os ≡ None
 above_none counter class [] h = refl
 above_none counter class (o ∷ os) h =
     ap (λ t. cond (eqb o.class class && t) (Some o) (find_object class 0 os)) (above o.instance h.1)

@@ -1,8 +1,9 @@
 -- The application objects in the contents, by their index: what is read of them, and what a set and a write leave.
 use Rattle.std.specs.Prelude.{slice_index}
-use Rattle.std.proofs.Common.{◌≡◌, ℕ, zero, suc, ◌+◌, ◌<◌, eqb, Bool, true, false, cond, ◌&&◌, ◌||◌, not, nat_lt, List, [], ◌∷◌, length, get_or, set, map, max, Option, Some, None, option_map, is_some, unwrap_or, Result, Ok, Err, MatchOption, refl, sym, ap, ◌∙◌, arith, subst}
+use Rattle.std.proofs.Common.{◌≡◌, ℕ, zero, suc, ◌+◌, ◌<◌, eqb, Bool, true, false, cond, ◌&&◌, ◌||◌, not, nat_lt, List, [], ◌∷◌, length, get_or, set, map, max, Option, Some, None, option_map, is_some, unwrap_or, Result, Ok, Err, refl, sym, ap, ◌∙◌, arith, subst}
 use Rattle.std.proofs.lemmas.Bool.{eqb-true}
 use Rattle.std.proofs.lemmas.Bool.Decides.{nat_tests}
+use Rattle.std.specs.Result.{IsErr, IsErrAnd}
 use Rattle.std.specs.Option.{ok_or, option_and_then}
 use Rattle.std.specs.List.{list_any}
 use Rattle.cip_bytes.specs.Reading.{◌>>=◌, ◌>>◌, map_ok}
@@ -11,26 +12,27 @@ use Rattle.cip_application.specs.declared.attribute.SetFault.{SetFault}
 use Rattle.cip_application.specs.declared.attribute.SetFault.TheVariants as faults
 use Rattle.cip_application.specs.declared.kind.AttributeKind.{AttributeKind}
 use Rattle.cip_application.specs.declared.kind.AttributeKind.TheVariants.{Fixed}
-use Rattle.cip_application.specs.Attributes.{AttributeValues, attribute_at, with_attribute, attribute_write, can_be_set, one_more}
+use Rattle.cip_application.specs.Attributes.{AttributeValues, attribute_at, attribute_set, attribute_write, can_be_set, one_more}
 use Rattle.cip_application.specs.Check.{demand as demand_value}
 use Rattle.cip_application.specs.Configuration.{is_taken_class}
 use Rattle.cip_application.specs.Objects.{ObjectValues, position_of, object_in, value_in, object_with, objects_set, objects_write, changes_of, instances_of, greatest_of as greatest_in, summary_of, class_of}
-use Rattle.cip_application.specs.Values.{size_for, is_allowed as is_allowed_value, written_value}
+use Rattle.cip_application.specs.Values.{size_for, check_value, is_allowed as is_allowed_value, written_value}
 use Rattle.cip_objects.specs.declared.object_ref.ObjectRef.TheVariants as object_refs
 use Rattle.cip_objects.specs.declared.object_ref.Settable.TheVariants as settables
-use Rattle.cip_objects.specs.declared.service.Service.TheVariants.{GetAttributeSingle}
+use Rattle.cip_objects.specs.declared.service.Service.TheVariants.{Add, Clear, GetAttributeList, GetAttributeSingle, SetAttributeSingle}
 use Rattle.cip_objects.specs.declared.status.Refusal.{Refusal}
 use Rattle.cip_objects.specs.declared.status.Refusal.TheVariants as refusals
-use Rattle.cip_objects.specs.ChangeServices.{Change, change, is_allowed_limit, is_allowed}
+use Rattle.cip_objects.specs.ChangeServices.{Change, change, change_result, is_allowed_limit}
 use Rattle.cip_objects.specs.Changes.{changes_at, counted_in}
 use Rattle.cip_objects.specs.Check.{demand, check_size}
 use Rattle.cip_objects.specs.Contents.{Contents, value_at, bytes_at, with_value, with_change}
 use Rattle.cip_objects.specs.DeviceWrites.{with_attribute_of, object_write}
-use Rattle.cip_objects.specs.Entries.{IdentityValues, AssemblyValues, CounterValues, AreApart, AreDistinct, NoneIsClass, attribute_in, attributes_of_class, class_attributes, counter_attributes, object_attributes, object_shape_of, attribute_shape_of, object_tallies, contents_of, shapes_of}
+use Rattle.cip_objects.specs.Entries.{IdentityValues, AssemblyValues, CounterValues, AreApart, AreDistinct, NoneIsClass, attribute_in, attributes_of_class, class_attributes, counter_attributes, object_attributes, object_shape_of, attribute_shape_of, object_tallies, contents_of}
 use Rattle.cip_objects.specs.ObjectMap.{key}
-use Rattle.cip_objects.specs.ObjectRef.{IsFree, IsObjectIndex, IsObjectClass, IsSettable, kind_to_set, value_to, bytes_to, after_set, object_in as shape_in}
+use Rattle.cip_objects.specs.ObjectRef.{IsFree, IsObjectIndex, IsObjectClass, IsSettable, kind_to_set, Resolves, value_to, bytes_to, after_set, object_in as shape_in}
+use Rattle.cip_objects.specs.ReadServices.{IDENTITY_ATTRIBUTES, all_attributes, numbers_of}
 use Rattle.cip_objects.specs.Status.{set_refusal}
-use Rattle.cip_objects.specs.Tables.{ObjectShape, AttributeShape, Shapes, object_at, position_at, attribute_at as shape_at_number, kind_of_settable, kind_in, settable_kind, numbers_in, greatest_number, services_of, application_services, object_services, is_counter_class}
+use Rattle.cip_objects.specs.Tables.{ObjectShape, Shapes, object_at, position_at, attribute_at as shape_at_number, kind_of_settable, kind_in, settable_kind, numbers_in, greatest_number, services_of, application_services, object_services, is_counter_class}
 use Rattle.cip_objects.proofs.Lookup.{find_object, object_value, own_value, object_at-map, above_none, both_true, taken_value, value_at-contents_of}
 use Rattle.cip_objects.proofs.Numbers.{enabled}
 use Rattle.cip_objects.proofs.ObjectRefs.{free_kind}
@@ -253,15 +255,31 @@ any_filled class (o ∷ os) =
       | false ↦ any_filled class os
     ]
 
+positive : (k : ℕ) → eqb (suc k) 0 ≡ false
+positive k = grind (arith, nat_tests)
+
+filled : (ns : List ℕ) → is_filled ns ≡ not (eqb (length ns) 0)
+filled [] = refl
+filled (n ∷ ns) = sym (ap not (positive (length ns)))
+
+is_empty : (t : Bool) (x : ClassSummary) → cond t None (Some x) ≡ None → t ≡ true
+is_empty true x e = refl
+is_empty false x e = absurd (cc)
+
+is_there : (t : Bool) (x s : ClassSummary) → cond t None (Some x) ≡ Some s → (t ≡ false) × (x ≡ s)
+is_there true x s e = absurd (cc)
+is_there false x s e = (refl, same_some x s e)
+
+abbrev summary : List ℕ → ClassSummary
+summary ns = record { greatest = greatest_in ns; instances = length ns }
+
 no_instances : (ns : List ℕ) → summary_of ns ≡ None → is_filled ns ≡ false
-no_instances [] e = refl
-no_instances (n ∷ ns) e = absurd (cc)
+no_instances ns e = filled ns ∙ ap not (is_empty (eqb (length ns) 0) (summary ns) e)
 
 some_instances : (ns : List ℕ) (s : ClassSummary) → summary_of ns ≡ Some s → (is_filled ns ≡ true) × (s.greatest ≡ greatest_in ns) × (s.instances ≡ length ns)
-some_instances [] s e = absurd (cc)
-some_instances (n ∷ ns) s e =
-    let same = same_some _ s e in
-    (refl, ap (λ x. x.greatest) (sym same), ap (λ x. x.instances) (sym same))
+some_instances ns s e =
+    let p = is_there (eqb (length ns) 0) (summary ns) s e in
+    (filled ns ∙ ap not p.0, ap (λ x. x.greatest) (sym p.1), ap (λ x. x.instances) (sym p.1))
 
 pub class_missing : (class : ℕ) (os : List ObjectValues) → class_of class os ≡ None → list_any (λ o. eqb o.class class) (map object_shape_of os) ≡ false
 class_missing class os e = any_filled class os ∙ no_instances (instances_of class os) e
@@ -371,7 +389,9 @@ object_checks : (k n : ℕ) (os : List ObjectValues) (a : AttributeValues) (cont
     → objects_set os k n content ≡ checked (nat_lt (length content) (size_for a.kind content)) (nat_lt (size_for a.kind content) (length content)) (is_allowed_value a.kind content) (set os k (object_with (object_in os k) (set_to a content)))
 unfolding objects_set
 object_checks k n os a content e s =
-    rw (e, s) (by_object (nat_lt (length content) (size_for a.kind content)) (nat_lt (size_for a.kind content) (length content)) (is_allowed_value a.kind content) k (object_in os k) os (set_to a content))
+    ap (λ x. map_ok (set os k) (ok_or x faults.AttributeNotSupported >>= λ y. attribute_set y content >>= λ after. Ok (object_with (object_in os k) after))) e
+    ∙ ap (λ t. map_ok (set os k) ((demand_value t faults.AttributeNotSettable >> (check_value a.kind content >> Ok (set_to a content))) >>= λ after. Ok (object_with (object_in os k) after))) s
+    ∙ (by_object (nat_lt (length content) (size_for a.kind content)) (nat_lt (size_for a.kind content) (length content)) (is_allowed_value a.kind content) k (object_in os k) os (set_to a content))
 
 by_service : (l g w : Bool) (x : Change) → (cond {A = Result (Unit {0}) Refusal} l (Err refusals.NotEnoughData) (cond g (Err refusals.TooMuchData) (Ok tt)) >> (demand w refusals.InvalidAttributeValue >> Ok x)) ≡ answered l g w x
 by_service true g w x = refl
@@ -385,7 +405,7 @@ service_checks : (d : IdentityValues) (bs : List AssemblyValues) (c : CounterVal
 service_checks d bs c os m k n content s is p =
     let here = shape_here d bs c os m k is in
     let step = λ (kind : AttributeKind) (t : Bool) (x : Change). check_size (size_for kind content) content >> (demand (cond t (is_allowed_limit m content) (is_allowed_value kind content)) refusals.InvalidAttributeValue >> Ok x) in
-    let after = λ (o : ObjectShape). record { after = with_change m o.class o.instance n content; content = [] } in
+    let after : ObjectShape → Change = λ o. record { after = with_change m o.class o.instance n content; content = [] } in
     ap (λ kind. step kind (is_counter_class m.shapes (shape_in m.shapes k).class) (after (shape_in m.shapes k))) s.kind
     ∙ ap (λ t. step s.attribute.kind t (after (shape_in m.shapes k))) p.free.counter
     ∙ ap (λ o. step s.attribute.kind false (after o)) here
@@ -480,7 +500,7 @@ set_apart counter k n os new a content found settable e h =
     let after = set_to a content in
     let number = number_found n o.attributes a found in
     let there : attribute_at after.number o.attributes ≡ Some a = ap (λ x. attribute_at x o.attributes) number ∙ found in
-    let pair = done_alike _ _ _ (set os k (object_with o after)) new tt (sym (object_checks k n os a content found settable) ∙ e) in
+    let pair = done_alike _ _ _ (set os k (object_with o after)) new zero (sym (object_checks k n os a content found settable) ∙ e) in
     let shape = ap (λ l. record { class = o.class; instance = o.instance; attributes = l; services = o.services }) (same_parts attribute_shape_of a after o.attributes there refl) in
     subst (AreApart counter) (sym (map_set object_shape_of k os (object_with o after) shape) ∙ ap (map object_shape_of) pair.0) h
 
@@ -668,3 +688,87 @@ pub counter_class_value : (d : IdentityValues) (bs : List AssemblyValues) (c : C
 counter_class_value d bs c os m n is h own there =
     ap (λ x. value_at x 100 0 n) (sym is) ∙ value_at-contents_of d bs c os h own 100 0 n
     ∙ ap (λ t. cond t (attribute_in n (class_attributes 1 1 1)) (own_value 100 0 n os)) (enabled d bs c os m is there)
+
+-- a refusal is answered as it is
+pub answer_refused : (n : Contents) (r : Result (Unit {0}) Refusal) (x : Result Change Refusal) (s : Refusal) → IsErr r × IsErrAnd r (λ f. f ≡ s) → x ≡ Err s → change_result (λ _. []) n r ≡ x
+answer_refused n (Ok y) x s e f = absurd (let g : false ≡ true = e.0 in cc)
+answer_refused n (Err t) x s e f = ap (λ k. Err k) e.1 ∙ sym f
+
+-- what the application objects answer at instance 0 of a class
+pub no_class_services : (d : IdentityValues) (bs : List AssemblyValues) (c : CounterValues) (os : List ObjectValues) (m : Contents) (class instance : ℕ) → contents_of d bs c os ≡ m → instance ≡ 0 → class_of class os ≡ None → application_services class instance m.shapes.objects ≡ None
+no_class_services d bs c os m class instance is z e =
+    ap (λ i. application_services class i m.shapes.objects) z ∙ services_at_class d bs c os m class is
+    ∙ ap (λ t. cond t (Some (GetAttributeSingle ∷ [])) None) (class_missing class os e)
+
+pub class_services : (d : IdentityValues) (bs : List AssemblyValues) (c : CounterValues) (os : List ObjectValues) (m : Contents) (class instance : ℕ) (s : ClassSummary) → contents_of d bs c os ≡ m → instance ≡ 0 → class_of class os ≡ Some s → application_services class instance m.shapes.objects ≡ Some (GetAttributeSingle ∷ [])
+class_services d bs c os m class instance s is z e =
+    ap (λ i. application_services class i m.shapes.objects) z ∙ services_at_class d bs c os m class is
+    ∙ ap (λ t. cond t (Some (GetAttributeSingle ∷ [])) None) (class_there class os s e)
+
+-- a class of application objects
+pub class_found : (d : IdentityValues) (bs : List AssemblyValues) (c : CounterValues) (os : List ObjectValues) (m : Contents) (class : ℕ) → contents_of d bs c os ≡ m → AreApart c.enabled (map object_shape_of os) → IsFree m.shapes class → IsObjectClass m.shapes class
+class_found d bs c os m class is own free = record {
+  free = free;
+  none = ap (λ x. object_at class 0 x.objects) (shapes-contents d bs c os m is) ∙ object_at-map class 0 os
+      ∙ ap (option_map object_shape_of) (above_none c.enabled class os own);
+}
+
+-- an application object
+pub object_found : (d : IdentityValues) (bs : List AssemblyValues) (c : CounterValues) (os : List ObjectValues) (m : Contents) (class instance k : ℕ) → contents_of d bs c os ≡ m → AreApart c.enabled (map object_shape_of os) → IsFree m.shapes class → position_of class instance os ≡ Some k → Resolves m.shapes class instance (object_refs.Application k)
+object_found d bs c os m class instance k is own free e =
+    let at = at_position class instance k os e in
+    let here = shape_here d bs c os m k is in
+    record {
+      same_class = sym (ap (λ o. o.class) here ∙ at.of_class);
+      same_instance = sym (ap (λ o. o.instance) here ∙ at.of_instance);
+      there = index_found d bs c os m k is (subst (IsFree m.shapes) (sym at.of_class) free) (found_at c os class instance k own e);
+    }
+
+abbrev pub no_attribute : AttributeValues
+no_attribute = record { number = 0; kind = Fixed 0 None; settable = false; checked = false; value = []; changes = 0 }
+
+-- the counter's class, if the device has the counter
+pub counter_services : (m : Contents) (instance : ℕ) → m.shapes.has_counter ≡ true → services_of m.shapes 100 instance
+    ≡ cond (eqb instance 0) (Some (GetAttributeSingle ∷ [])) (cond (eqb instance 1) (Some (Add ∷ Clear ∷ GetAttributeList ∷ GetAttributeSingle ∷ SetAttributeSingle ∷ [])) None)
+unfolding services_of
+counter_services m instance there =
+    ap (λ t. cond t (cond (eqb instance 0) (Some (GetAttributeSingle ∷ [])) (cond (eqb instance 1) (Some (Add ∷ Clear ∷ GetAttributeList ∷ GetAttributeSingle ∷ SetAttributeSingle ∷ [])) None))
+    (application_services 100 instance m.shapes.objects)) there
+
+-- and if it does not
+pub no_counter : (d : IdentityValues) (bs : List AssemblyValues) (c : CounterValues) (os : List ObjectValues) (m : Contents) → contents_of d bs c os ≡ m → c.enabled ≡ false → IsFree m.shapes 100
+no_counter d bs c os m is e = record {
+  identity = refl;
+  assembly = refl;
+  manager = refl;
+  counter = ap (λ s. s.has_counter) (shapes-contents d bs c os m is) ∙ e;
+}
+
+pub has_counter : (d : IdentityValues) (bs : List AssemblyValues) (c : CounterValues) (os : List ObjectValues) (m : Contents) → contents_of d bs c os ≡ m → c.enabled ≡ true → m.shapes.has_counter ≡ true
+has_counter d bs c os m is e = ap (λ s. s.has_counter) (shapes-contents d bs c os m is) ∙ e
+
+-- a class that is none of these is free
+pub other_number : (a b : ℕ) → (a ≡ b → ⊥) → eqb a b ≡ false
+other_number a b h = grind (arith, nat_tests)
+
+pub is_free : (shapes : Shapes) (class : ℕ) → (class ≡ 1 → ⊥) → (class ≡ 4 → ⊥) → (class ≡ 6 → ⊥) → (class ≡ 100 → ⊥) → IsFree shapes class
+is_free shapes class one four six hundred = record {
+  identity = other_number class 1 one;
+  assembly = other_number class 4 four;
+  manager = other_number class 6 six;
+  counter = ap (λ t. t && shapes.has_counter) (other_number class 100 hundred);
+}
+
+pub no_instance : (d : IdentityValues) (bs : List AssemblyValues) (c : CounterValues) (os : List ObjectValues) (m : Contents) (instance : ℕ) → contents_of d bs c os ≡ m → m.shapes.has_counter ≡ true → (instance ≡ 0 → ⊥) → (instance ≡ 1 → ⊥) → services_of m.shapes 100 instance ≡ None
+no_instance d bs c os m instance is there above other =
+    counter_services m instance there
+    ∙ ap (λ t. cond t (Some (GetAttributeSingle ∷ [])) (cond (eqb instance 1) (Some (Add ∷ Clear ∷ GetAttributeList ∷ GetAttributeSingle ∷ SetAttributeSingle ∷ [])) None)) (other_number instance 0 above)
+    ∙ ap (λ t. cond t (Some (Add ∷ Clear ∷ GetAttributeList ∷ GetAttributeSingle ∷ SetAttributeSingle ∷ [])) None) (other_number instance 1 other)
+
+-- the attributes that Get_Attributes_All reads of an application object
+pub all_of_object : (shapes : Shapes) (k : ℕ) → IsObjectIndex shapes k → all_attributes shapes (shape_in shapes k).class (shape_in shapes k).instance ≡ numbers_of (Some (shape_in shapes k))
+all_of_object shapes k p =
+    let class = (shape_in shapes k).class in
+    let instance = (shape_in shapes k).instance in
+    ap (λ t. cond t IDENTITY_ATTRIBUTES (numbers_of (object_at class instance shapes.objects))) p.free.identity
+    ∙ ap numbers_of (shape_position class instance shapes.objects ∙ ap (option_map (λ j. get_or shapes.objects j no_object)) p.first)

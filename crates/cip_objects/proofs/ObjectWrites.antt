@@ -1,17 +1,17 @@
 -- Writing one attribute of an application object.
-use Rattle.std.proofs.Common.{◌≡◌, ℕ, zero, suc, ◌+◌, eqb, Bool, true, false, cond, ◌&&◌, List, [], ◌∷◌, ◌++◌, length, get_or, set, map, flat_map, Option, Some, None, option_map, refl, sym, ap, ◌∙◌, arith}
+use Rattle.std.proofs.Common.{◌≡◌, ℕ, zero, suc, ◌+◌, eqb, Bool, true, false, cond, ◌&&◌, List, [], ◌∷◌, ◌++◌, length, set, map, flat_map, Option, Some, None, option_map, refl, sym, ap, ◌∙◌, arith}
 use Rattle.std.proofs.lemmas.Bool.{eqb-true}
 use Rattle.std.proofs.lemmas.Bool.Decides.{nat_tests}
-use Rattle.std.specs.FinMap.{insert, from_entries}
+use Rattle.std.specs.FinMap.{from_entries}
 use Rattle.cip_application.specs.Attributes.{AttributeValues, attribute_at, with_attribute}
 use Rattle.cip_application.specs.Objects.{ObjectValues, position_of, object_in}
 use Rattle.cip_bytes.specs.declared.protocol.TheConstants.{IDENTITY, ASSEMBLY, COUNTER}
 use Rattle.cip_objects.specs.Changes.{Tally, is_key, changes_at, one_more, counted_in}
 use Rattle.cip_objects.specs.Contents.{Contents, with_value, with_change}
-use Rattle.cip_objects.specs.Entries.{IdentityValues, AssemblyValues, CounterValues, Entries, Attributes, entries_at, attribute_in, class_attributes, counter_attributes, counter_entries, attributes_of_class, class_entries, object_attributes, object_entries, object_shape_of, object_tallies, greatest_of, entries_of, contents_of, shape_of, shapes_of, tally_of, device_of}
+use Rattle.cip_objects.specs.Entries.{IdentityValues, AssemblyValues, CounterValues, Attributes, entries_at, attribute_in, class_attributes, counter_attributes, counter_entries, attributes_of_class, class_entries, object_attributes, object_entries, object_shape_of, object_tallies, greatest_of, entries_of, contents_of, shape_of, shapes_of, tally_of, device_of}
 use Rattle.cip_objects.specs.ObjectMap.{Key, key}
 use Rattle.cip_objects.specs.Tables.{ObjectShape}
-use Rattle.cip_objects.proofs.Blocks.{eqb-same, eqb-other}
+use Rattle.cip_objects.proofs.Blocks.{eqb-same}
 use Rattle.cip_objects.proofs.IdentityWrites.{twice, behind, apart}
 use Rattle.cip_objects.proofs.Lookup.{blocks_of, both_true}
 use Rattle.cip_objects.proofs.Map.{Updates, Absent, insert_updates, updates_front, updates_back, absent_at, updates_at}

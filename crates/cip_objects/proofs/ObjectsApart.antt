@@ -1,12 +1,12 @@
 -- The application objects of a configuration that no check refuses.
-use Rattle.std.proofs.Common.{◌≡◌, ℕ, ◌<◌, eqb, Bool, true, false, cond, ◌&&◌, ◌||◌, nat_lt, List, [], ◌∷◌, length, map, Option, Some, None, refl, sym, ap, ◌∙◌, arith}
+use Rattle.std.proofs.Common.{◌≡◌, ℕ, ◌<◌, eqb, Bool, true, false, cond, ◌&&◌, ◌||◌, nat_lt, List, [], ◌∷◌, length, map, Option, Some, None, refl, ap, ◌∙◌, arith}
 use Rattle.std.proofs.lemmas.Bool.Decides.{nat_tests}
 use Rattle.std.specs.List.{list_any}
 use Rattle.cip_application.specs.declared.config.AttributeConfig.{AttributeConfig}
 use Rattle.cip_application.specs.declared.config.ObjectConfig.{ObjectConfig}
 use Rattle.cip_application.specs.declared.config.ObjectFault.{ObjectFault}
 use Rattle.cip_application.specs.Attributes.{AttributeValues, with_placed, in_order}
-use Rattle.cip_application.specs.Configuration.{is_taken_class, is_invalid_object, has_invalid_name, has_object, are_invalid_objects, is_invalid_attribute, are_invalid_attributes, has_invalid_attributes, has_invalid_services, total_capacity, fault_of, attribute_of_config, object_of_config, objects_of_config}
+use Rattle.cip_application.specs.Configuration.{is_taken_class, is_invalid_object, has_invalid_name, has_object, are_invalid_objects, is_invalid_attribute, are_invalid_attributes, has_invalid_attributes, total_capacity, fault_of, attribute_of_config, object_of_config, objects_of_config}
 use Rattle.cip_objects.specs.Entries.{AreDistinct, AreApart, attribute_shape_of, object_shape_of}
 use Rattle.cip_objects.specs.Tables.{object_at}
 
@@ -69,7 +69,7 @@ placed_distinct a (b ∷ xs) d h =
       | true ↦ (h, d)
       | false ↦ (
         placed_any (λ k. eqb k b.number) a xs
-        ∙ ap (λ t. t || list_any (λ k. eqb k b.number) (numbers xs)) (turned b.number a.number p.0) ∙ d.0,
+            ∙ ap (λ t. t || list_any (λ k. eqb k b.number) (numbers xs)) (turned b.number a.number p.0) ∙ d.0,
         placed_distinct a xs d.1 p.1,
       )
     ]
@@ -100,8 +100,7 @@ apart counter (o ∷ cs) e f =
     let p = three_false (is_invalid_object counter o) (has_object o.class o.instance cs) (are_invalid_objects counter cs) e in
     let q = four_false (eqb o.class 0) (is_taken_class counter o.class) (eqb o.instance 0) (has_invalid_name o.name) p.0 in
     let r = or_false (has_invalid_attributes o) (list_any has_invalid_attributes cs) f in
-    let attributes = (or_false (nat_lt 32 (length o.attributes.items)) (are_invalid_attributes o.attributes.items) r.0).1 in
-    (
+    let attributes = (or_false (nat_lt 32 (length o.attributes.items)) (are_invalid_attributes o.attributes.items) r.0).1 in (
       q.0,
       above o.instance q.1,
       not_there o.class o.instance cs p.1,

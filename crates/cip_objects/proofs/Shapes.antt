@@ -6,7 +6,7 @@ use Rattle.cip_application.specs.Attributes.{AttributeValues, attribute_at as at
 use Rattle.cip_application.specs.Objects.{ObjectValues}
 use Rattle.cip_objects.specs.ObjectMap.{Key, key}
 use Rattle.cip_objects.specs.Tables.{shape_at}
-use Rattle.cip_objects.specs.Changes.{Tally, is_key, data_key, changes_at, changes_of}
+use Rattle.cip_objects.specs.Changes.{Tally, is_key, changes_at, changes_of}
 use Rattle.cip_objects.specs.Contents.{Contents}
 use Rattle.cip_objects.specs.Entries.{IdentityValues, CounterValues, AssemblyValues, AreApart, assembly_at, shape_of, shapes_of, tally_of, object_shape_of, object_tallies, contents_of}
 use Rattle.cip_objects.proofs.Lookup.{find_object, not_found, both_true, taken_none}

@@ -20,7 +20,7 @@ use Rattle.cip_objects.specs.ReadServices.{service_at, named_member, get_attribu
 use Rattle.cip_objects.specs.ReadServices.{get_attribute_list, get_member}
 use Rattle.cip_objects.specs.ChangeServices.{Change, after_add, with_bytes_at, set_attribute_single, set_member, add}
 use Rattle.cip_objects.specs.ChangeServices.{clear}
-use Rattle.cip_objects.specs.Execution.{Outcome, perform, outcome, exec, run}
+use Rattle.cip_objects.specs.Execution.{Outcome, perform, outcome, exec}
 use Rattle.cip_objects.specs.Laws.{is_add, is_clear, changes_unsettable, unsettable_law}
 use Rattle.cip_objects.specs.Service.{service_code}
 use Rattle.cip_objects.specs.Tables.{Shapes, settable_kind}

@@ -1,6 +1,6 @@
 -- The services that change objects. In each, the first check that fails decides (Volume 1, common services; Add and
 -- Clear are the counter's own).
-use Rattle.std.specs.Prelude.{ℕ, ◌+◌, ◌%◌, ◌^◌, Bool, ◌==◌, nat_le, if◌then◌else◌, List, [], ◌++◌, take, drop, length}
+use Rattle.std.specs.Prelude.{ℕ, ◌+◌, ◌%◌, ◌^◌, Bool, nat_le, if◌then◌else◌, List, [], ◌++◌, take, drop, length}
 use Rattle.std.specs.Prelude.{Result, Ok, Err}
 use Rattle.std.specs.Option.{ok_or}
 use Rattle.cip_application.specs.declared.kind.AttributeKind.{AttributeKind}

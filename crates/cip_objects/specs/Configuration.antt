@@ -1,6 +1,6 @@
 -- The objects that a configuration describes, and its checks: the first that fails refuses it.
 use Rattle.std.specs.Prelude.{ℕ, Bool, false, ◌==◌, ◌||◌, nat_lt, if◌then◌else◌, List, [], ◌∷◌, length, map, sum}
-use Rattle.std.specs.Prelude.{replicate, Option, Some, None, option_map}
+use Rattle.std.specs.Prelude.{replicate, Option, Some, option_map}
 use Rattle.std.specs.List.{list_any}
 use Rattle.std.specs.String.{string_bytes}
 use Rattle.cip_application.specs.declared.config.ObjectFault.{ObjectFault}
@@ -95,6 +95,6 @@ counter_of c = record { enabled = c.enabled; value = c.value; limit = c.limit; a
 
 -- The contents of a configuration.
 unfoldable pub contents_of_config : Config → Contents
-contents_of_config c = 
+contents_of_config c =
     contents_of (identity_of c) (map assembly_of_config c.assemblies.items) (counter_of c.counter)
     (objects_of_config c.objects.items)

@@ -41,7 +41,7 @@ counted m class instance attribute = record m { changes = counted_in (key class 
 
 -- The contents after a peer set this value at this key, which is counted.
 abbrev pub with_change : Contents → ℕ → ℕ → ℕ → List ℕ → Contents
-with_change m class instance attribute value = 
+with_change m class instance attribute value =
     counted (with_value m class instance attribute value) class instance attribute
 
 -- How contents are stored.

@@ -9,7 +9,7 @@ ghost use Rattle.byteorder.specs.Endian.{little_bytes};
 ghost use Rattle.cip_objects.specs.Contents.{value_at, bytes_at, udint_at, with_value, with_change, counted};
 ghost use Rattle.cip_objects.specs.Changes.{changes_of, changes_at};
 ghost use Rattle.cip_objects.specs.ChangeServices.{with_bytes_at, change_result};
-ghost use Rattle.cip_objects.specs.ObjectRef.{Resolves, HasNoValue, Exists, IsAssemblyIndex, CanBeSet, IsFree};
+ghost use Rattle.cip_objects.specs.ObjectRef.{ClassExists, class_number, Resolves, HasNoValue, Exists, IsAssemblyIndex, CanBeSet, IsFree};
 ghost use Rattle.cip_objects.specs.ObjectRef.{object_in, bytes_to, IsSettable, after_set};
 ghost use Rattle.cip_objects.specs.ObjectRef.{services_at, class_at, instance_at, number_at, value_to, data_at};
 ghost use Rattle.cip_objects.specs.ObjectRef.{kind_to_set, IsAssemblyAt, HasCounter, IsObjectIndex, IsObjectClass};
@@ -70,7 +70,7 @@ impl Model for Objects {
     ghost use Rattle.cip_objects.specs.Objects.{AreObjects};
 
     ghost view = { λ o. contents_of o.identity (boxed_slice_items o.assemblies) (counter_values o.counter)
-      o.application };
+        o.application };
 
     ghost invariant = { λ o. AreObjects o };
 }
@@ -125,12 +125,30 @@ impl Objects {
             (ASSEMBLY, 0) => Some(ObjectRef::Class(Class::Assembly)),
             (ASSEMBLY, _) => Some(ObjectRef::Assembly(position(&self.assemblies, instance)?)),
             (CONNECTION_MANAGER, 1) => Some(ObjectRef::ConnectionManager),
-            (COUNTER, 0) if self.counter.enabled => Some(ObjectRef::Class(Class::Counter)),
-            (COUNTER, 1) if self.counter.enabled => Some(ObjectRef::Counter),
-            (COUNTER, _) if self.counter.enabled => None,
             (IDENTITY | CONNECTION_MANAGER, _) => None,
+            (COUNTER, _) => self.counter_object(instance),
             _ => self.application_object(class, instance),
         }
+    }
+
+    /// The object that the counter's class and an instance lead to, if there is one. If the device does not have the
+    /// counter, application objects can have its class.
+    fn counter_object(&self, instance: u32) -> Option<ObjectRef>
+        ensures services { option_map services_at result ≡ services_of self.now.shapes COUNTER instance }
+        ensures resolves { MatchOption result (HasNoValue self.now COUNTER instance)
+            (Resolves self.now.shapes COUNTER instance) }
+    {
+        if !self.counter.enabled {
+            return self.application_object(COUNTER, instance);
+        }
+        // Instance 0 is the class itself.
+        if instance == 0 {
+            return Some(ObjectRef::Class(Class::Counter));
+        }
+        if instance == 1 {
+            return Some(ObjectRef::Counter);
+        }
+        None
     }
 
     /// The application object that a class and an instance lead to, if there is one. The class is none that the device
@@ -162,14 +180,7 @@ impl Objects {
     {
         let counter = self.counter;
         match object {
-            ObjectRef::Class(Class::Assembly) => class_attribute(
-                2,
-                greatest(&self.assemblies),
-                self.assemblies.len() as u16,
-                attribute,
-            ),
-            ObjectRef::Class(Class::Identity) => class_attribute(1, 1, 1, attribute),
-            ObjectRef::Class(Class::Counter) => class_attribute(1, 1, 1, attribute),
+            ObjectRef::Class(class) => self.class_value(class, attribute),
             ObjectRef::Identity => self.identity.attribute(attribute),
             ObjectRef::Assembly(assembly_index) => self.assemblies[assembly_index].attribute(
                 attribute,
@@ -177,13 +188,35 @@ impl Objects {
             // The Connection Manager has no attributes in this profile (our choice).
             ObjectRef::ConnectionManager => None,
             ObjectRef::Counter => counter.attribute(attribute),
-            ObjectRef::ApplicationClass(class) => self.class_value(class, attribute),
+            ObjectRef::ApplicationClass(class) => self.application_class_value(class, attribute),
             ObjectRef::Application(object_index) => self.object_value(object_index, attribute),
         }
     }
 
+    /// The value of an attribute of a class that the device has itself.
+    #[tactic(auto, using(crate::proofs::Lookup::reads))]
+    fn class_value(&self, class: Class, attribute: u16) -> Option<AttributeValue<'_>>
+        requires { ClassExists self.now.shapes class }
+        ensures value { option_map value_bytes result ≡ value_at self.now (class_number class) 0 attribute }
+        ensures short { IfSome result IsShort }
+    {
+        match class {
+            Class::Identity => class_attribute(1, 1, 1, attribute),
+            Class::Assembly => class_attribute(
+                2,
+                greatest(&self.assemblies),
+                self.assemblies.len() as u16,
+                attribute,
+            ),
+            Class::Counter => {
+                let _counter = self.counter;
+                class_attribute(1, 1, 1, attribute)
+            }
+        }
+    }
+
     /// The value of an attribute of a class of application objects.
-    fn class_value(&self, class: u16, attribute: u16) -> Option<AttributeValue<'_>>
+    fn application_class_value(&self, class: u16, attribute: u16) -> Option<AttributeValue<'_>>
         requires { IsObjectClass self.now.shapes class }
         ensures value { option_map value_bytes result ≡ value_at self.now class 0 attribute }
         ensures short { IfSome result IsShort }
@@ -312,7 +345,8 @@ impl Objects {
             ≡ unwrap_or (object_write self.old class instance attribute offset bytes.now) self.old }
         ensures reported { result ≡ is_some (object_write self.old class instance attribute offset bytes.now) }
     {
-        self.application.write(class, instance, attribute, offset, bytes)
+        self.application
+            .write(class, instance, attribute, offset, bytes)
     }
 
     /// Sets the device's status: attribute 5 of the Identity object, a WORD (Volume 1, Identity object). Allocates
@@ -350,11 +384,14 @@ impl Objects {
     pub fn attribute_changes(&self, class: u16, instance: u32, attribute: u16) -> Option<u32>
         ensures { result ≡ changes_at (key class instance attribute) self.now.changes }
     {
-        match (class, attribute) {
-            (ASSEMBLY, 3) => self.changes(instance),
-            (ASSEMBLY, _) => None,
-            _ => self.application.changes(class, instance, attribute),
+        if class != ASSEMBLY {
+            return self.application.changes(class, instance, attribute);
         }
+        // What is counted of an assembly are the changes of its data.
+        if attribute != 3 {
+            return None;
+        }
+        self.changes(instance)
     }
 
     /// The index of the assembly with this instance number, if there is one.

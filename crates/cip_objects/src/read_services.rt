@@ -110,6 +110,7 @@ impl Objects {
     }
 
     /// Appends the values of all attributes of the application object at an index, in the order of their numbers.
+    #[tactic(auto, using(crate::proofs::Words::numbers))]
     fn append_object(
         &self,
         object_index: usize,

@@ -1,22 +1,17 @@
-use Rattle.std.proofs.Common.{sym, ap, ◌∙◌, option_map}
+use Rattle.std.proofs.Common.{sym, ap, ◌∙◌, subst}
 use Rattle.std.specs.Box.{boxed_slice_items}
-use Rattle.cip_objects.specs.AttributeValue.{value_bytes}
+use Rattle.cip_objects.specs.Contents.{value_at}
 use Rattle.cip_objects.specs.Counter.{counter_values}
-use Rattle.cip_objects.proofs.ObjectLemmas.{class_unread, class_read}
+use Rattle.cip_objects.specs.ObjectRef.{ClassExists, HasCounter, class_number}
+use Rattle.cip_objects.proofs.ObjectLemmas.{counter_class_value}
 use Rattle.cip_objects.proofs.objects.Objects.class_value.Goals as goal
 
-pub returns-in_err-summary-clause-value : goal.returns-in_err-summary-clause-value
-returns-in_err-summary-clause-value c =
+pub returns-in-Counter-clause-value : goal.returns-in-Counter-clause-value
+returns-in-Counter-clause-value c =
     let o = c.self.inside in
-    ap (option_map value_bytes) c.from_residual.ensures
-    ∙ sym (class_unread o.identity (boxed_slice_items o.assemblies) (counter_values o.counter) o.application
-    c.args.self.now c.args.class c.args.attribute c.self.view_is c.self.invariant.numbered c.self.invariant.free
-    c.requires.free (sym c.in_err-summary.ensures))
-
-pub returns-clause-value : goal.returns-clause-value
-returns-clause-value c =
-    let o = c.self.inside in
-    c.class_attribute.ensures.value
-    ∙ sym (class_read o.identity (boxed_slice_items o.assemblies) (counter_values o.counter) o.application
-    c.args.self.now c.args.class c.args.attribute c.in_ok-summary.summary c.self.view_is c.self.invariant.numbered
-    c.self.invariant.free c.requires.free (sym c.in_ok-summary.ensures))
+    let m = c.args.self.now in
+    let there : HasCounter m.shapes = subst (ClassExists m.shapes) c.in-Counter.is c.requires in
+    c.class_attribute-in-Counter.ensures.value
+    ∙ sym (counter_class_value o.identity (boxed_slice_items o.assemblies) (counter_values o.counter) o.application m
+    c.args.attribute c.self.view_is c.self.invariant.numbered c.self.invariant.free there)
+    ∙ ap (λ k. value_at m (class_number k) 0 c.args.attribute) (sym c.in-Counter.is)
