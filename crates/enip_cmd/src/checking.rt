@@ -199,12 +199,20 @@ fn print_value<W: Write>(
     value_type: Option<ValueType>,
     bytes: &[u8],
 ) -> io::Result<()> {
-    if let Some(value_type) = value_type
-        && let Ok(values) = read_values(alloc, value_type, bytes)
-    {
-        let values = values.as_slice();
-        return write!(output, "{}", ValuesText { value_type, values });
+    let Some(value_type) = value_type else {
+        return print_digits(output, bytes);
+    };
+    match read_values(alloc, value_type, bytes) {
+        Ok(values) => {
+            let values = values.as_slice();
+            write!(output, "{}", ValuesText { value_type, values })
+        }
+        Err(_) => print_digits(output, bytes),
     }
+}
+
+/// Prints two hexadecimal digits for each byte.
+fn print_digits<W: Write>(output: &mut W, bytes: &[u8]) -> io::Result<()> {
     for byte in bytes {
         write!(output, "{byte:02x}")?;
     }

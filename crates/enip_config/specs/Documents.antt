@@ -1,4 +1,5 @@
--- What a configuration says, and why one is refused: the first check that fails, in the order 7, 9, 8, 1 to 5, 10 to 12.
+-- What a configuration says, and why one is refused: the first check that fails, in the order 7, 9, 8, 1 to 5, 10
+-- to 12.
 use Rattle.std.specs.Prelude.{◌≡◌, ◌≤◌, ◌⊎◌, ⊤, ℕ, List, Bool, true, false, Option, Some, None, IfSome, option_map, map, string_bytes}
 use Rattle.std.specs.Prelude.{IsUtf8}
 use Rattle.std.specs.Option.{IsSomeAnd}

@@ -63,7 +63,8 @@ keys_of Assembly = instance_row.name ∷ codes "settable" ∷ codes "members" �
 keys_of Ledger = originators_row.name ∷ life_row.name ∷ []
 keys_of Object = class_row.name ∷ instance_row.name ∷ codes "name" ∷ []
 keys_of Attribute =
-    attribute_row.name ∷ codes "type" ∷ codes "value" ∷ codes "settable" ∷ codes "checked" ∷ codes "min" ∷ codes "max" ∷ []
+    attribute_row.name ∷ codes "type" ∷ codes "value" ∷ codes "settable" ∷ codes "checked" ∷ codes "min"
+    ∷ codes "max" ∷ []
 keys_of Service = service_row.name ∷ codes "size" ∷ codes "sizes" ∷ reply_row.name ∷ []
 
 -- whether a key of a table `object` is unknown, or one within its value

@@ -131,7 +131,8 @@ element_bytes element value = option_map (λ bits. le (width_of element) bits) (
 abbrev pub all_bytes : ElementaryType → Items → Option (List ℕ)
 all_bytes element no_items = Some []
 all_bytes element (item value values) =
-    option_and_then (λ bytes. option_map (λ rest. bytes ++ rest) (all_bytes element values)) (element_bytes element value)
+    option_and_then (λ bytes. option_map (λ rest. bytes ++ rest) (all_bytes element values))
+    (element_bytes element value)
 
 abbrev pub array_bytes : ElementaryType → Data → Option (List ℕ)
 array_bytes element (array values) = all_bytes element values
@@ -232,7 +233,8 @@ typed_seen typed = (typed.kind, typed.value.items)
 abbrev pub typed_as : Members → AttributeType → Option (AttributeKind × List ℕ)
 typed_as described type =
     both
-    (option_map (kind_of type) (range_of type (get_member (codes "min") described) (get_member (codes "max") described)))
+    (option_map (kind_of type)
+    (range_of type (get_member (codes "min") described) (get_member (codes "max") described)))
     (first_value type (get_member (codes "value") described))
 
 abbrev pub typed_by : Members → List ℕ → Option (AttributeKind × List ℕ)

@@ -4,7 +4,7 @@ use crate::attribute_type::{AttributeType, width_of};
 use crate::explanation::part_at;
 use crate::fault::LoadFault;
 use crate::typed::{bound, number_type, value_bytes};
-use cip_application::{AttributeConfig, AttributeKind, NumberRange, SetFault};
+use cip_application::{AttributeConfig, AttributeKind, SetFault};
 use cip_values::ElementaryType;
 use std::alloc::{AllocError, Global};
 use thiserror::Error;
@@ -111,12 +111,7 @@ fn bad_value(
     table: &Table,
     attribute: &AttributeConfig,
 ) -> Option<(&'static str, AttributeProblem)> {
-    if let AttributeKind::Fixed {
-        range: Some(range),
-        ..
-    } = attribute.kind
-        && is_falling(of_type, range)
-    {
+    if has_falling_range(of_type, attribute.kind) {
         let key = if table.get("min").is_some() {
             "min"
         } else {
@@ -142,8 +137,15 @@ fn bad_value(
     }
 }
 
-/// Whether the bounds of a range do not rise: the least number is not in the range.
-fn is_falling(of_type: AttributeType, range: NumberRange) -> bool {
+/// Whether the bounds of a kind's range do not rise: the least number is not in the range.
+fn has_falling_range(of_type: AttributeType, kind: AttributeKind) -> bool {
+    let AttributeKind::Fixed {
+        range: Some(range),
+        ..
+    } = kind
+    else {
+        return false;
+    };
     let Some(element) = element_of(of_type) else {
         return false;
     };

@@ -28,8 +28,8 @@ pub enum ConfigurationRefusal {
     UnknownKey = 9,
     /// There are over 32 own objects, or one has a class, an instance number or a name that it cannot have.
     Object = 10,
-    /// An own object has over 32 attributes, or one has a number, a type, a value or a range that it cannot have, or all
-    /// values together have over 16,384 bytes.
+    /// An own object has over 32 attributes, or one has a number, a type, a value or a range that it cannot have, or
+    /// all values together have over 16,384 bytes.
     Attribute = 11,
     /// An own object has over 16 services, or one has a number or sizes that it cannot have.
     Service = 12,

@@ -1,9 +1,11 @@
-//! The configuration of an EtherNet/IP device, as a TOML document: its identity, counter and assemblies, the address
-//! and port that it reports, its limits, and its command ledger.
+//! The configuration of an EtherNet/IP device, as a TOML document: its identity, counter and assemblies, its own
+//! objects, the address and port that it reports, its limits, and its command ledger.
 //!
 //! - [`Configuration::from_bytes`] reads a configuration, and refuses it by the first check that fails
 //!   (`specs/Documents.antt`). Each check has a number. Each key has a name, a range and, unless it is required, a
 //!   default (`specs/Keys.antt`). The objects accept every configuration that is read.
+//! - An own object has attributes and services (`specs/Objects.antt`). An [`AttributeType`] has a name, as `UINT[4]`,
+//!   and says how a value is read and which bytes it has (`specs/Types.antt`).
 //! - [`adapter_from`] makes the adapter of a configuration (`specs/Configured.antt`), [`adapter_in_life`] that of another
 //!   life of its ledger.
 //! - [`explain`] says what is wrong with a refused configuration, and in which line.
