@@ -135,6 +135,7 @@ fn a_writer_that_fails(rt: HostRuntime) -> Result<(), Fail> {
         };
         let adapter = demo_adapter(rt.alloc())?;
         let ended = draw_replay(rt.alloc(), adapter, b"resend\n", &mut output);
+        drop(output);
         assert_eq!(rt;
             ended,
             Err(ReplayFailure::Program(ProgramFault::Device)),

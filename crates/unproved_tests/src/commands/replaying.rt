@@ -27,6 +27,7 @@ fn a_writer_that_fails(rt: HostRuntime) -> Result<(), Fail> {
             room,
         };
         let ended = ending(rt.alloc(), &mut output)?;
+        drop(output);
         assert_eq!(rt;
             ended,
             Some(ReplayFailure::Program(ProgramFault::Device)),
