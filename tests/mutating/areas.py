@@ -12,6 +12,8 @@ from mutating.rules import errors_in, errors_in_value, returned_by
 from mutating.sources import TOP, Sources
 
 SCRIPTS = "tests/scripts"
+# The file that lists what the compiler refused.
+REFUSED = "refused"
 NOTICED, UNNOTICED, EQUAL = "noticed", "UNNOTICED", "equal by construction"
 
 
@@ -40,7 +42,7 @@ class Program:
         """Those of these errors that can be planted. They are all in one program. A list of those that the compiler
         refuses is kept in the folder."""
         self.switched = self.switched or Switched(self.folder / "copy", self.sources)
-        refused = self.folder / "refused"
+        refused = self.folder / REFUSED
         known = set(refused.read_text().splitlines()) if refused.exists() else set()
         numbers = {
             number: it for number, it in enumerate(errors, 1) if self.switched.place(it) and str(it) not in known

@@ -66,5 +66,5 @@ def disassembled(made):
     output = subprocess.run(command, stdout=subprocess.PIPE, text=True, errors="replace", check=True).stdout
     found = {}
     for name, body in re.findall(r"^[0-9a-f]+ <([^\n]* planted \d+)>:\n(.*?)(?:\n\n|\Z)", output, re.M | re.S):
-        found[name] = re.sub(r" planted \d+", "", body)
+        found[name] = re.sub(r" planted \d+", "", body).strip()
     return found
