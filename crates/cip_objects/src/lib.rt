@@ -1,5 +1,4 @@
-//! The objects of the adapter (Identity, Assembly, a counter and the application objects of `cip_application`), and the
-//! trait by which a connection reaches them.
+//! The objects of the adapter (Identity, Assembly and a counter), and the trait by which a connection reaches them.
 //!
 //! [`Objects`] is made from a [`Config`] and executes router requests, as its trait [`Router`] says. Contracts see
 //! it as the object map, from class, instance and attribute to bytes, and the constant tables that the

@@ -4,7 +4,7 @@ ghost use Rattle.std.specs.Prelude.{◌≡◌};
 /// A service of some object (Volume 1, common services; Add and Clear are the counter's own).
 #[derive(Clone, Copy)]
 pub(crate) enum Service {
-    /// Reads all attributes, joined.
+    /// Reads attributes 1 to 7, joined.
     GetAttributesAll,
     /// Reads a list of attributes, each with its status.
     GetAttributeList,
