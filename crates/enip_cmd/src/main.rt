@@ -18,7 +18,6 @@ mod logged_wire;
 mod named_file;
 mod observer;
 mod once;
-mod owner;
 mod polling;
 mod readiness;
 mod reason;
@@ -49,7 +48,6 @@ use mio::net::UdpSocket;
 use named_file::{NamedFile, error_of_run};
 use observer::NoObserver;
 use once::{OnceOptions, run_once};
-use owner::refuse_requests_to_owner;
 use polling::{PollOptions, run_polling};
 use reason::{CLOCK, CommandError, Reason};
 use replay::{draw, replay};
@@ -326,9 +324,7 @@ fn adapter_to_serve<'a>(
     rt: &HostRuntime,
     config: &NamedFile<'a>,
 ) -> Result<Adapter, CommandError<'a>> {
-    let configuration = config.configuration(rt.alloc())?;
-    refuse_requests_to_owner(config.name(), &configuration.objects.objects)?;
-    if configuration.ledger.is_none() {
+    if config.configuration(rt.alloc())?.ledger.is_none() {
         return config.adapter(rt.alloc());
     }
     let life = life_now(rt).map_err(|error| CommandError::of_system(CLOCK, error))?;

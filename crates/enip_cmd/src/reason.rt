@@ -37,12 +37,6 @@ pub(crate) enum Reason<'a> {
     /// A configuration is refused.
     #[error("{0}: {1}")]
     Configuration(&'a str, Explanation),
-    /// An attribute of the configuration's object of this class and instance is checked by an owner.
-    #[error("{0}: class {1}, instance {2} has a checked attribute, and `enip serve` has no owner to ask")]
-    CheckedAttribute(&'a str, u16, u16),
-    /// A service of the configuration's object of this class and instance is executed by an owner.
-    #[error("{0}: class {1}, instance {2} has a service, and `enip serve` has no owner to execute it")]
-    OwnService(&'a str, u16, u16),
     /// A line of an input is refused.
     #[error("{0}, line {1}: {2}")]
     Line(&'a str, u64, LineFault),
