@@ -102,14 +102,17 @@ typedef struct enip_adapter enip_adapter;
 
 /* Why a configuration is refused: the checks of docs/PROGRAM.md, "The configuration". There is no check 6. */
 enum {
-    ENIP_CONFIG_NAME = 1,     /* the name is longer than 32 bytes, or has a byte outside 0x20 to 0x7e */
-    ENIP_CONFIG_SIZE = 2,     /* more than 16 assemblies, or one of 0 or more than 3,900 bytes */
-    ENIP_CONFIG_MEMBERS = 3,  /* an assembly of more than 64 members, or a member of 0 bytes */
-    ENIP_CONFIG_INSTANCE = 4, /* an assembly's instance is 0 or used twice */
-    ENIP_CONFIG_LIMIT = 5,    /* the counter's value is over its limit */
-    ENIP_CONFIG_TOML = 7,     /* the text is not TOML, or not UTF-8 */
-    ENIP_CONFIG_VALUE = 8,    /* a value is missing, of another type or out of range */
-    ENIP_CONFIG_KEY = 9       /* a key is unknown */
+    ENIP_CONFIG_NAME = 1,       /* the name is longer than 32 bytes, or has a byte outside 0x20 to 0x7e */
+    ENIP_CONFIG_SIZE = 2,       /* more than 16 assemblies, or one of 0 or more than 3,900 bytes */
+    ENIP_CONFIG_MEMBERS = 3,    /* an assembly of more than 64 members, or a member of 0 bytes */
+    ENIP_CONFIG_INSTANCE = 4,   /* an assembly's instance is 0 or used twice */
+    ENIP_CONFIG_LIMIT = 5,      /* the counter's value is over its limit */
+    ENIP_CONFIG_TOML = 7,       /* the text is not TOML, or not UTF-8 */
+    ENIP_CONFIG_VALUE = 8,      /* a value is missing, of another type or out of range */
+    ENIP_CONFIG_KEY = 9,        /* a key is unknown */
+    ENIP_CONFIG_OBJECT = 10,    /* an own object: its class, instance or name, or more than 32 objects */
+    ENIP_CONFIG_ATTRIBUTE = 11, /* an attribute of one: its number, type, value, range or size, or more than 32 */
+    ENIP_CONFIG_SERVICE = 12    /* a service of one: its number or sizes, or more than 16 */
 };
 
 /* Why enip_adapter_new refuses a configuration. */

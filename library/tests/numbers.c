@@ -46,6 +46,12 @@ static void refusals(void) {
     is("TOML", refused("vendor ="), ENIP_CONFIG_TOML);
     is("a value", refused(HEAD NAME "[counter]\nlimit = -1\n"), ENIP_CONFIG_VALUE);
     is("a key", refused(HEAD NAME "colour = 1\n" COUNTER), ENIP_CONFIG_KEY);
+    is("an object", refused(HEAD NAME "[[object]]\nclass = 1\ninstance = 1\n"), ENIP_CONFIG_OBJECT);
+    is("an attribute",
+       refused(HEAD NAME "[[object]]\nclass = 768\ninstance = 1\n[[object.attribute]]\nnumber = 0\ntype = \"UINT\"\n"),
+       ENIP_CONFIG_ATTRIBUTE);
+    is("a service", refused(HEAD NAME "[[object]]\nclass = 768\ninstance = 1\n[[object.service]]\nnumber = 49\nsize = 4\n"),
+       ENIP_CONFIG_SERVICE);
 }
 
 /* A header with this command, data length and session. */

@@ -1,9 +1,11 @@
 -- The counter over a list of requests.
-use Rattle.std.proofs.Common.{◌≡◌, ℕ, ◌+◌, ◌%◌, ◌^◌, ◌<◌, ◌≤◌, ◌⊎◌, inl, inr, eqb, Bool, true, false, cond, ◌&&◌, nat_lt, List, [], ◌∷◌, length, Option, Some, None, is_some, option_map, unwrap_or, Result, Ok, Err, refl, sym, ap, ◌∙◌, arith, subst, suc, take, drop, ◌*◌}
+use Rattle.std.proofs.Common.{◌≡◌, ℕ, ◌+◌, ◌%◌, ◌^◌, ◌<◌, ◌≤◌, ◌⊎◌, inl, inr, eqb, Bool, true, false, cond, ◌&&◌, nat_le, nat_lt, List, [], ◌∷◌, length, Option, Some, None, is_some, option_map, unwrap_or, Result, Ok, Err, refl, sym, ap, ◌∙◌, arith, subst, suc, take, drop, ◌*◌}
 use Rattle.std.proofs.Math.Nat.{mod-eq_of_lt}
 use Rattle.std.proofs.lemmas.Bool.Decides.{nat_tests}
 use Rattle.std.proofs.lemmas.Bool.Decides.{eqb_tells}
 use Rattle.std.proofs.lemmas.List.{get_or-drop}
+use Rattle.cip_application.specs.declared.kind.AttributeKind.{AttributeKind}
+use Rattle.cip_application.specs.Values.{is_allowed as is_allowed_value}
 use Rattle.byteorder.specs.Endian.{little_number}
 use Rattle.cip_bytes.specs.Reading.{◌>>=◌}
 use Rattle.cip_message.specs.declared.path.Path.{Path}
@@ -19,7 +21,7 @@ use Rattle.cip_objects.specs.declared.status.Completion.TheVariants.{Whole}
 use Rattle.cip_objects.specs.declared.status.Refusal.TheVariants.{ReplyDataTooLarge}
 use Rattle.cip_objects.specs.Contents.{Contents, with_value, with_change}
 use Rattle.cip_objects.specs.ReadServices.{service_at, get_attribute_single, get_attributes_all, get_attribute_list, get_member}
-use Rattle.cip_objects.specs.ChangeServices.{Change, after_add, is_allowed, set_attribute_single, set_member, add, clear}
+use Rattle.cip_objects.specs.ChangeServices.{Change, after_add, is_allowed_limit, is_allowed, set_attribute_single, set_member, add, clear}
 use Rattle.cip_objects.specs.Execution.{Outcome, perform, outcome, Executed, with_reply, or_refusal, exec, reply_to, run}
 use Rattle.cip_objects.specs.Run.{value_of, limit_of, additions_of, IsCounter, is_counter, to_counter, addition, sum_after, sum_since_cleared, number_of_additions, counter_law}
 use Rattle.cip_objects.specs.Router.{general_status}
@@ -29,55 +31,69 @@ use Rattle.cip_objects.specs.ExecutionLaws.{reply_of_outcome}
 use Rattle.cip_objects.proofs.Executed.{answered_by}
 use Rattle.cip_objects.proofs.Refuses.{no_success}
 use Rattle.cip_objects.specs.Service.{service_code}
-use Rattle.cip_objects.specs.Tables.{Shape, shape_at, services_of}
+use Rattle.std.specs.List.{list_any}
+use Rattle.cip_objects.specs.Tables.{Shape, shape_at, services_of, ObjectShape, Shapes, object_at, is_counter_class}
 use Rattle.cip_objects.proofs.Offers.{table, offered}
 use Rattle.cip_objects.proofs.Effects.{goes, set_effect, Sets, member_effect, SetsMember, add_effect, clear_effect, read_effect, change_effect, chosen_code}
-use Rattle.cip_objects.proofs.ReadAfterSet.{udint_at-same, udint_at-other, udint_at-elsewhere, udint_at-set}
+use Rattle.cip_objects.proofs.ReadAfterSet.{udint_at-changed, udint_at-other, udint_at-elsewhere, udint_at-set}
+use Rattle.cip_objects.proofs.Blocks.{eqb-other}
 use Rattle.cip_objects.proofs.Settable.{settable_limit}
 
-table_add : (b1 b4 b6 b100 z o : Bool) (x : Option Shape) (s : Service) → offered 0x32 (table b1 b4 b6 b100 z o x) ≡ Ok s → (b100 ≡ true) × (o ≡ true)
-table_add true b4 b6 b100 true o x s e = absurd (cc)
-table_add true b4 b6 b100 false true x s e = absurd (cc)
-table_add true b4 b6 b100 false false x s e = absurd (cc)
-table_add false true b6 b100 true o x s e = absurd (cc)
-table_add false true b6 b100 false o None s e = absurd (cc)
-table_add false true b6 b100 false o (Some y) s e = absurd (cc)
-table_add false false true b100 z true x s e = absurd (cc)
-table_add false false true b100 z false x s e = absurd (cc)
-table_add false false false true true o x s e = absurd (cc)
-table_add false false false true false true x s e = (refl, refl)
-table_add false false false true false false x s e = absurd (cc)
-table_add false false false false z o x s e = absurd (cc)
+table_add : (b1 b4 b6 b100 z o : Bool) (x : Option Shape) (k : Bool) (y : Option ObjectShape) (s : Service) → offered 0x32 (table b1 b4 b6 b100 z o x k y) ≡ Ok s → (b100 ≡ true) × (o ≡ true)
+table_add true b4 b6 b100 true o x k y s e = absurd (cc)
+table_add true b4 b6 b100 false true x k y s e = absurd (cc)
+table_add true b4 b6 b100 false false x k y s e = absurd (cc)
+table_add false true b6 b100 true o x k y s e = absurd (cc)
+table_add false true b6 b100 false o None k y s e = absurd (cc)
+table_add false true b6 b100 false o (Some w) k y s e = absurd (cc)
+table_add false false true b100 z true x k y s e = absurd (cc)
+table_add false false true b100 z false x k y s e = absurd (cc)
+table_add false false false true true o x k y s e = absurd (cc)
+table_add false false false true false true x k y s e = (refl, refl)
+table_add false false false true false false x k y s e = absurd (cc)
+table_add false false false false true o x true y s e = absurd (cc)
+table_add false false false false true o x false y s e = absurd (cc)
+table_add false false false false false o x k None s e = absurd (cc)
+table_add false false false false false o x k (Some w) s e = absurd (cc)
 
-table_clear : (b1 b4 b6 b100 z o : Bool) (x : Option Shape) (s : Service) → offered 0x33 (table b1 b4 b6 b100 z o x) ≡ Ok s → (b100 ≡ true) × (o ≡ true)
-table_clear true b4 b6 b100 true o x s e = absurd (cc)
-table_clear true b4 b6 b100 false true x s e = absurd (cc)
-table_clear true b4 b6 b100 false false x s e = absurd (cc)
-table_clear false true b6 b100 true o x s e = absurd (cc)
-table_clear false true b6 b100 false o None s e = absurd (cc)
-table_clear false true b6 b100 false o (Some y) s e = absurd (cc)
-table_clear false false true b100 z true x s e = absurd (cc)
-table_clear false false true b100 z false x s e = absurd (cc)
-table_clear false false false true true o x s e = absurd (cc)
-table_clear false false false true false true x s e = (refl, refl)
-table_clear false false false true false false x s e = absurd (cc)
-table_clear false false false false z o x s e = absurd (cc)
+table_clear : (b1 b4 b6 b100 z o : Bool) (x : Option Shape) (k : Bool) (y : Option ObjectShape) (s : Service) → offered 0x33 (table b1 b4 b6 b100 z o x k y) ≡ Ok s → (b100 ≡ true) × (o ≡ true)
+table_clear true b4 b6 b100 true o x k y s e = absurd (cc)
+table_clear true b4 b6 b100 false true x k y s e = absurd (cc)
+table_clear true b4 b6 b100 false false x k y s e = absurd (cc)
+table_clear false true b6 b100 true o x k y s e = absurd (cc)
+table_clear false true b6 b100 false o None k y s e = absurd (cc)
+table_clear false true b6 b100 false o (Some w) k y s e = absurd (cc)
+table_clear false false true b100 z true x k y s e = absurd (cc)
+table_clear false false true b100 z false x k y s e = absurd (cc)
+table_clear false false false true true o x k y s e = absurd (cc)
+table_clear false false false true false true x k y s e = (refl, refl)
+table_clear false false false true false false x k y s e = absurd (cc)
+table_clear false false false false true o x true y s e = absurd (cc)
+table_clear false false false false true o x false y s e = absurd (cc)
+table_clear false false false false false o x k None s e = absurd (cc)
+table_clear false false false false false o x k (Some w) s e = absurd (cc)
+
+both_true : (a b : Bool) → a && b ≡ true → (a ≡ true) × (b ≡ true)
+both_true true b h = (refl, h)
+both_true false b h = absurd (cc)
 
 equal : (a b : ℕ) → eqb a b ≡ true → a ≡ b
 equal a b e = grind (arith, nat_tests)
 
 -- only the counter's instance can be added to or cleared
-pub add_place : (shapes : List Shape) (class instance : ℕ) (s : Service) → service_at shapes class instance 0x32 ≡ Ok s → (class ≡ 100) × (instance ≡ 1)
+pub add_place : (shapes : Shapes) (class instance : ℕ) (s : Service) → service_at shapes class instance 0x32 ≡ Ok s → (class ≡ 100) × (instance ≡ 1)
 unfolding service_at services_of
 add_place shapes class instance s e =
-    let t = table_add (eqb class 1) (eqb class 4) (eqb class 6) (eqb class 100) (eqb instance 0) (eqb instance 1) (shape_at instance shapes) s e in
-    (equal class 100 t.0, equal instance 1 t.1)
+    let t = table_add (eqb class 1) (eqb class 4) (eqb class 6) (is_counter_class shapes class) (eqb instance 0) (eqb instance 1) (shape_at instance shapes.assemblies)
+    (list_any (λ o. eqb o.class class) shapes.objects) (object_at class instance shapes.objects) s e in
+    (equal class 100 (both_true (eqb class 100) _ t.0).0, equal instance 1 t.1)
 
-pub clear_place : (shapes : List Shape) (class instance : ℕ) (s : Service) → service_at shapes class instance 0x33 ≡ Ok s → (class ≡ 100) × (instance ≡ 1)
+pub clear_place : (shapes : Shapes) (class instance : ℕ) (s : Service) → service_at shapes class instance 0x33 ≡ Ok s → (class ≡ 100) × (instance ≡ 1)
 unfolding service_at services_of
 clear_place shapes class instance s e =
-    let t = table_clear (eqb class 1) (eqb class 4) (eqb class 6) (eqb class 100) (eqb instance 0) (eqb instance 1) (shape_at instance shapes) s e in
-    (equal class 100 t.0, equal instance 1 t.1)
+    let t = table_clear (eqb class 1) (eqb class 4) (eqb class 6) (is_counter_class shapes class) (eqb instance 0) (eqb instance 1) (shape_at instance shapes.assemblies)
+    (list_any (λ o. eqb o.class class) shapes.objects) (object_at class instance shapes.objects) s e in
+    (equal class 100 (both_true (eqb class 100) _ t.0).0, equal instance 1 t.1)
 
 abbrev pub added_by : List ℕ → Option ℕ
 added_by text = option_map (little_number 4) (to_counter 0x32 (request_of text))
@@ -115,13 +131,13 @@ quiet m text o na nc v a h counter = record {
   done = inr (ap (option_map (little_number 4)) na, ap is_some nc);
 }
 
-counter_like : (m n : Contents) → value_of n ≡ value_of m → limit_of n ≡ limit_of m → additions_of n ≡ additions_of m → IsCounter m → IsCounter n
-counter_like m n v l a h = record { within = omega (arith, h.within); limit = omega (arith, h.limit); additions = omega (arith, h.additions) }
+counter_like : (m n : Contents) → n.shapes ≡ m.shapes → value_of n ≡ value_of m → limit_of n ≡ limit_of m → additions_of n ≡ additions_of m → IsCounter m → IsCounter n
+counter_like m n s v l a h = record { there = ap (λ k. k.has_counter) s ∙ h.there; within = omega (arith, h.within); limit = omega (arith, h.limit); additions = omega (arith, h.additions) }
 
 -- a request of another service that did not change the counter's numbers
-unmoved : (m : Contents) (text : List ℕ) (o : Outcome) (q : Request) → request_of text ≡ Ok q → eqb q.service 0x32 ≡ false → eqb q.service 0x33 ≡ false → value_of o.after ≡ value_of m → limit_of o.after ≡ limit_of m → additions_of o.after ≡ additions_of m → IsCounter m → Effect m text o
-unmoved m text o q e na nc v l a h =
-    quiet m text o (to_other 0x32 text q e na) (to_other 0x33 text q e nc) v a h.additions (counter_like m o.after v l a h)
+unmoved : (m : Contents) (text : List ℕ) (o : Outcome) (q : Request) → request_of text ≡ Ok q → eqb q.service 0x32 ≡ false → eqb q.service 0x33 ≡ false → o.after.shapes ≡ m.shapes → value_of o.after ≡ value_of m → limit_of o.after ≡ limit_of m → additions_of o.after ≡ additions_of m → IsCounter m → Effect m text o
+unmoved m text o q e na nc s v l a h =
+    quiet m text o (to_other 0x32 text q e na) (to_other 0x33 text q e nc) v a h.additions (counter_like m o.after s v l a h)
 
 in_data : (short : Bool) (s w : ℕ) (rest : List ℕ) (q : Request) → AreBytes (s ∷ w ∷ rest) → ◌≡◌ {A = Result Request RequestFault} (cond short (Err PathSize) (Ok (record { service = s; path = take (2 * w) rest; «data» = drop (2 * w) rest }))) (Ok q) → AreBytes q.data
 in_data true s w rest q h e = absurd (cc)
@@ -139,32 +155,42 @@ data_bytes (s ∷ w ∷ rest) q h e = in_data (nat_lt (length rest) (2 * w)) s w
 little_fits : (xs : List ℕ) → AreBytes xs → little_number 4 xs < 2 ^ 32
 little_fits xs h = omega (arith, h 0, h 1, h 2, h 3)
 
-allowed_limit : (m : Contents) (content : List ℕ) → is_allowed m 100 content ≡ true → value_of m ≤ little_number 4 content
-allowed_limit m content e = grind (arith, nat_tests)
+at_most : (a b : ℕ) → nat_le a b ≡ true → a ≤ b
+at_most a b e = grind (arith, nat_tests)
+
+allowed_limit : (m : Contents) (kind : AttributeKind) (content : List ℕ) → m.shapes.has_counter ≡ true → is_allowed m 100 kind content ≡ true → value_of m ≤ little_number 4 content
+allowed_limit m kind content there e =
+    at_most (value_of m) (little_number 4 content)
+    (sym (ap (λ t. cond t (is_allowed_limit m content) (is_allowed_value kind content)) there) ∙ e)
 
 -- a set attribute
-set_moves : (m : Contents) (text : List ℕ) (o : Outcome) (q : Request) (p : Path) (c : Change) → IsCounter m → AreBytes q.data → request_of text ≡ Ok q → eqb q.service 0x32 ≡ false → eqb q.service 0x33 ≡ false → o.after ≡ c.after → Sets m p q.data c → ((eqb p.class 4 ≡ true) × (p.class ≡ 4)) ⊎ ((eqb p.class 4 ≡ false) × (p.class ≡ 4 → ⊥)) → Effect m text o
-set_moves m text o q p c hc hb e na nc after x (inl four) =
-    let other = λ (b : ℕ). ap (λ n. eqb 100 n && (eqb 1 p.instance && eqb b x.attribute)) four.1 in
-    unmoved m text o q e na nc
+set_moves : (m : Contents) (text : List ℕ) (o : Outcome) (q : Request) (p : Path) (c : Change) → IsCounter m → AreBytes q.data → request_of text ≡ Ok q → eqb q.service 0x32 ≡ false → eqb q.service 0x33 ≡ false → o.after ≡ c.after → Sets m p q.data c → ((eqb p.class 100 ≡ true) × (p.class ≡ 100)) ⊎ ((eqb p.class 100 ≡ false) × (p.class ≡ 100 → ⊥)) → Effect m text o
+set_moves m text o q p c hc hb e na nc after x (inl counter) =
+    let l = settable_limit m.shapes p.class p.instance x.attribute x.kind x.can counter.1 hc.there in
+    let leaves : o.after ≡ with_change m 100 1 2 q.data = after ∙ x.leaves ∙ ap (λ k. with_change m k p.instance x.attribute q.data) counter.1 ∙ ap (λ k. with_change m 100 k x.attribute q.data) l.of_instance ∙ ap (λ k. with_change m 100 1 k q.data) l.is_limit in
+    let v = ap value_of leaves ∙ udint_at-elsewhere m 100 1 2 q.data 100 1 1 refl in
+    let a = ap additions_of leaves ∙ udint_at-elsewhere m 100 1 2 q.data 100 1 3 refl in
+    let limit : limit_of o.after ≡ little_number 4 q.data = ap limit_of leaves ∙ udint_at-changed m 100 1 2 q.data in
+    let allowed = allowed_limit m x.kind q.data hc.there (sym (ap (λ k. is_allowed m k x.kind q.data) counter.1) ∙ x.allowed) in
+    quiet m text o (to_other 0x32 text q e na) (to_other 0x33 text q e nc) v a hc.additions
+    (record {
+      there = ap (λ k. k.shapes.has_counter) leaves ∙ hc.there;
+      within = rw (v, limit) allowed;
+      limit = rw limit (little_fits q.data hb);
+      additions = rw a hc.additions;
+    })
+set_moves m text o q p c hc hb e na nc after x (inr more) =
+    let other = λ (b : ℕ). ap (λ t. t && (eqb 1 p.instance && eqb b x.attribute)) (eqb-other 100 p.class (λ z. more.1 (sym z))) in
+    unmoved m text o q e na nc (ap (λ k. k.shapes) (after ∙ x.leaves))
     (ap value_of (after ∙ x.leaves) ∙ udint_at-elsewhere m p.class p.instance x.attribute q.data 100 1 1 (other 1))
     (ap limit_of (after ∙ x.leaves) ∙ udint_at-elsewhere m p.class p.instance x.attribute q.data 100 1 2 (other 2))
     (ap additions_of (after ∙ x.leaves) ∙ udint_at-elsewhere m p.class p.instance x.attribute q.data 100 1 3 (other 3))
     hc
-set_moves m text o q p c hc hb e na nc after x (inr more) =
-    let l = settable_limit m.shapes p.class p.instance x.attribute x.size x.can more.1 in
-    let leaves : o.after ≡ with_value m 100 1 2 q.data = after ∙ x.leaves ∙ ap (λ k. with_change m k p.instance x.attribute q.data) l.of_counter ∙ ap (λ k. with_change m 100 k x.attribute q.data) l.of_instance ∙ ap (λ k. with_value m 100 1 k q.data) l.is_limit in
-    let v = ap value_of leaves ∙ udint_at-other m 100 1 2 q.data 100 1 1 refl in
-    let a = ap additions_of leaves ∙ udint_at-other m 100 1 2 q.data 100 1 3 refl in
-    let limit : limit_of o.after ≡ little_number 4 q.data = ap limit_of leaves ∙ udint_at-same m 100 1 2 q.data in
-    let allowed = allowed_limit m q.data (sym (ap (λ k. is_allowed m k q.data) l.of_counter) ∙ x.allowed) in
-    quiet m text o (to_other 0x32 text q e na) (to_other 0x33 text q e nc) v a hc.additions
-    (record { within = rw (v, limit) allowed; limit = rw limit (little_fits q.data hb); additions = rw a hc.additions })
 
 -- a set member
 member_moves : (m : Contents) (text : List ℕ) (o : Outcome) (q : Request) (p : Path) (c : Change) → IsCounter m → request_of text ≡ Ok q → eqb q.service 0x32 ≡ false → eqb q.service 0x33 ≡ false → o.after ≡ c.after → SetsMember m p c → Effect m text o
 member_moves m text o q p c hc e na nc after x =
-    unmoved m text o q e na nc
+    unmoved m text o q e na nc (ap (λ k. k.shapes) (after ∙ x.leaves))
     (ap value_of (after ∙ x.leaves) ∙ udint_at-elsewhere m 4 p.instance 3 x.value 100 1 1 refl)
     (ap limit_of (after ∙ x.leaves) ∙ udint_at-elsewhere m 4 p.instance 3 x.value 100 1 2 refl)
     (ap additions_of (after ∙ x.leaves) ∙ udint_at-elsewhere m 4 p.instance 3 x.value 100 1 3 refl)
@@ -185,7 +211,12 @@ add_moves m text o q n hc e nc is within leaves done =
     record {
       value = v ∙ ap (λ k. value_of m + unwrap_or k 0) (sym by) ∙ ap (λ k. cond (is_some k) 0 (value_of m + unwrap_or (added_by text) 0)) (sym nc);
       additions = a ∙ ap (λ k. (additions_of m + cond (is_some k) 1 0) % 2 ^ 32) (sym by);
-      counter = record { within = rw (v, l) within; limit = rw l hc.limit; additions = rw a small_count };
+      counter = record {
+        there = ap (λ k. k.shapes.has_counter) leaves ∙ hc.there;
+        within = rw (v, l) within;
+        limit = rw l hc.limit;
+        additions = rw a small_count;
+      };
       done = inl done;
     }
 
@@ -198,12 +229,17 @@ clear_moves m text o q hc e na leaves done =
     record {
       value = v ∙ ap (λ k. cond (is_some k) 0 (value_of m + unwrap_or (added_by text) 0)) (sym e);
       additions = a ∙ small (additions_of m) hc.additions ∙ sym (ap (λ x. (additions_of m + cond (is_some (option_map (little_number 4) x)) 1 0) % 2 ^ 32) na);
-      counter = record { within = omega (arith, v); limit = omega (arith, l, hc.limit); additions = omega (arith, a, hc.additions) };
+      counter = record {
+        there = ap (λ k. k.shapes.has_counter) leaves ∙ hc.there;
+        within = omega (arith, v);
+        limit = omega (arith, l, hc.limit);
+        additions = omega (arith, a, hc.additions);
+      };
       done = inl done;
     }
 
 still : (m : Contents) (text : List ℕ) (o : Outcome) (q : Request) → IsCounter m → request_of text ≡ Ok q → eqb q.service 0x32 ≡ false → eqb q.service 0x33 ≡ false → o.after ≡ m → Effect m text o
-still m text o q hc e na nc after = unmoved m text o q e na nc (ap value_of after) (ap limit_of after) (ap additions_of after) hc
+still m text o q hc e na nc after = unmoved m text o q e na nc (ap (λ k. k.shapes) after) (ap value_of after) (ap limit_of after) (ap additions_of after) hc
 
 not_code : (s q code : ℕ) → s ≡ q → eqb s code ≡ false → eqb q code ≡ false
 not_code s q code e h = ap (λ n. eqb n code) (sym e) ∙ h
@@ -220,7 +256,7 @@ by_service m text o q p GetAttributeSingle hc hb e f ch code done =
     still m text o q hc e (not_code 0x0e q.service 0x32 code refl) (not_code 0x0e q.service 0x33 code refl) (read_effect m (get_attribute_single m p q.data) o done)
 by_service m text o q p SetAttributeSingle hc hb e f ch code done =
     let c = change_effect (set_attribute_single m p q.data) o done in
-    set_moves m text o q p c.change hc hb e (not_code 0x10 q.service 0x32 code refl) (not_code 0x10 q.service 0x33 code refl) c.after (set_effect m p q.data c.change c.first) (eqb_tells p.class 4)
+    set_moves m text o q p c.change hc hb e (not_code 0x10 q.service 0x32 code refl) (not_code 0x10 q.service 0x33 code refl) c.after (set_effect m p q.data c.change c.first) (eqb_tells p.class 100)
 by_service m text o q p GetMember hc hb e f ch code done =
     still m text o q hc e (not_code 0x18 q.service 0x32 code refl) (not_code 0x18 q.service 0x33 code refl) (read_effect m (get_member m p q.data) o done)
 by_service m text o q p SetMember hc hb e f ch code done =

@@ -2,6 +2,7 @@ pub mod Blocks
 pub mod Map
 pub mod Lookup
 pub mod Shapes
+pub mod Offers
 pub mod ObjectRefs
 pub mod Writes
 pub mod Numbers
@@ -9,10 +10,10 @@ pub mod Words
 pub mod Settable
 pub mod Executed
 pub mod Refuses
+pub mod ObjectsApart
 pub mod Sound
 pub mod ReadAfterSet
 pub mod Effects
-pub mod Offers
 pub mod CounterRun
 pub mod Sets
 pub mod Refused
@@ -26,3 +27,5 @@ pub mod IdentityWrites
 pub mod DeviceLemmas
 pub mod Counting
 pub mod ChangeCounts
+pub mod ObjectWrites
+pub mod ObjectLemmas

@@ -24,7 +24,8 @@ use Rattle.cip_objects.specs.Lists.{IsGet, AreGets, entries_of_replies, list_law
 use Rattle.cip_objects.specs.Router.{general_status}
 use Rattle.cip_objects.specs.Service.{service_code}
 use Rattle.cip_objects.specs.Status.{completion_status, refusal_status}
-use Rattle.cip_objects.specs.Tables.{Shape, shape_at, services_of}
+use Rattle.std.specs.List.{list_any}
+use Rattle.cip_objects.specs.Tables.{Shape, shape_at, services_of, ObjectShape, Shapes, object_at, is_counter_class}
 use Rattle.cip_objects.proofs.Offers.{table, offered}
 use Rattle.cip_objects.proofs.Effects.{goes, after_check, chosen_code}
 use Rattle.cip_objects.proofs.Refuses.{exec_outcome}
@@ -42,28 +43,32 @@ is_list SetMember e = absurd (omega arith)
 is_list Add e = absurd (omega arith)
 is_list Clear e = absurd (omega arith)
 
-table_list : (b1 b4 b6 b100 z o : Bool) (x : Option Shape) (s : Service)
-    → offered 0x03 (table b1 b4 b6 b100 z o x) ≡ Ok s → offered 0x0e (table b1 b4 b6 b100 z o x) ≡ Ok GetAttributeSingle
-table_list true b4 b6 b100 true o x s e = absurd (cc)
-table_list true b4 b6 b100 false true x s e = refl
-table_list true b4 b6 b100 false false x s e = absurd (cc)
-table_list false true b6 b100 true o x s e = absurd (cc)
-table_list false true b6 b100 false o None s e = absurd (cc)
-table_list false true b6 b100 false o (Some y) s e = refl
-table_list false false true b100 z true x s e = absurd (cc)
-table_list false false true b100 z false x s e = absurd (cc)
-table_list false false false true true o x s e = absurd (cc)
-table_list false false false true false true x s e = refl
-table_list false false false true false false x s e = absurd (cc)
-table_list false false false false z o x s e = absurd (cc)
+table_list : (b1 b4 b6 b100 z o : Bool) (x : Option Shape) (k : Bool) (y : Option ObjectShape) (s : Service)
+    → offered 0x03 (table b1 b4 b6 b100 z o x k y) ≡ Ok s → offered 0x0e (table b1 b4 b6 b100 z o x k y) ≡ Ok GetAttributeSingle
+table_list true b4 b6 b100 true o x k y s e = absurd (cc)
+table_list true b4 b6 b100 false true x k y s e = refl
+table_list true b4 b6 b100 false false x k y s e = absurd (cc)
+table_list false true b6 b100 true o x k y s e = absurd (cc)
+table_list false true b6 b100 false o None k y s e = absurd (cc)
+table_list false true b6 b100 false o (Some w) k y s e = refl
+table_list false false true b100 z true x k y s e = absurd (cc)
+table_list false false true b100 z false x k y s e = absurd (cc)
+table_list false false false true true o x k y s e = absurd (cc)
+table_list false false false true false true x k y s e = refl
+table_list false false false true false false x k y s e = absurd (cc)
+table_list false false false false true o x true y s e = absurd (cc)
+table_list false false false false true o x false y s e = absurd (cc)
+table_list false false false false false o x k None s e = absurd (cc)
+table_list false false false false false o x k (Some w) s e = refl
 
 -- if a list can be read, so can one attribute
-list_offers : (shapes : List Shape) (class instance : ℕ) (s : Service) → service_at shapes class instance 0x03 ≡ Ok s
+list_offers : (shapes : Shapes) (class instance : ℕ) (s : Service) → service_at shapes class instance 0x03 ≡ Ok s
     → service_at shapes class instance 0x0e ≡ Ok GetAttributeSingle
 unfolding service_at services_of
 list_offers shapes class instance s e =
-    table_list (eqb class 1) (eqb class 4) (eqb class 6) (eqb class 100) (eqb instance 0) (eqb instance 1)
-    (shape_at instance shapes) s e
+    table_list (eqb class 1) (eqb class 4) (eqb class 6) (is_counter_class shapes class) (eqb instance 0) (eqb instance 1)
+    (shape_at instance shapes.assemblies)
+    (list_any (λ o. eqb o.class class) shapes.objects) (object_at class instance shapes.objects) s e
 
 -- the outcome of a single get if the attribute does not exist
 get_misses : (m : Contents) (get path : List ℕ) (p : Path) (a : ℕ) → IsRequestWith get 0x0e path [] → path_of path ≡ Ok p

@@ -19,7 +19,8 @@ use Rattle.cip_objects.specs.Execution.{Outcome, perform, outcome, exec}
 use Rattle.cip_objects.specs.Laws.{IsRequestWith}
 use Rattle.cip_objects.specs.Members.{AreWhole, member_after_set_law}
 use Rattle.cip_objects.specs.Service.{service_code}
-use Rattle.cip_objects.specs.Tables.{Shape, shape_at, span_in, member_at, services_of}
+use Rattle.std.specs.List.{list_any}
+use Rattle.cip_objects.specs.Tables.{Shape, shape_at, span_in, member_at, services_of, ObjectShape, Shapes, object_at, is_counter_class}
 use Rattle.cip_objects.proofs.Offers.{table, offered}
 use Rattle.cip_objects.proofs.Effects.{goes, bound, after_check, found_some, change_effect, chosen_code}
 use Rattle.cip_objects.proofs.ReadAfterSet.{value_at-same}
@@ -28,16 +29,16 @@ use Rattle.cip_objects.proofs.Spans.{IsAt, member_at_place, inside, slice_same}
 use Rattle.cip_objects.proofs.Unsettable.{splices}
 
 -- the member that a path names
-pub record Names (shapes : List Shape) (path : Path) (span : Span) : Type 0 where
+pub record Names (shapes : Shapes) (path : Path) (span : Span) : Type 0 where
   pub number : ℕ
   pub shape : Shape
   pub is_member : path.member ≡ Some number
-  pub is_shape : shape_at path.instance shapes ≡ Some shape
+  pub is_shape : shape_at path.instance shapes.assemblies ≡ Some shape
   pub counts : 0 < number
   pub lies : IsAt shape.members (number - 1) span
 
-in_shape : (shapes : List Shape) (path : Path) (span : Span) (number : ℕ) (o : Option Shape) → path.member ≡ Some number
-    → shape_at path.instance shapes ≡ o → span_in o number ≡ Some span → Names shapes path span
+in_shape : (shapes : Shapes) (path : Path) (span : Span) (number : ℕ) (o : Option Shape) → path.member ≡ Some number
+    → shape_at path.instance shapes.assemblies ≡ o → span_in o number ≡ Some span → Names shapes path span
 in_shape shapes path span number None e f g = absurd (cc)
 in_shape shapes path span number (Some s) e f g =
     let p = member_at_place s.members number span g in
@@ -50,13 +51,13 @@ in_shape shapes path span number (Some s) e f g =
       lies = p.1;
     }
 
-pub named : (shapes : List Shape) (path : Path) (span : Span) → named_member shapes path ≡ Ok span
+pub named : (shapes : Shapes) (path : Path) (span : Span) → named_member shapes path ≡ Ok span
     → Names shapes path span
 unfolding named_member
 named shapes path span e =
     let d = after_check (demand (is_data path.attribute) AttributeNotSupported) _ span e in
     let n = bound (ok_or path.member InvalidMemberId) _ span d.1 in
-    in_shape shapes path span n.value (shape_at path.instance shapes)
+    in_shape shapes path span n.value (shape_at path.instance shapes.assemblies)
     (found_some path.member _ n.value n.first) refl
     (found_some (member_at shapes path.instance n.value) _ span n.rest)
 
@@ -81,28 +82,32 @@ is_get_member SetMember e = absurd (omega arith)
 is_get_member Add e = absurd (omega arith)
 is_get_member Clear e = absurd (omega arith)
 
-table_member : (b1 b4 b6 b100 z o : Bool) (x : Option Shape) (s : Service)
-    → offered 0x19 (table b1 b4 b6 b100 z o x) ≡ Ok s → offered 0x18 (table b1 b4 b6 b100 z o x) ≡ Ok GetMember
-table_member true b4 b6 b100 true o x s e = absurd (cc)
-table_member true b4 b6 b100 false true x s e = absurd (cc)
-table_member true b4 b6 b100 false false x s e = absurd (cc)
-table_member false true b6 b100 true o x s e = absurd (cc)
-table_member false true b6 b100 false o None s e = absurd (cc)
-table_member false true b6 b100 false o (Some y) s e = refl
-table_member false false true b100 z true x s e = absurd (cc)
-table_member false false true b100 z false x s e = absurd (cc)
-table_member false false false true true o x s e = absurd (cc)
-table_member false false false true false true x s e = absurd (cc)
-table_member false false false true false false x s e = absurd (cc)
-table_member false false false false z o x s e = absurd (cc)
+table_member : (b1 b4 b6 b100 z o : Bool) (x : Option Shape) (k : Bool) (y : Option ObjectShape) (s : Service)
+    → offered 0x19 (table b1 b4 b6 b100 z o x k y) ≡ Ok s → offered 0x18 (table b1 b4 b6 b100 z o x k y) ≡ Ok GetMember
+table_member true b4 b6 b100 true o x k y s e = absurd (cc)
+table_member true b4 b6 b100 false true x k y s e = absurd (cc)
+table_member true b4 b6 b100 false false x k y s e = absurd (cc)
+table_member false true b6 b100 true o x k y s e = absurd (cc)
+table_member false true b6 b100 false o None k y s e = absurd (cc)
+table_member false true b6 b100 false o (Some w) k y s e = refl
+table_member false false true b100 z true x k y s e = absurd (cc)
+table_member false false true b100 z false x k y s e = absurd (cc)
+table_member false false false true true o x k y s e = absurd (cc)
+table_member false false false true false true x k y s e = absurd (cc)
+table_member false false false true false false x k y s e = absurd (cc)
+table_member false false false false true o x true y s e = absurd (cc)
+table_member false false false false true o x false y s e = absurd (cc)
+table_member false false false false false o x k None s e = absurd (cc)
+table_member false false false false false o x k (Some w) s e = absurd (cc)
 
 -- an assembly whose members can be set also has Get_Member
-member_offers : (shapes : List Shape) (class instance : ℕ) (s : Service) → service_at shapes class instance 0x19 ≡ Ok s
+member_offers : (shapes : Shapes) (class instance : ℕ) (s : Service) → service_at shapes class instance 0x19 ≡ Ok s
     → service_at shapes class instance 0x18 ≡ Ok GetMember
 unfolding service_at services_of
 member_offers shapes class instance s e =
-    table_member (eqb class 1) (eqb class 4) (eqb class 6) (eqb class 100) (eqb instance 0) (eqb instance 1)
-    (shape_at instance shapes) s e
+    table_member (eqb class 1) (eqb class 4) (eqb class 6) (is_counter_class shapes class) (eqb instance 0) (eqb instance 1)
+    (shape_at instance shapes.assemblies)
+    (list_any (λ o. eqb o.class class) shapes.objects) (object_at class instance shapes.objects) s e
 
 -- what a Set_Member that succeeded has done
 pub record WasMember (m : Contents) (path value : List ℕ) (p : Path) (o : Outcome) : Type 0 where

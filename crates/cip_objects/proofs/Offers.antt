@@ -7,19 +7,21 @@ use Rattle.cip_objects.specs.declared.status.Refusal.{Refusal}
 use Rattle.cip_objects.specs.declared.status.Refusal.TheVariants.{PathDestinationUnknown, ServiceNotSupported}
 use Rattle.cip_bytes.specs.Reading.{◌>>=◌}
 use Rattle.cip_objects.specs.Service.{service_in}
-use Rattle.cip_objects.specs.Tables.{Shape, assembly_services}
+use Rattle.cip_objects.specs.Tables.{Shape, ObjectShape, assembly_services, object_services}
 
 -- a class with one instance: the class itself, the first instance
 abbrev single : Bool → Bool → List Service → Option (List Service)
 single zero one services = cond zero (Some (GetAttributeSingle ∷ [])) (cond one (Some services) None)
 
--- whether the class is Identity, Assembly, the Connection Manager, the counter; whether the instance is 0, 1
-abbrev pub table : Bool → Bool → Bool → Bool → Bool → Bool → Option Shape → Option (List Service)
-table b1 b4 b6 b100 z o x =
+-- whether the class is Identity, Assembly, the Connection Manager, the counter; whether the instance is 0, 1; the
+-- assembly of that number; whether there are application objects of the class, and the one of that number
+abbrev pub table : Bool → Bool → Bool → Bool → Bool → Bool → Option Shape → Bool → Option ObjectShape → Option (List Service)
+table b1 b4 b6 b100 z o x k y =
     cond b1 (single z o (GetAttributesAll ∷ GetAttributeList ∷ GetAttributeSingle ∷ []))
     (cond b4 (cond z (Some (GetAttributeSingle ∷ [])) (option_map (λ _. assembly_services) x))
     (cond b6 (cond o (Some []) None)
-    (cond b100 (single z o (Add ∷ Clear ∷ GetAttributeList ∷ GetAttributeSingle ∷ SetAttributeSingle ∷ [])) None)))
+    (cond b100 (single z o (Add ∷ Clear ∷ GetAttributeList ∷ GetAttributeSingle ∷ SetAttributeSingle ∷ []))
+    (cond z (cond k (Some (GetAttributeSingle ∷ [])) None) (option_map (λ _. object_services) y)))))
 
 -- the service of this code among them
 abbrev pub offered : ℕ → Option (List Service) → Result Service Refusal

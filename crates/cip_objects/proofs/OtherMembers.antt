@@ -136,7 +136,7 @@ same_assembly m n value p q written whole b here e size other =
       slices = λ span g.
           let a = named m.shapes q span g in
           let shape : a.shape ≡ b.shape = same_some a.shape b.shape
-          (sym a.is_shape ∙ ap (λ i. shape_at i m.shapes) here ∙ b.is_shape) in
+          (sym a.is_shape ∙ ap (λ i. shape_at i m.shapes.assemblies) here ∙ b.is_shape) in
           let lies : IsAt b.shape.members (a.number - 1) span = subst
           (λ s. IsAt s.members (a.number - 1) span) shape a.lies in
           let apart : a.number - 1 ≡ b.number - 1

@@ -33,6 +33,10 @@ unfolding udint_at
 udint_at-other m c i a v d j b h = ap (λ o. little_number 4 (unwrap_or o [])) (value_at-other m c i a v d j b h)
 
 -- also if the change was counted
+pub udint_at-changed : (m : Contents) (c i a : ℕ) (v : List ℕ) → udint_at (with_change m c i a v) c i a ≡ little_number 4 v
+unfolding udint_at
+udint_at-changed m c i a v = ap (λ o. little_number 4 (unwrap_or o [])) (value_at-same m c i a v)
+
 pub udint_at-elsewhere : (m : Contents) (c i a : ℕ) (v : List ℕ) (d j b : ℕ) → eqb d c && (eqb j i && eqb b a) ≡ false → udint_at (with_change m c i a v) d j b ≡ udint_at m d j b
 unfolding udint_at
 udint_at-elsewhere m c i a v d j b h = ap (λ o. little_number 4 (unwrap_or o [])) (value_at-other m c i a v d j b h)

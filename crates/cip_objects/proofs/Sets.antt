@@ -19,7 +19,8 @@ use Rattle.cip_objects.specs.ExecutionLaws.{exec_too_large}
 use Rattle.cip_objects.specs.Laws.{IsRequestWith, too_large_law, changes_fit_law, get_after_set_law, set_leaves_others_law}
 use Rattle.cip_objects.specs.Router.{general_status}
 use Rattle.cip_objects.specs.Service.{service_code}
-use Rattle.cip_objects.specs.Tables.{Shape, shape_at, services_of}
+use Rattle.std.specs.List.{list_any}
+use Rattle.cip_objects.specs.Tables.{Shape, shape_at, services_of, ObjectShape, Shapes, object_at, is_counter_class}
 use Rattle.cip_objects.proofs.Offers.{table, offered}
 use Rattle.cip_objects.proofs.Executed.{answered_by}
 use Rattle.cip_objects.proofs.Effects.{goes, set_effect, member_effect, add_effect, clear_effect, change_effect, chosen_code}
@@ -92,25 +93,29 @@ was_set m set path value o e done =
       },
     )
 
-table_get : (b1 b4 b6 b100 z o : Bool) (x : Option Shape) (s : Service) → offered 0x10 (table b1 b4 b6 b100 z o x) ≡ Ok s → offered 0x0e (table b1 b4 b6 b100 z o x) ≡ Ok GetAttributeSingle
-table_get true b4 b6 b100 true o x s e = absurd (cc)
-table_get true b4 b6 b100 false true x s e = absurd (cc)
-table_get true b4 b6 b100 false false x s e = absurd (cc)
-table_get false true b6 b100 true o x s e = absurd (cc)
-table_get false true b6 b100 false o None s e = absurd (cc)
-table_get false true b6 b100 false o (Some y) s e = refl
-table_get false false true b100 z true x s e = absurd (cc)
-table_get false false true b100 z false x s e = absurd (cc)
-table_get false false false true true o x s e = absurd (cc)
-table_get false false false true false true x s e = refl
-table_get false false false true false false x s e = absurd (cc)
-table_get false false false false z o x s e = absurd (cc)
+table_get : (b1 b4 b6 b100 z o : Bool) (x : Option Shape) (k : Bool) (y : Option ObjectShape) (s : Service) → offered 0x10 (table b1 b4 b6 b100 z o x k y) ≡ Ok s → offered 0x0e (table b1 b4 b6 b100 z o x k y) ≡ Ok GetAttributeSingle
+table_get true b4 b6 b100 true o x k y s e = absurd (cc)
+table_get true b4 b6 b100 false true x k y s e = absurd (cc)
+table_get true b4 b6 b100 false false x k y s e = absurd (cc)
+table_get false true b6 b100 true o x k y s e = absurd (cc)
+table_get false true b6 b100 false o None k y s e = absurd (cc)
+table_get false true b6 b100 false o (Some w) k y s e = refl
+table_get false false true b100 z true x k y s e = absurd (cc)
+table_get false false true b100 z false x k y s e = absurd (cc)
+table_get false false false true true o x k y s e = absurd (cc)
+table_get false false false true false true x k y s e = refl
+table_get false false false true false false x k y s e = absurd (cc)
+table_get false false false false true o x true y s e = absurd (cc)
+table_get false false false false true o x false y s e = absurd (cc)
+table_get false false false false false o x k None s e = absurd (cc)
+table_get false false false false false o x k (Some w) s e = refl
 
 -- what can be set can be read
-offers_get : (shapes : List Shape) (class instance : ℕ) (s : Service) → service_at shapes class instance 0x10 ≡ Ok s → service_at shapes class instance 0x0e ≡ Ok GetAttributeSingle
+offers_get : (shapes : Shapes) (class instance : ℕ) (s : Service) → service_at shapes class instance 0x10 ≡ Ok s → service_at shapes class instance 0x0e ≡ Ok GetAttributeSingle
 unfolding service_at services_of
 offers_get shapes class instance s e =
-    table_get (eqb class 1) (eqb class 4) (eqb class 6) (eqb class 100) (eqb instance 0) (eqb instance 1) (shape_at instance shapes) s e
+    table_get (eqb class 1) (eqb class 4) (eqb class 6) (is_counter_class shapes class) (eqb instance 0) (eqb instance 1) (shape_at instance shapes.assemblies)
+    (list_any (λ o. eqb o.class class) shapes.objects) (object_at class instance shapes.objects) s e
 
 -- the outcome of a get if the attribute exists
 pub get_makes : (m : Contents) (get path value : List ℕ) (p : Path) (a : ℕ) → IsRequestWith get 0x0e path [] → path_of path ≡ Ok p → service_at m.shapes p.class p.instance 0x0e ≡ Ok GetAttributeSingle → p.attribute ≡ Some a → value_at m p.class p.instance a ≡ Some value → outcome m get ≡ Ok (record { after = m; status = Whole; content = value })

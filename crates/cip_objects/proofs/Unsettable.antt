@@ -4,6 +4,7 @@ use Rattle.std.proofs.Common.{length, Some, None, Result, Ok, refl, sym, ap, ◌
 use Rattle.std.proofs.lemmas.Bool.{both_ways, eq-eqb, or_right}
 use Rattle.std.proofs.lemmas.Bool.Decides.{nat_tests}
 use Rattle.std.specs.Option.{ok_or}
+use Rattle.cip_application.specs.declared.kind.AttributeKind.{AttributeKind}
 use Rattle.byteorder.specs.Endian.{little_number}
 use Rattle.cip_message.specs.declared.path.Path.{Path}
 use Rattle.cip_bytes.specs.Numbers.{le}
@@ -14,15 +15,15 @@ use Rattle.cip_objects.specs.declared.service.Service.TheVariants.{GetAttributeS
 use Rattle.cip_objects.specs.declared.service.Service.TheVariants.{SetMember, Add, Clear}
 use Rattle.cip_objects.specs.declared.status.Refusal.{Refusal}
 use Rattle.cip_objects.specs.Check.{check_size}
-use Rattle.cip_objects.specs.Contents.{Contents, value_at, bytes_at, udint_at, with_change}
+use Rattle.cip_objects.specs.Contents.{Contents, value_at, bytes_at, udint_at, with_value, with_change}
 use Rattle.cip_objects.specs.ReadServices.{service_at, named_member, get_attribute_single, get_attributes_all}
 use Rattle.cip_objects.specs.ReadServices.{get_attribute_list, get_member}
 use Rattle.cip_objects.specs.ChangeServices.{Change, after_add, with_bytes_at, set_attribute_single, set_member, add}
 use Rattle.cip_objects.specs.ChangeServices.{clear}
-use Rattle.cip_objects.specs.Execution.{Outcome, perform, outcome, exec, run}
+use Rattle.cip_objects.specs.Execution.{Outcome, perform, outcome, exec}
 use Rattle.cip_objects.specs.Laws.{is_add, is_clear, changes_unsettable, unsettable_law}
 use Rattle.cip_objects.specs.Service.{service_code}
-use Rattle.cip_objects.specs.Tables.{Shape, settable_size}
+use Rattle.cip_objects.specs.Tables.{Shapes, settable_kind}
 use Rattle.cip_objects.proofs.CounterRun.{add_place, clear_place, to_it}
 use Rattle.cip_objects.proofs.Effects.{Goes, goes, chosen_code, bound, after_check, found_some, set_effect, add_effect}
 use Rattle.cip_objects.proofs.Effects.{clear_effect, read_effect, change_effect}
@@ -33,9 +34,9 @@ use Rattle.cip_objects.proofs.Refuses.{exec_left}
 -- a Set_Member: the bytes of the member, and the new data of its assembly
 pub record Splices (m : Contents) (path : Path) (content : List ℕ) (c : Change) : Type 0 where
   pub span : Span
-  pub all : ℕ
+  pub all : AttributeKind
   pub names : named_member m.shapes path ≡ Ok span
-  pub can : settable_size m.shapes 4 path.instance 3 ≡ Some all
+  pub can : settable_kind m.shapes 4 path.instance 3 ≡ Some all
   pub size : length content ≡ span.size
   pub leaves : c.after ≡ with_change m 4 path.instance 3 (with_bytes_at (bytes_at m 4 path.instance 3) span.offset content)
 
@@ -47,7 +48,7 @@ pub splices : (m : Contents) (path : Path) (content : List ℕ) (c : Change) →
 unfolding set_member
 splices m path content c e =
     let s = bound (named_member m.shapes path) _ c e in
-    let n = bound (ok_or (settable_size m.shapes 4 path.instance 3) _) _ c s.rest in
+    let n = bound (ok_or (settable_kind m.shapes 4 path.instance 3) _) _ c s.rest in
     let x = after_check (check_size s.value.size content) _ c n.rest in
     record {
       span = s.value;
@@ -66,8 +67,8 @@ abbrev IsAdditions : ℕ → ℕ → ℕ → Type 0
 IsAdditions class instance attribute = (class ≡ 100) × (instance ≡ 1) × (attribute ≡ 3)
 
 -- this key is not one that the service with this code changes
-record IsKept (shapes : List Shape) (class instance attribute code : ℕ) : Type 0 where
-  unsettable : settable_size shapes class instance attribute ≡ None
+record IsKept (shapes : Shapes) (class instance attribute code : ℕ) : Type 0 where
+  unsettable : settable_kind shapes class instance attribute ≡ None
   not_added : code ≡ 0x32 → IsValue class instance attribute → ⊥
   not_counted : code ≡ 0x32 → IsAdditions class instance attribute → ⊥
   not_cleared : code ≡ 0x33 → IsValue class instance attribute → ⊥
@@ -90,17 +91,24 @@ other_kept m n c i a v d j b e h = record {
   value = ap (λ x. value_at x d j b) e ∙ value_at-other m c i a v d j b (other_key d c j i b a h);
 }
 
+value_kept : (m n : Contents) (c i a : ℕ) (v : List ℕ) (d j b : ℕ) → n ≡ with_value m c i a v
+    → ((d ≡ c) × (j ≡ i) × (b ≡ a) → ⊥) → Keeps m n d j b
+value_kept m n c i a v d j b e h = record {
+  shapes = ap (λ x. x.shapes) e;
+  value = ap (λ x. value_at x d j b) e ∙ value_at-other m c i a v d j b (other_key d c j i b a h);
+}
+
 -- what can be set is at another key
-not_settable : (shapes : List Shape) (c i a n d j b : ℕ) → settable_size shapes c i a ≡ Some n
-    → settable_size shapes d j b ≡ None → (d ≡ c) × (j ≡ i) × (b ≡ a) → ⊥
+not_settable : (shapes : Shapes) (c i a : ℕ) (n : AttributeKind) (d j b : ℕ) → settable_kind shapes c i a ≡ Some n
+    → settable_kind shapes d j b ≡ None → (d ≡ c) × (j ≡ i) × (b ≡ a) → ⊥
 not_settable shapes c i a n d j b can stuck k =
-    let same : settable_size shapes d j b ≡ settable_size shapes c i a = ap (λ x. settable_size shapes x j b) k.0
-    ∙ ap (λ x. settable_size shapes c x b) k.1 ∙ ap (λ x. settable_size shapes c i x) k.2 in
+    let same : settable_kind shapes d j b ≡ settable_kind shapes c i a = ap (λ x. settable_kind shapes x j b) k.0
+    ∙ ap (λ x. settable_kind shapes c x b) k.1 ∙ ap (λ x. settable_kind shapes c i x) k.2 in
     cc
 
 add_kept : (m n : Contents) (total d j b : ℕ) → n ≡ after_add m total → IsKept m.shapes d j b 0x32 → Keeps m n d j b
 add_kept m n total d j b e h =
-    let first = with_change m 100 1 1 (le 4 total) in
+    let first = with_value m 100 1 1 (le 4 total) in
     let more = le 4 ((udint_at m 100 1 3 + 1) % 2 ^ 32) in
     record {
       shapes = ap (λ x. x.shapes) e;
@@ -121,7 +129,7 @@ perform_kept m SetAttributeSingle path content o d j b e h =
     let c = change_effect (set_attribute_single m path content) o e in
     let x = set_effect m path content c.change c.first in
     other_kept m o.after path.class path.instance x.attribute content d j b (c.after ∙ x.leaves)
-    (not_settable m.shapes path.class path.instance x.attribute x.size d j b x.can h.unsettable)
+    (not_settable m.shapes path.class path.instance x.attribute x.kind d j b x.can h.unsettable)
 perform_kept m GetMember path content o d j b e h = all_kept m o.after d j b
     (read_effect m (get_member m path content) o e)
 perform_kept m SetMember path content o d j b e h =
@@ -136,7 +144,7 @@ perform_kept m Add path content o d j b e h =
 perform_kept m Clear path content o d j b e h =
     let c = change_effect (clear m content) o e in
     let x = clear_effect m content c.change c.first in
-    other_kept m o.after 100 1 1 (le 4 0) d j b (c.after ∙ x.leaves) (h.not_cleared refl)
+    value_kept m o.after 100 1 1 (le 4 0) d j b (c.after ∙ x.leaves) (h.not_cleared refl)
 
 -- a request that may not change the key spares it
 not_added : (d j b : ℕ) (text : List ℕ) → is_add text ≡ true → changes_unsettable d j b text ≡ false → IsValue d j b → ⊥
@@ -180,7 +188,7 @@ clears-it m text o g clear =
     ap (λ bytes. is_some bytes)
     (to_it 0x33 text g.request g.path g.is_request g.is_path (eq-eqb g.request.service 0x33 code) place.0 place.1)
 
-kept_by : (m : Contents) (text : List ℕ) (o : Outcome) (d j b : ℕ) (g : Goes m text o) → settable_size m.shapes d j b ≡ None
+kept_by : (m : Contents) (text : List ℕ) (o : Outcome) (d j b : ℕ) (g : Goes m text o) → settable_kind m.shapes d j b ≡ None
     → changes_unsettable d j b text ≡ false → IsKept m.shapes d j b (service_code g.service)
 kept_by m text o d j b g fixed spared = record {
   unsettable = fixed;
@@ -189,7 +197,7 @@ kept_by m text o d j b g fixed spared = record {
   not_cleared = λ clear. not_cleared d j b text (clears-it m text o g clear) spared;
 }
 
-either_kept : (m n : Contents) (text : List ℕ) (d j b : ℕ) → settable_size m.shapes d j b ≡ None
+either_kept : (m n : Contents) (text : List ℕ) (d j b : ℕ) → settable_kind m.shapes d j b ≡ None
     → changes_unsettable d j b text ≡ false
     → (n ≡ m) ⊎ ((o : Outcome) × (outcome m text ≡ Ok o) × (n ≡ o.after)) → Keeps m n d j b
 either_kept m n text d j b fixed spared (inl same) = all_kept m n d j b same
@@ -198,7 +206,7 @@ either_kept m n text d j b fixed spared (inr x) =
     let k = perform_kept m g.service g.path g.request.data x.0 d j b g.is_performed (kept_by m text x.0 d j b g fixed spared) in
     record { shapes = ap (λ y. y.shapes) x.2 ∙ k.shapes; value = ap (λ y. value_at y d j b) x.2 ∙ k.value }
 
-exec_kept : (m : Contents) (max_size : ℕ) (text : List ℕ) (d j b : ℕ) → settable_size m.shapes d j b ≡ None
+exec_kept : (m : Contents) (max_size : ℕ) (text : List ℕ) (d j b : ℕ) → settable_kind m.shapes d j b ≡ None
     → changes_unsettable d j b text ≡ false → Keeps m (exec m max_size text).after d j b
 exec_kept m max_size text d j b fixed spared =
     either_kept m (exec m max_size text).after text d j b fixed spared (exec_left m max_size text)
@@ -208,5 +216,5 @@ unsettable m [] class instance attribute fixed spared = refl
 unsettable m (r ∷ requests) class instance attribute fixed spared =
     let k = exec_kept m r.0 r.1 class instance attribute fixed spared.0 in
     unsettable (exec m r.0 r.1).after requests class instance attribute
-    (ap (λ s. settable_size s class instance attribute) k.shapes ∙ fixed) spared.1
+    (ap (λ s. settable_kind s class instance attribute) k.shapes ∙ fixed) spared.1
     ∙ k.value

@@ -4,6 +4,10 @@ use Rattle.std.proofs.Common.{◌≡◌, ℕ, ◌+◌, ◌<◌, ◌⊎◌, inl, 
 use Rattle.std.proofs.lemmas.Bool.{eqb-true}
 use Rattle.std.proofs.lemmas.Bool.Decides.{eqb_tells}
 use Rattle.std.proofs.lemmas.List.{length-replicate}
+use Rattle.cip_application.specs.declared.kind.AttributeKind.{AttributeKind}
+use Rattle.cip_application.specs.declared.kind.AttributeKind.TheVariants.{Fixed}
+use Rattle.cip_application.specs.Values.{size_for}
+use Rattle.cip_application.specs.Objects.{ObjectValues}
 use Rattle.byteorder.specs.Endian.{little_number}
 use Rattle.cip_message.specs.declared.path.Path.{Path}
 use Rattle.cip_bytes.specs.Numbers.{le}
@@ -12,19 +16,19 @@ use Rattle.cip_objects.specs.declared.service.Service.{Service}
 use Rattle.cip_objects.specs.declared.service.Service.TheVariants.{GetAttributesAll, GetAttributeList, GetAttributeSingle, SetAttributeSingle, GetMember, SetMember, Add, Clear}
 use Rattle.cip_objects.specs.ChangeServices.{Change, with_bytes_at, set_attribute_single, set_member, add, clear}
 use Rattle.cip_objects.specs.Configuration.{assembly_of_config}
-use Rattle.cip_objects.specs.Contents.{Contents, bytes_at, udint_at, with_change}
-use Rattle.cip_objects.specs.Entries.{IdentityValues, AssemblyValues, CounterValues, attribute_in, class_attributes, assembly_at, greatest_of, shape_of, contents_of, NoneIsClass}
+use Rattle.cip_objects.specs.Contents.{Contents, bytes_at, udint_at, with_value, with_change}
+use Rattle.cip_objects.specs.Entries.{IdentityValues, AssemblyValues, CounterValues, attribute_in, class_attributes, assembly_at, greatest_of, shape_of, contents_of, NoneIsClass, AreApart, object_shape_of}
 use Rattle.cip_objects.specs.Execution.{Outcome, perform, outcome, exec}
 use Rattle.cip_objects.proofs.Lookup.{block_value}
 use Rattle.cip_objects.specs.Members.{AreWhole, whole_law}
 use Rattle.cip_objects.specs.ReadServices.{get_attribute_single, get_attributes_all, get_attribute_list, get_member}
-use Rattle.cip_objects.specs.Tables.{Shape, shape_at, size_if_settable, settable_size}
+use Rattle.cip_objects.specs.Tables.{Shape, Shapes, shape_at, kind_if_settable, settable_kind}
 use Rattle.cip_objects.proofs.Effects.{goes, Sets, set_effect, add_effect, clear_effect, read_effect, change_effect}
 use Rattle.cip_objects.proofs.ReadAfterSet.{value_at-same, value_at-other}
 use Rattle.cip_objects.proofs.Blocks.{eqb-other}
 use Rattle.cip_objects.proofs.Lookup.{value_at-contents_of}
 use Rattle.cip_objects.proofs.Members.{named, fits_in}
-use Rattle.cip_objects.proofs.Settable.{settable_data, settable_limit}
+use Rattle.cip_objects.proofs.Settable.{settable_data}
 use Rattle.cip_objects.proofs.Refuses.{exec_left}
 use Rattle.cip_objects.proofs.Shapes.{shape_at-contents}
 use Rattle.cip_objects.proofs.Spans.{length-with_bytes_at}
@@ -36,25 +40,32 @@ same_some x y e = cc
 -- the same data at every assembly
 like_whole : (m n : Contents) → n.shapes ≡ m.shapes → ((i : ℕ) → bytes_at n 4 i 3 ≡ bytes_at m 4 i 3) → AreWhole m
     → AreWhole n
-like_whole m n e f h i s g = ap length (f i) ∙ h i s (ap (shape_at i) (sym e) ∙ g)
+like_whole m n e f h i s g = ap length (f i) ∙ h i s (ap (λ k. shape_at i k.assemblies) (sym e) ∙ g)
 
 same_whole : (m n : Contents) → n ≡ m → AreWhole m → AreWhole n
 same_whole m n e h = subst AreWhole (sym e) h
 
 -- a value that the counter has
-counter_whole : (m n : Contents) (a : ℕ) (v : List ℕ) → n ≡ with_change m 100 1 a v → AreWhole m → AreWhole n
+counter_whole : (m n : Contents) (a : ℕ) (v : List ℕ) → n ≡ with_value m 100 1 a v → AreWhole m → AreWhole n
 counter_whole m n a v e h =
     like_whole m n (ap (λ k. k.shapes) e)
     (λ i. ap (λ k. bytes_at k 4 i 3) e ∙ ap (λ o. unwrap_or o []) (value_at-other m 100 1 a v 4 i 3 refl)) h
 
+-- an attribute that is not of an assembly
+other_whole : (m n : Contents) (c i a : ℕ) (v : List ℕ) → (c ≡ 4 → ⊥) → n ≡ with_change m c i a v → AreWhole m → AreWhole n
+other_whole m n c i a v apart e h =
+    like_whole m n (ap (λ k. k.shapes) e)
+    (λ j. ap (λ k. bytes_at k 4 j 3) e ∙ ap (λ o. unwrap_or o []) (value_at-other m c i a v 4 j 3
+    (ap (λ t. t && (eqb j i && eqb 3 a)) (eqb-other 4 c (λ z. apart (sym z)))))) h
+
 at_instance : (m n : Contents) (i j : ℕ) (v : List ℕ) (s : Shape) → n ≡ with_change m 4 i 3 v
-    → ((t : Shape) → shape_at i m.shapes ≡ Some t → length v ≡ sum t.members) → AreWhole m
-    → shape_at j m.shapes ≡ Some s → ((eqb j i ≡ true) × (j ≡ i)) ⊎ ((eqb j i ≡ false) × (j ≡ i → ⊥))
+    → ((t : Shape) → shape_at i m.shapes.assemblies ≡ Some t → length v ≡ sum t.members) → AreWhole m
+    → shape_at j m.shapes.assemblies ≡ Some s → ((eqb j i ≡ true) × (j ≡ i)) ⊎ ((eqb j i ≡ false) × (j ≡ i → ⊥))
     → length (bytes_at n 4 j 3) ≡ sum s.members
 at_instance m n i j v s e f h g (inl same) =
     let read : bytes_at n 4 j 3 ≡ v = ap (λ k. bytes_at k 4 j 3) e
     ∙ ap (λ k. bytes_at (with_change m 4 i 3 v) 4 k 3) same.1 ∙ ap (λ o. unwrap_or o []) (value_at-same m 4 i 3 v) in
-    ap length read ∙ f s (ap (λ k. shape_at k m.shapes) (sym same.1) ∙ g)
+    ap length read ∙ f s (ap (λ k. shape_at k m.shapes.assemblies) (sym same.1) ∙ g)
 at_instance m n i j v s e f h g (inr apart) =
     let read : bytes_at n 4 j 3 ≡ bytes_at m 4 j 3 = ap (λ k. bytes_at k 4 j 3) e
     ∙ ap (λ o. unwrap_or o []) (value_at-other m 4 i 3 v 4 j 3 (ap (λ t. t && true) apart.0)) in
@@ -62,35 +73,32 @@ at_instance m n i j v s e f h g (inr apart) =
 
 -- data whose size is the sum of the member sizes
 data_whole : (m n : Contents) (i : ℕ) (v : List ℕ) → n ≡ with_change m 4 i 3 v
-    → ((t : Shape) → shape_at i m.shapes ≡ Some t → length v ≡ sum t.members) → AreWhole m → AreWhole n
-data_whole m n i v e f h j s g = at_instance m n i j v s e f h (ap (λ k. shape_at j k.shapes) (sym e) ∙ g)
+    → ((t : Shape) → shape_at i m.shapes.assemblies ≡ Some t → length v ≡ sum t.members) → AreWhole m → AreWhole n
+data_whole m n i v e f h j s g = at_instance m n i j v s e f h (ap (λ k. shape_at j k.shapes.assemblies) (sym e) ∙ g)
     (eqb_tells j i)
 
-by_settable : (t : Bool) (s : Shape) (n : ℕ) → cond t (Some (sum s.members)) None ≡ Some n → n ≡ sum s.members
-by_settable true s n e = sym (same_some (sum s.members) n e)
+by_settable : (t : Bool) (s : Shape) (n : AttributeKind) → cond t (Some (Fixed (sum s.members) None)) None ≡ Some n → n ≡ Fixed (sum s.members) None
+by_settable true s n e = sym (same_some (Fixed (sum s.members) None) n e)
 by_settable false s n e = absurd (cc)
 
-settable_whole : (shapes : List Shape) (i n : ℕ) (s : Shape) → settable_size shapes 4 i 3 ≡ Some n
-    → shape_at i shapes ≡ Some s → n ≡ sum s.members
-unfolding settable_size
-settable_whole shapes i n s e f = by_settable s.settable s n (sym (ap size_if_settable f) ∙ e)
+settable_whole : (shapes : Shapes) (i : ℕ) (n : AttributeKind) (s : Shape) → settable_kind shapes 4 i 3 ≡ Some n
+    → shape_at i shapes.assemblies ≡ Some s → n ≡ Fixed (sum s.members) None
+unfolding settable_kind
+settable_whole shapes i n s e f = by_settable s.settable s n (sym (ap kind_if_settable f) ∙ e)
 
 set_whole : (m : Contents) (p : Path) (content : List ℕ) (c : Change) (n : Contents) → AreWhole m → n ≡ c.after
     → Sets m p content c → ((eqb p.class 4 ≡ true) × (p.class ≡ 4)) ⊎ ((eqb p.class 4 ≡ false) × (p.class ≡ 4 → ⊥))
     → AreWhole n
 set_whole m p content c n h e x (inl four) =
-    let three = settable_data m.shapes p.class p.instance x.attribute x.size x.can four.1 in
-    let can : settable_size m.shapes 4 p.instance 3 ≡ Some x.size = ap (λ k. settable_size m.shapes k p.instance 3)
-    (sym four.1) ∙ ap (λ a. settable_size m.shapes p.class p.instance a) (sym three) ∙ x.can in
+    let three = settable_data m.shapes p.class p.instance x.attribute x.kind x.can four.1 in
+    let can : settable_kind m.shapes 4 p.instance 3 ≡ Some x.kind = ap (λ k. settable_kind m.shapes k p.instance 3)
+    (sym four.1) ∙ ap (λ a. settable_kind m.shapes p.class p.instance a) (sym three) ∙ x.can in
     data_whole m n p.instance content
     (e ∙ x.leaves ∙ ap (λ k. with_change m k p.instance x.attribute content) four.1 ∙ ap
     (λ a. with_change m 4 p.instance a content) three)
-    (λ s g. x.fits ∙ settable_whole m.shapes p.instance x.size s can g) h
+    (λ s g. x.fits ∙ ap (λ k. size_for k content) (settable_whole m.shapes p.instance x.kind s can g)) h
 set_whole m p content c n h e x (inr more) =
-    let l = settable_limit m.shapes p.class p.instance x.attribute x.size x.can more.1 in
-    counter_whole m n x.attribute content
-    (e ∙ x.leaves ∙ ap (λ k. with_change m k p.instance x.attribute content) l.of_counter ∙ ap
-    (λ k. with_change m 100 k x.attribute content) l.of_instance) h
+    other_whole m n p.class p.instance x.attribute content more.1 (e ∙ x.leaves) h
 
 perform_whole : (m : Contents) (s : Service) (path : Path) (content : List ℕ) (o : Outcome) → AreWhole m
     → perform m s path content ≡ Ok o → AreWhole o.after
@@ -116,7 +124,7 @@ perform_whole m Add path content o h e =
     let c = change_effect (add m content) o e in
     let x = add_effect m content c.change c.first in
     let total = udint_at m 100 1 1 + little_number 4 content in
-    let first = with_change m 100 1 1 (le 4 total) in
+    let first = with_value m 100 1 1 (le 4 total) in
     counter_whole first o.after 3 (le 4 ((udint_at m 100 1 3 + 1) % 2 ^ 32)) (c.after ∙ x.leaves)
     (counter_whole m first 1 (le 4 total) refl h)
 perform_whole m Clear path content o h e =
@@ -162,22 +170,22 @@ of_block : (bs : List AssemblyValues) (i : ℕ) (b : AssemblyValues) → NoneIsC
 of_block [] i b h w e = absurd (cc)
 of_block (x ∷ xs) i b h w e = of_front (eqb x.instance i) x xs i b refl h.0 w.0 (λ g. of_block xs i b h.1 w.1 g) e
 
-at_block : (d : IdentityValues) (bs : List AssemblyValues) (c : CounterValues) (i : ℕ) (s : Shape) (o : Option AssemblyValues)
-    → NoneIsClass bs → BlocksAreWhole bs → assembly_at i bs ≡ o → option_map shape_of o ≡ Some s
-    → length (bytes_at (contents_of d bs c) 4 i 3) ≡ sum s.members
-at_block d bs c i s None h w e f = absurd (cc)
-at_block d bs c i s (Some b) h w e f =
+at_block : (d : IdentityValues) (bs : List AssemblyValues) (c : CounterValues) (os : List ObjectValues) (i : ℕ) (s : Shape) (o : Option AssemblyValues)
+    → NoneIsClass bs → AreApart c.enabled (map object_shape_of os) → BlocksAreWhole bs → assembly_at i bs ≡ o → option_map shape_of o ≡ Some s
+    → length (bytes_at (contents_of d bs c os) 4 i 3) ≡ sum s.members
+at_block d bs c os i s None h own w e f = absurd (cc)
+at_block d bs c os i s (Some b) h own w e f =
     let here = of_block bs i b h w e in
     let shape : shape_of b ≡ s = same_some (shape_of b) s f in
     let above = here.above in
-    let read : bytes_at (contents_of d bs c) 4 i 3 ≡ b.content = ap (λ o. unwrap_or o [])
-    (value_at-contents_of d bs c h 4 i 3)
+    let read : bytes_at (contents_of d bs c os) 4 i 3 ≡ b.content = ap (λ o. unwrap_or o [])
+    (value_at-contents_of d bs c os h own 4 i 3)
     ∙ ap (λ t. unwrap_or (cond t (attribute_in 3 (class_attributes 2 (greatest_of bs) (length bs)))
     (block_value 3 (assembly_at i bs))) []) (eqb-other i 0 (λ z. omega arith))
     ∙ ap (λ o. unwrap_or (block_value 3 o) []) e in
     ap length read ∙ here.whole ∙ ap (λ k. sum k.members) shape
 
-pub contents_whole : (d : IdentityValues) (bs : List AssemblyValues) (c : CounterValues) → NoneIsClass bs → BlocksAreWhole bs
-    → AreWhole (contents_of d bs c)
-contents_whole d bs c h w i s e = at_block d bs c i s (assembly_at i bs) h w refl
-    (sym (shape_at-contents d bs c (contents_of d bs c) i refl) ∙ e)
+pub contents_whole : (d : IdentityValues) (bs : List AssemblyValues) (c : CounterValues) (os : List ObjectValues) → NoneIsClass bs
+    → AreApart c.enabled (map object_shape_of os) → BlocksAreWhole bs → AreWhole (contents_of d bs c os)
+contents_whole d bs c os h own w i s e = at_block d bs c os i s (assembly_at i bs) h own w refl
+    (sym (shape_at-contents d bs c os (contents_of d bs c os) i refl) ∙ e)

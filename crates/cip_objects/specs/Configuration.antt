@@ -1,13 +1,17 @@
 -- The objects that a configuration describes, and its checks: the first that fails refuses it.
 use Rattle.std.specs.Prelude.{ℕ, Bool, false, ◌==◌, ◌||◌, nat_lt, if◌then◌else◌, List, [], ◌∷◌, length, map, sum}
-use Rattle.std.specs.Prelude.{replicate, Option, Some, None}
+use Rattle.std.specs.Prelude.{replicate, Option, Some, option_map}
 use Rattle.std.specs.List.{list_any}
 use Rattle.std.specs.String.{string_bytes}
+use Rattle.cip_application.specs.declared.config.ObjectFault.{ObjectFault}
+use Rattle.cip_application.specs.declared.config.ObjectFault.TheVariants as faults
+use Rattle.cip_application.specs.Configuration.{fault_of as objects_fault, objects_of_config}
 use Rattle.cip_objects.specs.declared.config.Config.{Config}
 use Rattle.cip_objects.specs.declared.config.AssemblyConfig.{AssemblyConfig}
+use Rattle.cip_objects.specs.declared.config.CounterConfig.{CounterConfig}
 use Rattle.cip_objects.specs.declared.config.ConfigFault.{ConfigFault}
 use Rattle.cip_objects.specs.declared.config.ConfigFault.TheVariants.{Name, Size, Members, DoubleInstance, Limit}
-use Rattle.cip_objects.specs.declared.config.ConfigFault.TheVariants.{Memory}
+use Rattle.cip_objects.specs.declared.config.ConfigFault.TheVariants.{Memory, Object, Attribute, Service}
 use Rattle.cip_objects.specs.Limits.{LONGEST_DATA}
 use Rattle.cip_objects.specs.Contents.{Contents}
 use Rattle.cip_objects.specs.Entries.{IdentityValues, AssemblyValues, CounterValues, contents_of}
@@ -20,6 +24,16 @@ config_fault_number Members = 3
 config_fault_number DoubleInstance = 4
 config_fault_number Limit = 5
 config_fault_number Memory = 6
+config_fault_number Object = 10
+config_fault_number Attribute = 11
+config_fault_number Service = 12
+
+-- A fault of the application objects, as one of all objects.
+abbrev pub config_fault : ObjectFault → ConfigFault
+config_fault faults.Object = Object
+config_fault faults.Attribute = Attribute
+config_fault faults.Service = Service
+config_fault faults.Memory = Memory
 
 -- The name has over 32 bytes, or a byte outside 0x20 to 0x7e.
 abbrev pub is_invalid_name : List ℕ → Bool
@@ -49,7 +63,7 @@ fault_of c =
     else (if list_any are_invalid_members c.assemblies.items then Some Members
     else (if are_invalid_instances (instances c.assemblies.items) then Some DoubleInstance
     else (if nat_lt c.counter.limit c.counter.value then Some Limit
-    else None))))
+    else option_map config_fault (objects_fault c.counter.enabled c.objects.items)))))
 
 -- The Identity object of a configuration.
 abbrev pub identity_of : Config → IdentityValues
@@ -76,9 +90,11 @@ assembly_of_config a = record {
 }
 
 -- The counter of a configuration. Nothing was added yet.
-abbrev pub counter_of : Config → CounterValues
-counter_of c = record { value = c.counter.value; limit = c.counter.limit; additions = 0 }
+abbrev pub counter_of : CounterConfig → CounterValues
+counter_of c = record { enabled = c.enabled; value = c.value; limit = c.limit; additions = 0 }
 
 -- The contents of a configuration.
 unfoldable pub contents_of_config : Config → Contents
-contents_of_config c = contents_of (identity_of c) (map assembly_of_config c.assemblies.items) (counter_of c)
+contents_of_config c =
+    contents_of (identity_of c) (map assembly_of_config c.assemblies.items) (counter_of c.counter)
+    (objects_of_config c.objects.items)

@@ -1,14 +1,18 @@
--- The entries of the object map, instance by instance (Volume 1: Identity and Assembly objects; the counter is
--- vendor-specific).
+-- The entries of the object map, instance by instance (Volume 1: Identity and Assembly objects; the counter
+-- and the application objects are vendor-specific).
 use Rattle.std.specs.Prelude.{ℕ, ◌<◌, Bool, List, [], ◌∷◌, ◌++◌, Option, Some, None, ◌==◌, if◌then◌else◌, length, sum}
-use Rattle.std.specs.Prelude.{map, max}
-use Rattle.std.specs.List.{flat_map}
+use Rattle.std.specs.Prelude.{◌≡◌, false, map, max}
+use Rattle.std.specs.List.{flat_map, list_any}
 use Rattle.std.specs.FinMap.{from_entries}
 use Rattle.byteorder.specs.Endian.{little_bytes}
+use Rattle.cip_application.specs.Attributes.{AttributeValues}
+use Rattle.cip_application.specs.Configuration.{is_taken_class}
+use Rattle.cip_application.specs.Objects.{ObjectValues}
 use Rattle.cip_message.specs.declared.key.Device.{Device}
 use Rattle.cip_objects.specs.ObjectMap.{Key, key}
-use Rattle.cip_objects.specs.Tables.{Shape}
-use Rattle.cip_objects.specs.Changes.{Tally}
+use Rattle.cip_objects.specs.Tables.{Shape, AttributeShape, ObjectShape, Shapes, numbers_in, greatest_number}
+use Rattle.cip_objects.specs.Tables.{object_at}
+use Rattle.cip_objects.specs.Changes.{Tally, data_key}
 use Rattle.cip_bytes.specs.declared.protocol.TheConstants.{IDENTITY, ASSEMBLY, COUNTER}
 use Rattle.cip_objects.specs.Contents.{Contents}
 
@@ -35,8 +39,9 @@ pub record AssemblyValues : Type 0 where
   pub content : List ℕ
   pub changes : ℕ
 
--- The three numbers of the counter.
+-- The three numbers of the counter, and whether the device has it.
 pub record CounterValues : Type 0 where
+  pub enabled : Bool
   pub value : ℕ
   pub limit : ℕ
   pub additions : ℕ
@@ -81,26 +86,63 @@ assembly_attributes b = (1, little_bytes 2 (length b.members)) ∷ (3, b.content
 abbrev pub counter_attributes : CounterValues → Attributes
 counter_attributes c = (1, little_bytes 4 c.value) ∷ (2, little_bytes 4 c.limit) ∷ (3, little_bytes 4 c.additions) ∷ []
 
+-- The entries of the counter, if the device has it.
+abbrev pub counter_entries : CounterValues → Entries
+counter_entries c =
+    if c.enabled then entries_at COUNTER 0 (class_attributes 1 1 1) ++ entries_at COUNTER 1 (counter_attributes c)
+    else []
+
+-- The attributes of an application object.
+abbrev pub object_attributes : ObjectValues → Attributes
+object_attributes o = map (λ a. (a.number, a.value)) o.attributes
+
+abbrev pub object_entries : List ObjectValues → Entries
+object_entries os = flat_map (λ o. entries_at o.class o.instance (object_attributes o)) os
+
+-- The attributes of a class of application objects.
+abbrev pub attributes_of_class : ℕ → List ObjectShape → Attributes
+attributes_of_class class objects =
+    class_attributes 1 (greatest_number (numbers_in class objects)) (length (numbers_in class objects))
+
+-- The entries of the classes of these, which are among all application objects.
+abbrev pub class_entries : List ObjectShape → List ObjectShape → Entries
+class_entries objects os = flat_map (λ o. entries_at o.class 0 (attributes_of_class o.class objects)) os
+
 -- The greatest instance number, or 0 if there is no assembly.
 abbrev pub greatest_of : List AssemblyValues → ℕ
 greatest_of [] = 0
 greatest_of (b ∷ bs) = max b.instance (greatest_of bs)
 
--- All entries of the map, instance by instance.
-unfoldable pub entries_of : IdentityValues → List AssemblyValues → CounterValues → Entries
-entries_of d bs c =
-    entries_at IDENTITY 0 (class_attributes 1 1 1)
-    ++ (entries_at IDENTITY 1 (identity_attributes d)
-    ++ (entries_at ASSEMBLY 0 (class_attributes 2 (greatest_of bs) (length bs))
-    ++ (flat_map (λ b. entries_at ASSEMBLY b.instance (assembly_attributes b)) bs
-    ++ (entries_at COUNTER 0 (class_attributes 1 1 1)
-    ++ entries_at COUNTER 1 (counter_attributes c)))))
-
 abbrev pub shape_of : AssemblyValues → Shape
 shape_of b = record { instance = b.instance; settable = b.settable; members = b.members }
 
 abbrev pub tally_of : AssemblyValues → Tally
-tally_of b = record { instance = b.instance; changes = b.changes }
+tally_of b = record { of_key = data_key b.instance; changes = b.changes }
+
+abbrev pub attribute_shape_of : AttributeValues → AttributeShape
+attribute_shape_of a = record { number = a.number; kind = a.kind; settable = a.settable; checked = a.checked }
+
+abbrev pub object_shape_of : ObjectValues → ObjectShape
+object_shape_of o = record {
+  class = o.class;
+  instance = o.instance;
+  attributes = map attribute_shape_of o.attributes;
+  services = o.services;
+}
+
+abbrev pub object_tallies : ObjectValues → List Tally
+object_tallies o = map (λ a. record { of_key = key o.class o.instance a.number; changes = a.changes }) o.attributes
+
+-- All entries of the map, instance by instance.
+unfoldable pub entries_of : IdentityValues → List AssemblyValues → CounterValues → List ObjectValues → Entries
+entries_of d bs c os =
+    entries_at IDENTITY 0 (class_attributes 1 1 1)
+    ++ (entries_at IDENTITY 1 (identity_attributes d)
+    ++ (entries_at ASSEMBLY 0 (class_attributes 2 (greatest_of bs) (length bs))
+    ++ (flat_map (λ b. entries_at ASSEMBLY b.instance (assembly_attributes b)) bs
+    ++ (counter_entries c
+    ++ (class_entries (map object_shape_of os) (map object_shape_of os)
+    ++ object_entries os)))))
 
 abbrev pub device_of : IdentityValues → Device
 device_of d = record {
@@ -111,14 +153,18 @@ device_of d = record {
   minor = d.minor;
 }
 
+abbrev pub shapes_of : List AssemblyValues → CounterValues → List ObjectValues → Shapes
+shapes_of bs c os =
+    record { assemblies = map shape_of bs; has_counter = c.enabled; objects = map object_shape_of os }
+
 -- The contents with these values.
-unfoldable pub contents_of : IdentityValues → List AssemblyValues → CounterValues → Contents
-contents_of d bs c =
+unfoldable pub contents_of : IdentityValues → List AssemblyValues → CounterValues → List ObjectValues → Contents
+contents_of d bs c os =
     record {
-      values = from_entries (entries_of d bs c);
-      shapes = map shape_of bs;
+      values = from_entries (entries_of d bs c os);
+      shapes = shapes_of bs c os;
       device = device_of d;
-      changes = map tally_of bs;
+      changes = map tally_of bs ++ flat_map object_tallies os;
     }
 
 -- The assembly with this instance number: the first, if there are two.
@@ -130,3 +176,16 @@ assembly_at instance (b ∷ bs) = if b.instance == instance then Some b else ass
 abbrev pub NoneIsClass : List AssemblyValues → Type 0
 NoneIsClass [] = Unit {0}
 NoneIsClass (b ∷ bs) = (0 < b.instance) × NoneIsClass bs
+
+-- No number occurs twice.
+abbrev pub AreDistinct : List ℕ → Type 0
+AreDistinct [] = Unit {0}
+AreDistinct (n ∷ ns) = (list_any (λ k. k == n) ns ≡ false) × AreDistinct ns
+
+-- Each application object has a class that the device does not have itself, an instance number other than 0, no class
+-- and instance number of a later one, and attributes with different numbers.
+abbrev pub AreApart : Bool → List ObjectShape → Type 0
+AreApart counter [] = Unit {0}
+AreApart counter (o ∷ objects) =
+    (is_taken_class counter o.class ≡ false) × (0 < o.instance) × (object_at o.class o.instance objects ≡ None)
+    × AreDistinct (map (λ a. a.number) o.attributes) × AreApart counter objects

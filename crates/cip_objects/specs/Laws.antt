@@ -15,7 +15,7 @@ use Rattle.cip_objects.specs.Execution.{Outcome, perform, reply_to, exec, run}
 use Rattle.cip_objects.specs.Router.{general_status, REPLY_TOO_LARGE}
 use Rattle.cip_objects.specs.Run.{to_counter}
 use Rattle.cip_objects.specs.Status.{completion_status}
-use Rattle.cip_objects.specs.Tables.{settable_size}
+use Rattle.cip_objects.specs.Tables.{settable_kind}
 use Rattle.cip_bytes.specs.declared.protocol.TheConstants.{COUNTER}
 
 -- The bytes are a request with this service, path and data.
@@ -92,6 +92,6 @@ changes_unsettable class instance attribute text =
 abbrev pub unsettable_law : Type 0
 unsettable_law =
     (m : Contents) (requests : List (ℕ × List ℕ)) (class instance attribute : ℕ)
-    → settable_size m.shapes class instance attribute ≡ None
+    → settable_kind m.shapes class instance attribute ≡ None
     → AllByRecursion (λ (request : ℕ × List ℕ). changes_unsettable class instance attribute request.1 ≡ false) requests
     → value_at (run m requests).after class instance attribute ≡ value_at m class instance attribute

@@ -6,6 +6,7 @@ pub mod AttributeValue
 pub mod ObjectMap
 pub mod Tables
 pub mod Changes
+pub mod Kinds
 pub mod Contents
 pub mod Entries
 pub mod Counter

@@ -12,7 +12,7 @@ use Rattle.cip_bytes.specs.declared.protocol.TheConstants.{ASSEMBLY}
 
 -- The size of each assembly's data is the sum of its member sizes.
 abbrev pub AreWhole : Contents → Type 0
-AreWhole m = (instance : ℕ) (s : Shape) → shape_at instance m.shapes ≡ Some s
+AreWhole m = (instance : ℕ) (s : Shape) → shape_at instance m.shapes.assemblies ≡ Some s
     → length (bytes_at m ASSEMBLY instance 3) ≡ sum s.members
 
 -- No list of requests changes that.

@@ -1,7 +1,10 @@
 -- The object that the class and the instance of a path lead to (Volume 1, object model), and its settable
 -- attributes.
-use Rattle.std.specs.Prelude.{◌≡◌, ℕ, ◌+◌, ◌≤◌, List, [], ◌∷◌, length, map, slice_index, Option, Some, None}
-use Rattle.std.specs.Prelude.{Result, Ok, Err, ⊤}
+use Rattle.std.specs.Prelude.{◌≡◌, ℕ, ◌+◌, ◌≤◌, List, [], ◌∷◌, length, map, slice_index, Option, Some, None, true}
+use Rattle.std.specs.Prelude.{Result, Ok, Err, ⊤, false, ◌==◌, slice_index_or, unwrap_or, is_some}
+use Rattle.cip_application.specs.declared.kind.AttributeKind.{AttributeKind}
+use Rattle.cip_application.specs.declared.kind.AttributeKind.TheVariants.{Fixed}
+use Rattle.cip_application.specs.Values.{size_for}
 use Rattle.cip_message.specs.declared.path.Path.{Path}
 use Rattle.cip_bytes.specs.Reading.{◌>>◌}
 use Rattle.cip_objects.specs.declared.assembly.Span.{Span}
@@ -12,17 +15,18 @@ use Rattle.cip_objects.specs.declared.object_ref.ObjectRef.TheVariants as object
 use Rattle.cip_objects.specs.declared.object_ref.ResolvedPath.{ResolvedPath}
 use Rattle.cip_objects.specs.declared.object_ref.Member.{Member}
 use Rattle.cip_objects.specs.declared.object_ref.Settable.{Settable}
-use Rattle.cip_objects.specs.declared.object_ref.Settable.TheVariants.{Data, Limit}
+use Rattle.cip_objects.specs.declared.object_ref.Settable.TheVariants.{Data, Limit, Attribute}
 use Rattle.cip_objects.specs.declared.service.Service.{Service}
 use Rattle.cip_objects.specs.declared.service.Service.TheVariants as services
 use Rattle.cip_objects.specs.declared.status.Refusal.{Refusal}
 use Rattle.cip_objects.specs.declared.status.Refusal.TheVariants.{InvalidAttributeValue}
 use Rattle.cip_objects.specs.ChangeServices.{Change, change, is_allowed}
-use Rattle.cip_objects.specs.Check.{demand}
+use Rattle.cip_objects.specs.Check.{demand, check_size}
 use Rattle.cip_objects.specs.Contents.{Contents, value_at, bytes_at, with_change}
 use Rattle.cip_objects.specs.Service.{service_code, service_in}
 use Rattle.cip_objects.specs.FirstOf.{IsFirst}
-use Rattle.cip_objects.specs.Tables.{Shape, shape_at, assembly_services}
+use Rattle.cip_objects.specs.Tables.{Shapes, ObjectShape, shape_at, object_at, position_at, kind_in, is_counter_class}
+use Rattle.cip_objects.specs.Tables.{assembly_services, object_services}
 use Rattle.cip_bytes.specs.declared.protocol.TheConstants.{IDENTITY, ASSEMBLY, CONNECTION_MANAGER, COUNTER}
 
 abbrev pub class_number : Class → ℕ
@@ -30,25 +34,34 @@ class_number classes.Identity = IDENTITY
 class_number classes.Assembly = ASSEMBLY
 class_number classes.Counter = COUNTER
 
+-- The application object at this index. Past the end there is one of class 0, which no configuration has.
+abbrev pub object_in : Shapes → ℕ → ObjectShape
+object_in shapes object_index =
+    slice_index_or shapes.objects object_index (record { class = 0; instance = 0; attributes = []; services = [] })
+
 -- The object's class.
-abbrev pub class_at : ObjectRef → ℕ
-class_at (object_refs.Class c) = class_number c
-class_at object_refs.Identity = IDENTITY
-class_at (object_refs.Assembly assembly_index) = ASSEMBLY
-class_at object_refs.ConnectionManager = CONNECTION_MANAGER
-class_at object_refs.Counter = COUNTER
+abbrev pub class_at : Shapes → ObjectRef → ℕ
+class_at shapes (object_refs.Class c) = class_number c
+class_at shapes object_refs.Identity = IDENTITY
+class_at shapes (object_refs.Assembly assembly_index) = ASSEMBLY
+class_at shapes object_refs.ConnectionManager = CONNECTION_MANAGER
+class_at shapes object_refs.Counter = COUNTER
+class_at shapes (object_refs.ApplicationClass class) = class
+class_at shapes (object_refs.Application object_index) = (object_in shapes object_index).class
 
 -- The instance number of the assembly at this index.
-abbrev pub number_at : List Shape → ℕ → ℕ
-number_at shapes assembly_index = slice_index (map (λ s. s.instance) shapes) assembly_index
+abbrev pub number_at : Shapes → ℕ → ℕ
+number_at shapes assembly_index = slice_index (map (λ s. s.instance) shapes.assemblies) assembly_index
 
 -- The object's instance. A class itself is instance 0.
-abbrev pub instance_at : List Shape → ObjectRef → ℕ
+abbrev pub instance_at : Shapes → ObjectRef → ℕ
 instance_at shapes (object_refs.Class c) = 0
 instance_at shapes object_refs.Identity = 1
 instance_at shapes (object_refs.Assembly assembly_index) = number_at shapes assembly_index
 instance_at shapes object_refs.ConnectionManager = 1
 instance_at shapes object_refs.Counter = 1
+instance_at shapes (object_refs.ApplicationClass class) = 0
+instance_at shapes (object_refs.Application object_index) = (object_in shapes object_index).instance
 
 -- The object's services.
 abbrev pub services_at : ObjectRef → List Service
@@ -60,13 +73,16 @@ services_at object_refs.ConnectionManager = []
 services_at object_refs.Counter =
     services.Add ∷ services.Clear ∷ services.GetAttributeList ∷ services.GetAttributeSingle
     ∷ services.SetAttributeSingle ∷ []
+services_at (object_refs.ApplicationClass class) = services.GetAttributeSingle ∷ []
+services_at (object_refs.Application object_index) = object_services
 
 -- The index is that of an assembly, the first with its instance number.
-abbrev pub IsAssemblyIndex : List Shape → ℕ → Type 0
-IsAssemblyIndex shapes assembly_index = IsFirst (λ s. s.instance) shapes (number_at shapes assembly_index) assembly_index
+abbrev pub IsAssemblyIndex : Shapes → ℕ → Type 0
+IsAssemblyIndex shapes assembly_index =
+    IsFirst (λ s. s.instance) shapes.assemblies (number_at shapes assembly_index) assembly_index
 
 -- The first assembly with this instance number is at this index.
-pub record IsAssemblyAt (shapes : List Shape) (instance assembly_index : ℕ) : Type 0 where
+pub record IsAssemblyAt (shapes : Shapes) (instance assembly_index : ℕ) : Type 0 where
   pub number : instance ≡ number_at shapes assembly_index
   pub there : IsAssemblyIndex shapes assembly_index
 
@@ -74,13 +90,44 @@ pub record IsAssemblyAt (shapes : List Shape) (instance assembly_index : ℕ) : 
 abbrev pub HasService : ObjectRef → Service → Type 0
 HasService object service = service_in (service_code service) (services_at object) ≡ Some service
 
--- The object exists. A class itself exists if no assembly has its instance number, 0.
-abbrev pub Exists : List Shape → ObjectRef → Type 0
-Exists shapes (object_refs.Class c) = shape_at 0 shapes ≡ None
+-- The device has a counter.
+abbrev pub HasCounter : Shapes → Type 0
+HasCounter shapes = shapes.has_counter ≡ true
+
+-- A class itself exists. The Assembly class does if no assembly has its instance number, 0.
+abbrev pub ClassExists : Shapes → Class → Type 0
+ClassExists shapes classes.Identity = ⊤
+ClassExists shapes classes.Assembly = shape_at 0 shapes.assemblies ≡ None
+ClassExists shapes classes.Counter = HasCounter shapes
+
+-- The class is none that the device has itself.
+pub record IsFree (shapes : Shapes) (class : ℕ) : Type 0 where
+  pub identity : (class == IDENTITY) ≡ false
+  pub assembly : (class == ASSEMBLY) ≡ false
+  pub manager : (class == CONNECTION_MANAGER) ≡ false
+  pub counter : is_counter_class shapes class ≡ false
+
+-- The application object at this index is the first of its class with its instance number, which is not 0.
+pub record IsObjectIndex (shapes : Shapes) (object_index : ℕ) : Type 0 where
+  pub free : IsFree shapes (object_in shapes object_index).class
+  pub above : ((object_in shapes object_index).instance == 0) ≡ false
+  pub first : position_at (object_in shapes object_index).class (object_in shapes object_index).instance shapes.objects
+      ≡ Some object_index
+
+-- The application objects have this class, and none of it has instance number 0.
+pub record IsObjectClass (shapes : Shapes) (class : ℕ) : Type 0 where
+  pub free : IsFree shapes class
+  pub none : object_at class 0 shapes.objects ≡ None
+
+-- The object exists.
+abbrev pub Exists : Shapes → ObjectRef → Type 0
+Exists shapes (object_refs.Class c) = ClassExists shapes c
 Exists shapes object_refs.Identity = ⊤
 Exists shapes (object_refs.Assembly assembly_index) = IsAssemblyIndex shapes assembly_index
 Exists shapes object_refs.ConnectionManager = ⊤
-Exists shapes object_refs.Counter = ⊤
+Exists shapes object_refs.Counter = HasCounter shapes
+Exists shapes (object_refs.ApplicationClass class) = IsObjectClass shapes class
+Exists shapes (object_refs.Application object_index) = IsObjectIndex shapes object_index
 
 abbrev pub IsAssembly : ObjectRef → Type 0
 IsAssembly (object_refs.Class c) = ⊥
@@ -88,10 +135,22 @@ IsAssembly object_refs.Identity = ⊥
 IsAssembly (object_refs.Assembly assembly_index) = ⊤
 IsAssembly object_refs.ConnectionManager = ⊥
 IsAssembly object_refs.Counter = ⊥
+IsAssembly (object_refs.ApplicationClass class) = ⊥
+IsAssembly (object_refs.Application object_index) = ⊥
+
+-- Get_Attributes_All can read the object.
+abbrev pub IsReadWhole : ObjectRef → Type 0
+IsReadWhole (object_refs.Class c) = ⊥
+IsReadWhole object_refs.Identity = ⊤
+IsReadWhole (object_refs.Assembly assembly_index) = ⊥
+IsReadWhole object_refs.ConnectionManager = ⊥
+IsReadWhole object_refs.Counter = ⊥
+IsReadWhole (object_refs.ApplicationClass class) = ⊥
+IsReadWhole (object_refs.Application object_index) = ⊤
 
 -- Class and instance lead to this object.
-pub record Resolves (shapes : List Shape) (class instance : ℕ) (object : ObjectRef) : Type 0 where
-  pub same_class : class ≡ class_at object
+pub record Resolves (shapes : Shapes) (class instance : ℕ) (object : ObjectRef) : Type 0 where
+  pub same_class : class ≡ class_at shapes object
   pub same_instance : instance ≡ instance_at shapes object
   pub there : Exists shapes object
 
@@ -101,21 +160,21 @@ HasNoValue m class instance = (attribute : ℕ) → value_at m class instance at
 
 -- The value of an attribute of an object.
 abbrev pub value_to : Contents → ObjectRef → ℕ → Option (List ℕ)
-value_to m object attribute = value_at m (class_at object) (instance_at m.shapes object) attribute
+value_to m object attribute = value_at m (class_at m.shapes object) (instance_at m.shapes object) attribute
 
 -- Its bytes, or no byte if there is no such attribute.
 abbrev pub bytes_to : Contents → ObjectRef → ℕ → List ℕ
-bytes_to m object attribute = bytes_at m (class_at object) (instance_at m.shapes object) attribute
+bytes_to m object attribute = bytes_at m (class_at m.shapes object) (instance_at m.shapes object) attribute
 
 -- The contents after a peer set this value there. Nothing else changes.
 abbrev pub with_change_to : Contents → ObjectRef → ℕ → List ℕ → Contents
 with_change_to m object attribute value =
-    with_change m (class_at object) (instance_at m.shapes object) attribute value
+    with_change m (class_at m.shapes object) (instance_at m.shapes object) attribute value
 
 -- A resolved path, as a path.
-abbrev pub path_to : List Shape → ResolvedPath → Path
+abbrev pub path_to : Shapes → ResolvedPath → Path
 path_to shapes resolved = record {
-  class = class_at resolved.object;
+  class = class_at shapes resolved.object;
   instance = instance_at shapes resolved.object;
   attribute = resolved.attribute;
   member = resolved.member;
@@ -139,29 +198,37 @@ pub record IsInside (m : Contents) (object : ObjectRef) (member : Member) : Type
 abbrev pub object_of : Settable → ObjectRef
 object_of (Data assembly_index size) = object_refs.Assembly assembly_index
 object_of Limit = object_refs.Counter
+object_of (Attribute object_index number) = object_refs.Application object_index
 
 abbrev pub attribute_of : Settable → ℕ
 attribute_of (Data assembly_index size) = 3
 attribute_of Limit = 2
+attribute_of (Attribute object_index number) = number
 
--- The size of the attribute in bytes.
-abbrev pub size_to_set : Settable → ℕ
-size_to_set (Data assembly_index size) = size
-size_to_set Limit = 4
+-- The kind of the attribute's values.
+abbrev pub kind_to_set : Shapes → Settable → AttributeKind
+kind_to_set shapes (Data assembly_index size) = Fixed size None
+kind_to_set shapes Limit = Fixed 4 None
+kind_to_set shapes (Attribute object_index number) =
+    unwrap_or (kind_in number (Some (object_in shapes object_index))) (Fixed 0 None)
 
--- The attribute has that size.
-abbrev pub HasSize : Contents → Settable → Type 0
-HasSize m (Data assembly_index size) = size ≡ length (data_at m assembly_index)
-HasSize m Limit = ⊤
+-- The attribute is settable, and of that size.
+abbrev pub IsSettable : Contents → Settable → Type 0
+IsSettable m (Data assembly_index size) = size ≡ length (data_at m assembly_index)
+IsSettable m Limit = ⊤
+IsSettable m (Attribute object_index number) =
+    is_some (kind_in number (Some (object_in m.shapes object_index))) ≡ true
 
 -- This attribute of an object can be set.
 pub record CanBeSet (m : Contents) (object : ObjectRef) (attribute : ℕ) (settable : Settable) : Type 0 where
   pub of_object : object ≡ object_of settable
   pub of_attribute : attribute ≡ attribute_of settable
-  pub whole : HasSize m settable
+  pub whole : IsSettable m settable
 
--- Sets the attribute, if it may have that value.
+-- Sets the attribute, if the data have the size of its values, and it may have that value.
 abbrev pub after_set : Contents → Settable → List ℕ → Result Change Refusal
 after_set m settable content = do
-  demand (is_allowed m (class_at (object_of settable)) content) InvalidAttributeValue
+  check_size (size_for (kind_to_set m.shapes settable) content) content
+  demand (is_allowed m (class_at m.shapes (object_of settable)) (kind_to_set m.shapes settable) content)
+      InvalidAttributeValue
   change (with_change_to m (object_of settable) (attribute_of settable) content) []

@@ -1,6 +1,6 @@
 -- The services that read objects. In each, the first check that fails decides (Volume 1, common services).
 use Rattle.std.specs.Prelude.{ℕ, ◌+◌, ◌*◌, Bool, true, false, ◌&&◌, ◌==◌, nat_le, if◌then◌else◌, List, [], ◌∷◌, ◌++◌}
-use Rattle.std.specs.Prelude.{length, take, drop, Option, Some, None, is_some, Result, Ok, Err}
+use Rattle.std.specs.Prelude.{length, map, take, drop, Option, Some, None, is_some, Result, Ok, Err}
 use Rattle.std.specs.Option.{ok_or}
 use Rattle.std.specs.List.{flat_map}
 use Rattle.byteorder.specs.Endian.{little_number}
@@ -19,11 +19,11 @@ use Rattle.cip_objects.specs.Contents.{Contents, value_at, bytes_at}
 use Rattle.cip_objects.specs.Service.{service_in}
 use Rattle.cip_bytes.specs.Protocol.{general_status_number}
 use Rattle.cip_objects.specs.Status.{completion_status, refusal_status}
-use Rattle.cip_objects.specs.Tables.{Shape, services_of, member_at}
-use Rattle.cip_bytes.specs.declared.protocol.TheConstants.{ASSEMBLY}
+use Rattle.cip_objects.specs.Tables.{ObjectShape, Shapes, object_at, services_of, member_at}
+use Rattle.cip_bytes.specs.declared.protocol.TheConstants.{IDENTITY, ASSEMBLY}
 
 -- The service with this code, if the class and instance exist and have it.
-unfoldable pub service_at : List Shape → ℕ → ℕ → ℕ → Result Service Refusal
+unfoldable pub service_at : Shapes → ℕ → ℕ → ℕ → Result Service Refusal
 service_at shapes class instance code = do
   offered ← ok_or (services_of shapes class instance) PathDestinationUnknown
   ok_or (service_in code offered) ServiceNotSupported
@@ -49,15 +49,25 @@ get_attribute_single m path content = do
   check_size 0 content
   answer Whole value
 
--- The attributes that Get_Attributes_All reads.
-abbrev pub ALL_ATTRIBUTES : List ℕ
-ALL_ATTRIBUTES = 1 ∷ 2 ∷ 3 ∷ 4 ∷ 5 ∷ 6 ∷ 7 ∷ []
+-- The attributes that Get_Attributes_All reads of the Identity object. The reply ends after attribute 7 (our choice).
+abbrev pub IDENTITY_ATTRIBUTES : List ℕ
+IDENTITY_ATTRIBUTES = 1 ∷ 2 ∷ 3 ∷ 4 ∷ 5 ∷ 6 ∷ 7 ∷ []
 
--- Get_Attributes_All: the values of attributes 1 to 7, joined. The reply ends after attribute 7 (our choice).
+-- It reads all of an application object, in the order of their numbers.
+abbrev pub numbers_of : Option ObjectShape → List ℕ
+numbers_of None = []
+numbers_of (Some o) = map (λ a. a.number) o.attributes
+
+abbrev pub all_attributes : Shapes → ℕ → ℕ → List ℕ
+all_attributes shapes class instance =
+    if class == IDENTITY then IDENTITY_ATTRIBUTES else numbers_of (object_at class instance shapes.objects)
+
+-- Get_Attributes_All: the values of these attributes, joined.
 unfoldable pub get_attributes_all : Contents → Path → List ℕ → Result Answer Refusal
 get_attributes_all m path content = do
   check_size 0 content
-  answer Whole (flat_map (bytes_at m path.class path.instance) ALL_ATTRIBUTES)
+  answer Whole (flat_map (bytes_at m path.class path.instance)
+      (all_attributes m.shapes path.class path.instance))
 
 -- An entry of a list: the attribute's number, its status, and its value if it exists.
 abbrev pub list_entry_of : ℕ → Option (List ℕ) → List ℕ
@@ -94,7 +104,7 @@ is_data None = false
 is_data (Some attribute) = attribute == 3
 
 -- The bytes of the member that the path names.
-unfoldable pub named_member : List Shape → Path → Result Span Refusal
+unfoldable pub named_member : Shapes → Path → Result Span Refusal
 named_member shapes path = do
   demand (is_data path.attribute) AttributeNotSupported
   number ← ok_or path.member InvalidMemberId

@@ -1,5 +1,5 @@
 -- The counter over a list of requests: its value is the sum of the additions since the last Clear.
-use Rattle.std.specs.Prelude.{◌≡◌, ℕ, ◌+◌, ◌%◌, ◌^◌, ◌<◌, ◌≤◌, Bool, false, ◌&&◌, ◌==◌, if◌then◌else◌, List, [], ◌∷◌}
+use Rattle.std.specs.Prelude.{◌≡◌, ℕ, ◌+◌, ◌%◌, ◌^◌, ◌<◌, ◌≤◌, Bool, true, false, ◌&&◌, ◌==◌, if◌then◌else◌, List, [], ◌∷◌}
 use Rattle.std.specs.Prelude.{Option, Some, None, option_map, unwrap_or, is_some, Result, Ok, Err}
 use Rattle.byteorder.specs.Endian.{little_number}
 use Rattle.cip_message.specs.declared.path.Path.{Path}
@@ -22,8 +22,9 @@ limit_of m = udint_at m COUNTER 1 2
 abbrev pub additions_of : Contents → ℕ
 additions_of m = udint_at m COUNTER 1 3
 
--- The value is not over the limit, and the numbers have 32 bits.
+-- There is a counter, its value is not over the limit, and its numbers have 32 bits.
 pub record IsCounter (m : Contents) : Type 0 where
+  pub there : m.shapes.has_counter ≡ true
   pub within : value_of m ≤ limit_of m
   pub limit : limit_of m < 2 ^ 32
   pub additions : additions_of m < 2 ^ 32

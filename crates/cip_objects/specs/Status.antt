@@ -1,4 +1,6 @@
 -- The general statuses of services that were performed, and of refusals (Volume 1, general status codes).
+use Rattle.cip_application.specs.declared.attribute.SetFault.{SetFault}
+use Rattle.cip_application.specs.declared.attribute.SetFault.TheVariants as faults
 use Rattle.cip_bytes.specs.declared.protocol.GeneralStatus.{GeneralStatus}
 use Rattle.cip_bytes.specs.declared.protocol.GeneralStatus.TheVariants as general
 use Rattle.cip_objects.specs.declared.status.Completion.{Completion}
@@ -25,3 +27,11 @@ refusal_status refusals.TooMuchData = general.TooMuchData
 refusal_status refusals.InvalidParameter = general.InvalidParameter
 refusal_status refusals.PathSizeInvalid = general.PathSizeInvalid
 refusal_status refusals.InvalidMemberId = general.InvalidMemberId
+
+-- Why an attribute of an application object was not set, as a refusal of the service.
+abbrev pub set_refusal : SetFault → Refusal
+set_refusal faults.AttributeNotSupported = refusals.AttributeNotSupported
+set_refusal faults.AttributeNotSettable = refusals.AttributeNotSettable
+set_refusal faults.NotEnoughData = refusals.NotEnoughData
+set_refusal faults.TooMuchData = refusals.TooMuchData
+set_refusal faults.InvalidAttributeValue = refusals.InvalidAttributeValue

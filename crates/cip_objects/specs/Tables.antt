@@ -1,7 +1,11 @@
 -- The constant tables, which the configuration fixes: the services of each instance of a class, the attributes that
 -- can be set, and the bytes of each member of an assembly.
-use Rattle.std.specs.Prelude.{ℕ, ◌-◌, Bool, List, [], ◌∷◌, Option, Some, None, option_map, ◌==◌, ◌&&◌, ◌||◌}
-use Rattle.std.specs.Prelude.{if◌then◌else◌, nat_lt, length, slice_index, sum, take}
+use Rattle.std.specs.Prelude.{ℕ, ◌+◌, ◌-◌, Bool, not, List, [], ◌∷◌, Option, Some, None, option_map, ◌==◌, ◌&&◌, ◌||◌}
+use Rattle.std.specs.Prelude.{if◌then◌else◌, nat_lt, length, slice_index, sum, take, max}
+use Rattle.std.specs.List.{list_any}
+use Rattle.cip_application.specs.declared.config.ServiceConfig.{ServiceConfig}
+use Rattle.cip_application.specs.declared.kind.AttributeKind.{AttributeKind}
+use Rattle.cip_application.specs.declared.kind.AttributeKind.TheVariants.{Fixed}
 use Rattle.cip_bytes.specs.declared.protocol.TheConstants.{IDENTITY, ASSEMBLY, CONNECTION_MANAGER, COUNTER}
 use Rattle.cip_objects.specs.declared.service.Service.{Service}
 use Rattle.cip_objects.specs.declared.service.Service.TheVariants.{GetAttributesAll, GetAttributeList}
@@ -21,38 +25,115 @@ abbrev pub shape_at : ℕ → List Shape → Option Shape
 shape_at instance [] = None
 shape_at instance (s ∷ shapes) = if s.instance == instance then Some s else shape_at instance shapes
 
+-- The constant part of an attribute of an application object: its number, the kind of its values, whether peers can set
+-- it, and whether the device's owner is asked before.
+pub record AttributeShape : Type 0 where
+  pub number : ℕ
+  pub kind : AttributeKind
+  pub settable : Bool
+  pub checked : Bool
+
+-- The constant part of an application object.
+pub record ObjectShape : Type 0 where
+  pub class : ℕ
+  pub instance : ℕ
+  pub attributes : List AttributeShape
+  pub services : List ServiceConfig
+
+-- The application object of this class with this instance number: the first, if there are two.
+abbrev pub object_at : ℕ → ℕ → List ObjectShape → Option ObjectShape
+object_at class instance [] = None
+object_at class instance (o ∷ objects) =
+    if (o.class == class) && (o.instance == instance) then Some o else object_at class instance objects
+
+-- The index of that object.
+abbrev pub position_at : ℕ → ℕ → List ObjectShape → Option ℕ
+position_at class instance [] = None
+position_at class instance (o ∷ objects) =
+    if (o.class == class) && (o.instance == instance) then Some 0
+    else option_map (λ k. k + 1) (position_at class instance objects)
+
+-- The attribute with this number: the first, if there are two.
+abbrev pub attribute_at : ℕ → List AttributeShape → Option AttributeShape
+attribute_at number [] = None
+attribute_at number (a ∷ attributes) = if a.number == number then Some a else attribute_at number attributes
+
+-- The instance numbers of a class of application objects.
+abbrev pub numbers_in : ℕ → List ObjectShape → List ℕ
+numbers_in class [] = []
+numbers_in class (o ∷ objects) =
+    if o.class == class then o.instance ∷ numbers_in class objects else numbers_in class objects
+
+abbrev pub greatest_number : List ℕ → ℕ
+greatest_number [] = 0
+greatest_number (n ∷ ns) = max n (greatest_number ns)
+
+-- What the configuration fixes of all objects: the assemblies, whether there is a counter, and the application objects.
+pub record Shapes : Type 0 where
+  pub assemblies : List Shape
+  pub has_counter : Bool
+  pub objects : List ObjectShape
+
+-- The class is the counter's, and the device has one.
+abbrev pub is_counter_class : Shapes → ℕ → Bool
+is_counter_class shapes class = (class == COUNTER) && shapes.has_counter
+
 -- The services of a class whose one instance has these.
 abbrev pub class_or_first : ℕ → List Service → Option (List Service)
 class_or_first instance services =
     if instance == 0 then Some (GetAttributeSingle ∷ [])
     else (if instance == 1 then Some services else None)
 
+-- The services of a class of application objects, and of its instances.
+abbrev pub object_services : List Service
+object_services = GetAttributesAll ∷ GetAttributeList ∷ GetAttributeSingle ∷ SetAttributeSingle ∷ []
+
+abbrev pub application_services : ℕ → ℕ → List ObjectShape → Option (List Service)
+application_services class instance objects =
+    if instance == 0 then
+    (if list_any (λ o. o.class == class) objects then Some (GetAttributeSingle ∷ []) else None)
+    else option_map (λ _. object_services) (object_at class instance objects)
+
 abbrev pub assembly_services : List Service
 assembly_services = GetAttributeList ∷ GetAttributeSingle ∷ SetAttributeSingle ∷ GetMember ∷ SetMember ∷ []
 
 -- The services of an instance of a class, or None if there is no such class or instance. Instance 0 is the class
 -- itself. The Connection Manager has no services here, as they belong to `cip_manager`.
-unfoldable pub services_of : List Shape → ℕ → ℕ → Option (List Service)
+unfoldable pub services_of : Shapes → ℕ → ℕ → Option (List Service)
 services_of shapes class instance =
     if class == IDENTITY then class_or_first instance (GetAttributesAll ∷ GetAttributeList ∷ GetAttributeSingle ∷ [])
     else (if class == ASSEMBLY then
     (if instance == 0 then Some (GetAttributeSingle ∷ [])
-    else option_map (λ _. assembly_services) (shape_at instance shapes))
+    else option_map (λ _. assembly_services) (shape_at instance shapes.assemblies))
     else (if class == CONNECTION_MANAGER then (if instance == 1 then Some [] else None)
-    else (if class == COUNTER then
+    else (if is_counter_class shapes class then
     class_or_first instance (Add ∷ Clear ∷ GetAttributeList ∷ GetAttributeSingle ∷ SetAttributeSingle ∷ [])
-    else None)))
+    else application_services class instance shapes.objects)))
 
-abbrev pub size_if_settable : Option Shape → Option ℕ
-size_if_settable None = None
-size_if_settable (Some s) = if s.settable then Some (sum s.members) else None
+abbrev pub kind_if_settable : Option Shape → Option AttributeKind
+kind_if_settable None = None
+kind_if_settable (Some s) = if s.settable then Some (Fixed (sum s.members) None) else None
 
--- The length of an attribute that can be set: the data of a settable assembly, or the counter's limit. None for any
--- other.
-unfoldable pub settable_size : List Shape → ℕ → ℕ → ℕ → Option ℕ
-settable_size shapes class instance attribute =
-    if (class == ASSEMBLY) && (attribute == 3) then size_if_settable (shape_at instance shapes)
-    else (if (class == COUNTER) && ((instance == 1) && (attribute == 2)) then Some 4 else None)
+-- A checked attribute cannot be set, as there is no owner to ask.
+abbrev pub kind_of_settable : Option AttributeShape → Option AttributeKind
+kind_of_settable None = None
+kind_of_settable (Some a) = if a.settable && not a.checked then Some a.kind else None
+
+abbrev pub kind_in : ℕ → Option ObjectShape → Option AttributeKind
+kind_in attribute None = None
+kind_in attribute (Some o) = kind_of_settable (attribute_at attribute o.attributes)
+
+-- The kind of the values of an attribute that can be set: the data of a settable assembly, the counter's limit, or a
+-- settable attribute of an application object. None for any other.
+unfoldable pub settable_kind : Shapes → ℕ → ℕ → ℕ → Option AttributeKind
+settable_kind shapes class instance attribute =
+    if class == IDENTITY then None
+    else (if class == ASSEMBLY then
+    (if attribute == 3 then kind_if_settable (shape_at instance shapes.assemblies) else None)
+    else (if class == CONNECTION_MANAGER then None
+    else (if is_counter_class shapes class then
+    (if (instance == 1) && (attribute == 2) then Some (Fixed 4 None) else None)
+    else kind_in attribute (object_at class instance shapes.objects))))
 
 -- The bytes of a member in the data of its assembly. Members are numbered from 1 and follow one another.
 abbrev pub span_of : List ℕ → ℕ → Option Span
@@ -64,5 +145,5 @@ abbrev pub span_in : Option Shape → ℕ → Option Span
 span_in None number = None
 span_in (Some s) number = span_of s.members number
 
-abbrev pub member_at : List Shape → ℕ → ℕ → Option Span
-member_at shapes instance number = span_in (shape_at instance shapes) number
+abbrev pub member_at : Shapes → ℕ → ℕ → Option Span
+member_at shapes instance number = span_in (shape_at instance shapes.assemblies) number

@@ -4,8 +4,8 @@ ghost use Rattle.std.specs.Prelude.{◌≡◌, length, [], OnErr};
 ghost use Rattle.cip_bytes.specs.Numbers.{le};
 ghost use Rattle.cip_objects.specs.ChangeServices.{change_result, set_attribute_single, set_member, add, clear};
 ghost use Rattle.cip_objects.specs.ChangeServices.{limit_change};
-ghost use Rattle.cip_objects.specs.ObjectRef.{Exists, IsAssembly, HasSize, path_to};
-ghost use Rattle.cip_objects.specs.ObjectRef.{object_of, size_to_set, after_set};
+ghost use Rattle.cip_objects.specs.ObjectRef.{Exists, IsAssembly, HasCounter, IsSettable, path_to};
+ghost use Rattle.cip_objects.specs.ObjectRef.{object_of, after_set};
 
 use crate::check::check_size;
 use crate::object_ref::{ResolvedPath, Settable};
@@ -35,32 +35,42 @@ impl Objects {
         let settable = self
             .settable(resolved.object, attribute)
             .ok_or(Refusal::AttributeNotSettable)?;
-        check_size(settable.size(), data)?;
         self.set(settable, data)
     }
 
-    /// Sets a settable attribute to data of its length.
+    /// Sets a settable attribute, if the data have the size of its values and it may have this one.
     #[inline(always)]
     fn set(&mut self, settable: Settable, data: &[u8]) -> Result<(), Refusal>
         requires there { Exists self.old.shapes (object_of settable) }
-        requires whole { HasSize self.old settable }
-        requires exact { length «data».now ≡ size_to_set settable }
+        requires whole { IsSettable self.old settable }
         ensures change_result { change_result (λ _. []) self.new result ≡ after_set self.old settable «data».now }
         ensures err { OnErr result (self.new ≡ self.old) }
     {
         match settable {
-            Settable::Data { assembly_index, .. } => {
+            Settable::Data {
+                assembly_index,
+                size,
+            } => {
+                check_size(size, data)?;
                 self.write_content(assembly_index, 0, data);
                 self.count_change(assembly_index);
                 Ok(())
             }
-            Settable::Limit => self.change_limit(data),
+            Settable::Limit => {
+                check_size(4, data)?;
+                self.change_limit(data)
+            }
+            Settable::Attribute {
+                object_index,
+                number,
+            } => self.set_object(object_index, number, data),
         }
     }
 
     /// Sets the counter's limit, unless it is below the value.
     fn change_limit(&mut self, data: &[u8]) -> Result<(), Refusal>
-        requires { length «data».now ≡ 4 }
+        requires there { HasCounter self.old.shapes }
+        requires exact { length «data».now ≡ 4 }
         ensures change_result { change_result (λ _. []) self.new result ≡ limit_change self.old «data».now }
         ensures err { OnErr result (self.new ≡ self.old) }
     {
@@ -92,6 +102,7 @@ impl Objects {
     #[inline(always)]
     #[tactic(auto, unfolding(crate::specs::ChangeServices::add))]
     pub(crate) fn add(&mut self, data: &[u8]) -> Result<u32, Refusal>
+        requires { HasCounter self.old.shapes }
         ensures change_result { change_result (le 4) self.new result ≡ add self.old «data».now }
         ensures err { OnErr result (self.new ≡ self.old) }
     {
@@ -105,6 +116,7 @@ impl Objects {
     /// Clear: sets the counter to 0 and answers the old value.
     #[tactic(auto, unfolding(crate::specs::ChangeServices::clear))]
     pub(crate) fn clear(&mut self, data: &[u8]) -> Result<u32, Refusal>
+        requires { HasCounter self.old.shapes }
         ensures change_result { change_result (le 4) self.new result ≡ clear self.old «data».now }
         ensures err { OnErr result (self.new ≡ self.old) }
     {

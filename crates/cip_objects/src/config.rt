@@ -8,6 +8,7 @@ ghost use Rattle.cip_objects.specs.Configuration.{instances};
 
 use crate::assembly::{DATA_LIMIT, MEMBER_LIMIT};
 use crate::identity::NAME_LIMIT;
+use cip_application::{ObjectConfig, ObjectFault, fault as objects_fault};
 use std::alloc::{AllocError, AllocFailed};
 use thiserror::Error;
 
@@ -35,15 +36,19 @@ pub struct Config {
     pub status: u16,
     /// The state of the Identity object, 8 bits.
     pub state: u8,
-    /// The initial values of the counter.
+    /// The counter.
     pub counter: CounterConfig,
     /// The assemblies, at most 16.
     pub assemblies: Vec<AssemblyConfig>,
+    /// The application objects, at most 32.
+    pub objects: Vec<ObjectConfig>,
 }
 
-/// The initial values of the counter.
+/// The counter: whether the device has it, and its initial values.
 #[derive(Clone, Copy, Debug)]
 pub struct CounterConfig {
+    /// Whether the device has the counter. If not, its class does not exist.
+    pub enabled: bool,
     /// The initial value, 32 bits.
     pub value: u32,
     /// The limit, 32 bits: at least the initial value.
@@ -88,6 +93,16 @@ pub enum ConfigFault {
     /// Memory was refused.
     #[error("out of memory")]
     Memory = 6,
+    /// There are over 32 application objects, or one has a class, an instance number or a name that it cannot have.
+    #[error("an object whose class, instance or name is not allowed, or too many objects")]
+    Object = 10,
+    /// An attribute of an application object has a number, a size, a range or a value that it cannot have, or there
+    /// are too many.
+    #[error("an attribute whose number, size, range or value is not allowed, or too many attributes")]
+    Attribute = 11,
+    /// A service of an application object has a number or a size that it cannot have, or there are too many.
+    #[error("a service whose number or size is not allowed, or too many services")]
+    Service = 12,
 }
 
 impl ConfigFault {
@@ -112,6 +127,21 @@ impl From<AllocError> for ConfigFault {
     }
 }
 
+impl From<ObjectFault> for ConfigFault {
+    ghost use Rattle.cip_objects.specs.Configuration.{config_fault};
+
+    ghost from_gives = { λ fault own. own ≡ config_fault fault };
+
+    fn from(fault: ObjectFault) -> ConfigFault {
+        match fault {
+            ObjectFault::Object => ConfigFault::Object,
+            ObjectFault::Attribute => ConfigFault::Attribute,
+            ObjectFault::Service => ConfigFault::Service,
+            ObjectFault::Memory => ConfigFault::Memory,
+        }
+    }
+}
+
 impl<T: Drop> From<AllocFailed<T>> for ConfigFault {
     ghost use Rattle.cip_objects.specs.declared.config.ConfigFault.TheVariants.{Memory};
 
@@ -131,7 +161,7 @@ impl Config {
     pub fn fault(&self) -> Option<ConfigFault>
         ensures { result ≡ fault_of self.now }
     {
-        // The first check that fails is reported, in the order of the numbers 1 to 5 (our choice).
+        // The first check that fails is reported, in the order of the numbers (our choice).
         if is_invalid_name(self.name.as_bytes()) {
             return Some(ConfigFault::Name);
         }
@@ -147,7 +177,10 @@ impl Config {
         if self.counter.limit < self.counter.value {
             return Some(ConfigFault::Limit);
         }
-        None
+        match objects_fault(self.counter.enabled, &self.objects) {
+            Some(fault) => Some(ConfigFault::from(fault)),
+            None => None,
+        }
     }
 }
 

@@ -2,15 +2,19 @@
 //! Text: docs/PROTOCOL.md, "Objects".
 ghost use Rattle.std.specs.Prelude.{◌≡◌, ◌≤◌, ◌<◌, ◌+◌, ◌%◌, ◌^◌, option_map, IfSome, IfOk, IfErr, OnOk, OnErr};
 ghost use Rattle.cip_objects.specs.Entries.{attribute_in, counter_attributes};
+ghost use Rattle.cip_objects.specs.Configuration.{counter_of};
 ghost use Rattle.cip_objects.specs.AttributeValue.{value_bytes, IsShort};
 ghost use Rattle.cip_objects.specs.declared.status.Refusal.TheVariants.{InvalidParameter, InvalidAttributeValue};
 
+use crate::config::CounterConfig;
 use crate::status::Refusal;
 use crate::value::AttributeValue;
 
 /// The one instance of the counter (our choice).
 #[derive(Clone, Copy, Debug)]
 pub(crate) struct Counter {
+    /// Whether the device has it. If not, nothing leads to it.
+    pub(crate) enabled: bool,
     /// The sum of the additions since the last Clear, at most `limit`.
     pub(crate) value: u32,
     /// The greatest `value`.
@@ -22,15 +26,16 @@ pub(crate) struct Counter {
 impl Counter {
     ghost use Rattle.cip_objects.specs.Counter.{counter_values};
 
-    /// A counter with this value and limit, and no addition yet.
-    pub(crate) fn new(value: u32, limit: u32) -> Counter
-        ensures new { result ≡ record { value = value; limit = limit; additions = 0 } }
-        ensures value { value < 2 ^ 32 }
-        ensures limit { limit < 2 ^ 32 }
+    /// The counter of a configuration, with no addition yet.
+    pub(crate) fn new(config: CounterConfig) -> Counter
+        ensures new { counter_values result ≡ counter_of config }
+        ensures value { config.value < 2 ^ 32 }
+        ensures limit { config.limit < 2 ^ 32 }
     {
         Counter {
-            value,
-            limit,
+            enabled: config.enabled,
+            value: config.value,
+            limit: config.limit,
             additions: 0,
         }
     }
@@ -50,6 +55,7 @@ impl Counter {
         // The value never passes the limit: 0x20 (our choice).
         match self.value.checked_add(amount) {
             Some(value) if value <= self.limit => Ok(Counter {
+                enabled: self.enabled,
                 value,
                 limit: self.limit,
                 additions: self.additions.wrapping_add(1),
@@ -63,6 +69,7 @@ impl Counter {
         ensures { result ≡ record self { value = 0 } }
     {
         Counter {
+            enabled: self.enabled,
             value: 0,
             limit: self.limit,
             additions: self.additions,
@@ -85,6 +92,7 @@ impl Counter {
             return Err(Refusal::InvalidAttributeValue);
         }
         Ok(Counter {
+            enabled: self.enabled,
             value: self.value,
             limit,
             additions: self.additions,

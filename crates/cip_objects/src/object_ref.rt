@@ -34,6 +34,14 @@ static COUNTER_SERVICES: [Service; 5] = [
     Service::SetAttributeSingle,
 ];
 
+/// The services of an application object.
+static OBJECT_SERVICES: [Service; 4] = [
+    Service::GetAttributesAll,
+    Service::GetAttributeList,
+    Service::GetAttributeSingle,
+    Service::SetAttributeSingle,
+];
+
 /// The object that the class and the instance of a path lead to. If there is none, the path destination is unknown:
 /// 0x05.
 #[derive(Clone, Copy)]
@@ -48,6 +56,10 @@ pub(crate) enum ObjectRef {
     ConnectionManager,
     /// The one instance of the counter.
     Counter,
+    /// A class of application objects itself, at instance 0.
+    ApplicationClass(u16),
+    /// The application object at this index, from 0.
+    Application(usize),
 }
 
 impl ObjectRef {
@@ -59,12 +71,14 @@ impl ObjectRef {
         ensures { result.now ≡ services_at self }
     {
         match self {
-            ObjectRef::Class(_) => &CLASS_SERVICES,
+            ObjectRef::Class(_) | ObjectRef::ApplicationClass(_) => &CLASS_SERVICES,
             ObjectRef::Identity => &IDENTITY_SERVICES,
             ObjectRef::Assembly(_) => &ASSEMBLY_SERVICES,
             // The services of the Connection Manager belong to `cip_manager`.
             ObjectRef::ConnectionManager => &[],
             ObjectRef::Counter => &COUNTER_SERVICES,
+            // An object's own services have no owner yet who executes them.
+            ObjectRef::Application(_) => &OBJECT_SERVICES,
         }
     }
 
@@ -109,20 +123,13 @@ pub(crate) enum Settable {
     },
     /// The counter's limit.
     Limit,
-}
-
-impl Settable {
-    ghost use Rattle.cip_objects.specs.ObjectRef.{size_to_set};
-
-    /// The size of the attribute in bytes.
-    pub(crate) fn size(self) -> usize
-        ensures { result ≡ size_to_set self }
-    {
-        match self {
-            Settable::Data { size, .. } => size,
-            Settable::Limit => 4,
-        }
-    }
+    /// An attribute of an application object.
+    Attribute {
+        /// The index of the object, from 0.
+        object_index: usize,
+        /// The attribute's number.
+        number: u16,
+    },
 }
 
 /// The service with this code, among these.

@@ -1,22 +1,25 @@
 //! The objects of a device: one object map to a caller, typed structs in memory.
 //! Text: docs/PROTOCOL.md, "Objects".
-ghost use Rattle.std.specs.Prelude.{◌≡◌, ◌≤◌, ◌+◌, length, option_map, is_some, sum, map, Some, IfSome};
+ghost use Rattle.std.specs.Prelude.{◌≡◌, ◌≤◌, ◌<◌, ◌+◌, [], length, slice_index, OnErr, option_map, is_some, sum, map, true, Some, IfSome};
 ghost use Rattle.std.specs.Prelude.{IfOk, IfErr, MatchOption, unwrap_or, nat_le};
 ghost use Rattle.std.specs.Box.{boxed_slice_items};
 ghost use Rattle.std.specs.List.{All};
 ghost use Rattle.cip_objects.specs.Configuration.{fault_of, contents_of_config, assembly_of_config};
 ghost use Rattle.byteorder.specs.Endian.{little_bytes};
-ghost use Rattle.cip_objects.specs.Contents.{value_at, bytes_at, udint_at, with_value, counted};
-ghost use Rattle.cip_objects.specs.Changes.{changes_of};
-ghost use Rattle.cip_objects.specs.ChangeServices.{with_bytes_at};
-ghost use Rattle.cip_objects.specs.ObjectRef.{Resolves, HasNoValue, Exists, IsAssemblyIndex, CanBeSet};
+ghost use Rattle.cip_objects.specs.Contents.{value_at, bytes_at, udint_at, with_value, with_change, counted};
+ghost use Rattle.cip_objects.specs.Changes.{changes_of, changes_at};
+ghost use Rattle.cip_objects.specs.ChangeServices.{with_bytes_at, change_result};
+ghost use Rattle.cip_objects.specs.ObjectRef.{ClassExists, class_number, Resolves, HasNoValue, Exists, IsAssemblyIndex, CanBeSet, IsFree};
+ghost use Rattle.cip_objects.specs.ObjectRef.{object_in, bytes_to, IsSettable, after_set};
 ghost use Rattle.cip_objects.specs.ObjectRef.{services_at, class_at, instance_at, number_at, value_to, data_at};
-ghost use Rattle.cip_objects.specs.ObjectRef.{size_to_set, IsAssemblyAt};
-ghost use Rattle.cip_objects.specs.DeviceWrites.{device_write, with_device_status, with_device_state};
+ghost use Rattle.cip_objects.specs.ObjectRef.{kind_to_set, IsAssemblyAt, HasCounter, IsObjectIndex, IsObjectClass};
+ghost use Rattle.cip_objects.specs.DeviceWrites.{device_write, object_write, with_device_status, with_device_state};
 ghost use Rattle.cip_objects.specs.Members.{AreWhole};
 ghost use Rattle.cip_objects.specs.Run.{IsCounter};
 ghost use Rattle.cip_objects.specs.Entries.{shape_of};
-ghost use Rattle.cip_objects.specs.Tables.{services_of, shape_at, settable_size};
+ghost use Rattle.cip_objects.specs.Tables.{services_of, application_services, shape_at, settable_kind};
+ghost use Rattle.cip_objects.specs.ReadServices.{numbers_of};
+ghost use Rattle.cip_objects.specs.ObjectMap.{key};
 ghost use Rattle.cip_objects.specs.AttributeValue.{value_bytes, IsShort};
 
 use crate::assembly::{Assembly, DATA_LIMIT, MEMBER_LIMIT, greatest, position};
@@ -26,15 +29,17 @@ use crate::counter::Counter;
 use crate::identity::{Identity, NAME_LIMIT};
 use crate::object_ref::{ObjectRef, Settable};
 use crate::router::ReplyBuf;
+use crate::status::Refusal;
 use crate::value::AttributeValue;
 use arrayvec::ArrayVec;
+use cip_application::ApplicationObjects;
 use cip_bytes::protocol::{ASSEMBLY, CONNECTION_MANAGER, COUNTER, IDENTITY, REPLY_LIMIT};
 use cip_message::Device;
 use std::alloc::{AllocError, Global};
 use std::boxed::BoxedSlice;
 use std::marker::Model;
 
-/// The objects of a device: Identity, the assemblies and the counter.
+/// The objects of a device: Identity, the assemblies, the counter and the application objects.
 ///
 /// Contracts see them as the object map, from class, instance and attribute to bytes, and the constant tables. Only
 /// `new` allocates: no part has a type that can grow.
@@ -49,6 +54,7 @@ pub struct Objects {
     identity: Identity,
     assemblies: BoxedSlice<Assembly>,
     counter: Counter,
+    application: ApplicationObjects,
 }
 
 impl Model for Objects {
@@ -63,7 +69,8 @@ impl Model for Objects {
     ghost use Rattle.cip_objects.specs.Counter.{counter_values};
     ghost use Rattle.cip_objects.specs.Objects.{AreObjects};
 
-    ghost view = { λ o. contents_of o.identity (boxed_slice_items o.assemblies) (counter_values o.counter) };
+    ghost view = { λ o. contents_of o.identity (boxed_slice_items o.assemblies) (counter_values o.counter)
+        o.application };
 
     ghost invariant = { λ o. AreObjects o };
 }
@@ -79,7 +86,7 @@ impl Objects {
         ensures refused { IfSome (fault_of config.now) (λ fault. result ≡ Err fault) }
         ensures allowed { fault_of config.now ≡ None → IfErr result (λ fault. fault ≡ ConfigFault.Memory) }
         ensures made { IfOk result (λ objects. objects ≡ contents_of_config config.now) }
-        ensures counter { IfOk result IsCounter }
+        ensures counter { config.now.counter.enabled ≡ true → IfOk result IsCounter }
         ensures whole { IfOk result AreWhole }
     {
         if let Some(fault) = config.fault() {
@@ -98,7 +105,8 @@ impl Objects {
                 state: config.state,
             },
             assemblies: assemblies_of(alloc, &config.assemblies)?,
-            counter: Counter::new(config.counter.value, config.counter.limit),
+            counter: Counter::new(config.counter),
+            application: ApplicationObjects::new(alloc, config.counter.enabled, &config.objects)?,
         })
     }
 
@@ -117,10 +125,47 @@ impl Objects {
             (ASSEMBLY, 0) => Some(ObjectRef::Class(Class::Assembly)),
             (ASSEMBLY, _) => Some(ObjectRef::Assembly(position(&self.assemblies, instance)?)),
             (CONNECTION_MANAGER, 1) => Some(ObjectRef::ConnectionManager),
-            (COUNTER, 0) => Some(ObjectRef::Class(Class::Counter)),
-            (COUNTER, 1) => Some(ObjectRef::Counter),
-            _ => None,
+            (IDENTITY | CONNECTION_MANAGER, _) => None,
+            (COUNTER, _) => self.counter_object(instance),
+            _ => self.application_object(class, instance),
         }
+    }
+
+    /// The object that the counter's class and an instance lead to, if there is one. If the device does not have the
+    /// counter, application objects can have its class.
+    fn counter_object(&self, instance: u32) -> Option<ObjectRef>
+        ensures services { option_map services_at result ≡ services_of self.now.shapes COUNTER instance }
+        ensures resolves { MatchOption result (HasNoValue self.now COUNTER instance)
+            (Resolves self.now.shapes COUNTER instance) }
+    {
+        if !self.counter.enabled {
+            return self.application_object(COUNTER, instance);
+        }
+        // Instance 0 is the class itself.
+        if instance == 0 {
+            return Some(ObjectRef::Class(Class::Counter));
+        }
+        if instance == 1 {
+            return Some(ObjectRef::Counter);
+        }
+        None
+    }
+
+    /// The application object that a class and an instance lead to, if there is one. The class is none that the device
+    /// has itself.
+    fn application_object(&self, class: u16, instance: u32) -> Option<ObjectRef>
+        requires { IsFree self.now.shapes class }
+        ensures services { option_map services_at result
+            ≡ application_services class instance self.now.shapes.objects }
+        ensures resolves { MatchOption result (HasNoValue self.now class instance)
+            (Resolves self.now.shapes class instance) }
+    {
+        // Instance 0 is the class itself.
+        if instance == 0 {
+            self.application.class(class)?;
+            return Some(ObjectRef::ApplicationClass(class));
+        }
+        Some(ObjectRef::Application(self.application.position(class, instance)?))
     }
 
     /// The value of an attribute of an object, if it has an attribute with this number.
@@ -135,13 +180,7 @@ impl Objects {
     {
         let counter = self.counter;
         match object {
-            ObjectRef::Class(Class::Assembly) => class_attribute(
-                2,
-                greatest(&self.assemblies),
-                self.assemblies.len() as u16,
-                attribute,
-            ),
-            ObjectRef::Class(_) => class_attribute(1, 1, 1, attribute),
+            ObjectRef::Class(class) => self.class_value(class, attribute),
             ObjectRef::Identity => self.identity.attribute(attribute),
             ObjectRef::Assembly(assembly_index) => self.assemblies[assembly_index].attribute(
                 attribute,
@@ -149,7 +188,73 @@ impl Objects {
             // The Connection Manager has no attributes in this profile (our choice).
             ObjectRef::ConnectionManager => None,
             ObjectRef::Counter => counter.attribute(attribute),
+            ObjectRef::ApplicationClass(class) => self.application_class_value(class, attribute),
+            ObjectRef::Application(object_index) => self.object_value(object_index, attribute),
         }
+    }
+
+    /// The value of an attribute of a class that the device has itself.
+    #[tactic(auto, using(crate::proofs::Lookup::reads))]
+    fn class_value(&self, class: Class, attribute: u16) -> Option<AttributeValue<'_>>
+        requires { ClassExists self.now.shapes class }
+        ensures value { option_map value_bytes result ≡ value_at self.now (class_number class) 0 attribute }
+        ensures short { IfSome result IsShort }
+    {
+        match class {
+            Class::Identity => class_attribute(1, 1, 1, attribute),
+            Class::Assembly => class_attribute(
+                2,
+                greatest(&self.assemblies),
+                self.assemblies.len() as u16,
+                attribute,
+            ),
+            Class::Counter => {
+                let _counter = self.counter;
+                class_attribute(1, 1, 1, attribute)
+            }
+        }
+    }
+
+    /// The value of an attribute of a class of application objects.
+    fn application_class_value(&self, class: u16, attribute: u16) -> Option<AttributeValue<'_>>
+        requires { IsObjectClass self.now.shapes class }
+        ensures value { option_map value_bytes result ≡ value_at self.now class 0 attribute }
+        ensures short { IfSome result IsShort }
+    {
+        let summary = self.application.class(class)?;
+        class_attribute(1, summary.greatest, summary.instances, attribute)
+    }
+
+    /// The value of an attribute of the application object at an index.
+    fn object_value(&self, object_index: usize, attribute: u16) -> Option<AttributeValue<'_>>
+        requires { IsObjectIndex self.now.shapes object_index }
+        ensures value { option_map value_bytes result
+            ≡ value_to self.now (ObjectRef.Application object_index) attribute }
+        ensures short { IfSome result IsShort }
+    {
+        match self.application.attribute(object_index, attribute) {
+            Some(bytes) => Some(AttributeValue::Bytes(bytes)),
+            None => None,
+        }
+    }
+
+    /// The number of attributes of the application object at an index.
+    pub(crate) fn attribute_count(&self, object_index: usize) -> usize
+        requires { IsObjectIndex self.now.shapes object_index }
+        ensures { result ≡ length (object_in self.now.shapes object_index).attributes }
+    {
+        self.application.attribute_count(object_index)
+    }
+
+    /// The value of an attribute of the application object at an index, by the attribute's index in the order of the
+    /// numbers.
+    pub(crate) fn value_by_index(&self, object_index: usize, index: usize) -> &[u8]
+        requires there { IsObjectIndex self.now.shapes object_index }
+        requires within { index < length (object_in self.now.shapes object_index).attributes }
+        ensures { result.now ≡ bytes_to self.now (ObjectRef.Application object_index)
+            (slice_index (numbers_of (Some (object_in self.now.shapes object_index))) index) }
+    {
+        self.application.value_at(object_index, index)
     }
 
     /// The five numbers that an electronic key is compared with. Allocates nothing.
@@ -225,6 +330,25 @@ impl Objects {
         true
     }
 
+    /// Writes bytes into an attribute of an application object, from `offset` on, even if peers cannot set it. Returns
+    /// whether it did. The bytes must end within the value; a SHORT_STRING is written as a whole. Otherwise, or if there
+    /// is no such attribute, it returns `false` and changes nothing. It is not counted as a change. Allocates nothing.
+    pub fn write_attribute(
+        &mut self,
+        class: u16,
+        instance: u32,
+        attribute: u16,
+        offset: usize,
+        bytes: &[u8],
+    ) -> bool
+        ensures written { self.new
+            ≡ unwrap_or (object_write self.old class instance attribute offset bytes.now) self.old }
+        ensures reported { result ≡ is_some (object_write self.old class instance attribute offset bytes.now) }
+    {
+        self.application
+            .write(class, instance, attribute, offset, bytes)
+    }
+
     /// Sets the device's status: attribute 5 of the Identity object, a WORD (Volume 1, Identity object). Allocates
     /// nothing.
     pub fn set_device_status(&mut self, status: u16)
@@ -248,15 +372,31 @@ impl Objects {
     /// So a device notices a write without comparing bytes.
     pub fn changes(&self, instance: u32) -> Option<u32>
         ensures changes { result ≡ changes_of instance self.now.changes }
-        ensures there { is_some result ≡ is_some (shape_at instance self.now.shapes) }
+        ensures there { is_some result ≡ is_some (shape_at instance self.now.shapes.assemblies) }
     {
         let assembly_index = position(&self.assemblies, instance)?;
         Some(self.assemblies[assembly_index].changes())
     }
 
+    /// How often peers have set an attribute of an application object, or the data of an assembly, modulo 2^32. Refused
+    /// requests, repeats on a class 3 connection and the device's own writes do not count. `None` if there is no such
+    /// attribute. Allocates nothing.
+    pub fn attribute_changes(&self, class: u16, instance: u32, attribute: u16) -> Option<u32>
+        ensures { result ≡ changes_at (key class instance attribute) self.now.changes }
+    {
+        if class != ASSEMBLY {
+            return self.application.changes(class, instance, attribute);
+        }
+        // What is counted of an assembly are the changes of its data.
+        if attribute != 3 {
+            return None;
+        }
+        self.changes(instance)
+    }
+
     /// The index of the assembly with this instance number, if there is one.
     fn assembly_index(&self, instance: u32) -> Option<usize>
-        ensures { MatchOption result (shape_at instance self.now.shapes ≡ None)
+        ensures { MatchOption result (shape_at instance self.now.shapes.assemblies ≡ None)
             (IsAssemblyAt self.now.shapes instance) }
     {
         position(&self.assemblies, instance)
@@ -266,21 +406,23 @@ impl Objects {
     #[inline(always)]
     pub(crate) fn assembly(&self, assembly_index: usize) -> &Assembly
         requires { IsAssemblyIndex self.now.shapes assembly_index }
-        ensures shape { shape_at (number_at self.now.shapes assembly_index) self.now.shapes ≡ Some (shape_of result.now) }
+        ensures shape { shape_at (number_at self.now.shapes assembly_index) self.now.shapes.assemblies ≡ Some (shape_of result.now) }
         ensures content { result.now.content ≡ data_at self.now assembly_index }
     {
         &self.assemblies[assembly_index]
     }
 
     /// The settable attribute of an object that has this number, or `None` if it cannot be set.
-    #[tactic(auto, unfolding(crate::specs::Tables::settable_size), using(crate::proofs::ObjectRefs::not_settable))]
+    #[tactic(auto, unfolding(crate::specs::Tables::settable_kind), using(crate::proofs::ObjectRefs::not_settable))]
     pub(crate) fn settable(&self, object: ObjectRef, attribute: u16) -> Option<Settable>
         requires { Exists self.now.shapes object }
-        ensures size { option_map size_to_set result
-            ≡ settable_size self.now.shapes (class_at object) (instance_at self.now.shapes object) attribute }
+        ensures kind { option_map (kind_to_set self.now.shapes) result
+            ≡ settable_kind self.now.shapes (class_at self.now.shapes object) (instance_at self.now.shapes object)
+            attribute }
         ensures names { IfSome result (CanBeSet self.now object attribute) }
     {
-        // Peers can set the data of an assembly, if the configuration says so, and the counter's limit.
+        // Peers can set the counter's limit, and the data of an assembly or an attribute of an application object if the
+        // configuration says so.
         match (object, attribute) {
             (ObjectRef::Assembly(assembly_index), 3) => {
                 let assembly = self.assembly(assembly_index);
@@ -293,12 +435,22 @@ impl Objects {
                 })
             }
             (ObjectRef::Counter, 2) => Some(Settable::Limit),
+            (ObjectRef::Application(object_index), _) => {
+                if !self.application.is_settable(object_index, attribute) {
+                    return None;
+                }
+                Some(Settable::Attribute {
+                    object_index,
+                    number: attribute,
+                })
+            }
             _ => None,
         }
     }
 
     /// The counter.
     pub(crate) fn counter(&self) -> Counter
+        requires { HasCounter self.now.shapes }
         ensures value { result.value ≡ udint_at self.now COUNTER 1 1 }
         ensures limit { result.limit ≡ udint_at self.now COUNTER 1 2 }
         ensures additions { result.additions ≡ udint_at self.now COUNTER 1 3 }
@@ -321,27 +473,47 @@ impl Objects {
     /// Counts a write to the data of the assembly at this index by a peer.
     pub(crate) fn count_change(&mut self, assembly_index: usize)
         requires { IsAssemblyIndex self.old.shapes assembly_index }
-        ensures { self.new ≡ counted self.old ASSEMBLY (number_at self.old.shapes assembly_index) }
+        ensures { self.new ≡ counted self.old ASSEMBLY (number_at self.old.shapes assembly_index) 3 }
     {
         self.assemblies[assembly_index].count_change();
     }
 
+    /// Sets a settable attribute of an application object for a peer, which is counted.
+    pub(crate) fn set_object(
+        &mut self,
+        object_index: usize,
+        number: u16,
+        data: &[u8],
+    ) -> Result<(), Refusal>
+        requires there { IsObjectIndex self.old.shapes object_index }
+        requires settable { IsSettable self.old (Settable.Attribute object_index number) }
+        ensures change_result { change_result (λ _. []) self.new result
+            ≡ after_set self.old (Settable.Attribute object_index number) «data».now }
+        ensures err { OnErr result (self.new ≡ self.old) }
+    {
+        self.application.set(object_index, number, data)?;
+        Ok(())
+    }
+
     /// Sets the counter's value.
     pub(crate) fn set_value(&mut self, value: u32)
+        requires { HasCounter self.old.shapes }
         ensures { self.new ≡ with_value self.old COUNTER 1 1 (little_bytes 4 value) }
     {
         self.counter.value = value;
     }
 
-    /// Sets the counter's limit.
+    /// Sets the counter's limit for a peer.
     pub(crate) fn set_limit(&mut self, limit: u32)
-        ensures { self.new ≡ with_value self.old COUNTER 1 2 (little_bytes 4 limit) }
+        requires { HasCounter self.old.shapes }
+        ensures { self.new ≡ with_change self.old COUNTER 1 2 (little_bytes 4 limit) }
     {
         self.counter.limit = limit;
     }
 
     /// Sets the counter's number of additions.
     pub(crate) fn set_additions(&mut self, additions: u32)
+        requires { HasCounter self.old.shapes }
         ensures { self.new ≡ with_value self.old COUNTER 1 3 (little_bytes 4 additions) }
     {
         self.counter.additions = additions;

@@ -1,14 +1,14 @@
 //! The services that read objects (Volume 1, common services).
 //! Text: docs/PROTOCOL.md, "Objects".
-ghost use Rattle.std.specs.Prelude.{◌≡◌, ◌≤◌, ◌+◌, [], ◌∷◌, ◌++◌, length, IfOk};
+ghost use Rattle.std.specs.Prelude.{◌≡◌, ◌≤◌, ◌+◌, [], ◌∷◌, ◌++◌, length, Some, IfOk};
 ghost use Rattle.std.specs.List.{flat_map};
 ghost use Rattle.cip_bytes.specs.Numbers.{le, words_of};
 ghost use Rattle.cip_bytes.specs.Protocol.{general_status_number};
 ghost use Rattle.cip_objects.specs.ObjectRef.{Exists, IsAssembly, bytes_to, path_to, span_result};
-ghost use Rattle.cip_objects.specs.ObjectRef.{IsInside};
+ghost use Rattle.cip_objects.specs.ObjectRef.{IsInside, IsReadWhole, IsObjectIndex, object_in, class_at, instance_at};
 ghost use Rattle.cip_objects.specs.ReadServices.{get_attribute_single, get_attributes_all, get_attribute_list};
 ghost use Rattle.cip_objects.specs.ReadServices.{get_member, named_member, list_entry, has_attribute, has_all_attributes};
-ghost use Rattle.cip_objects.specs.ReadServices.{answer_result, ALL_ATTRIBUTES};
+ghost use Rattle.cip_objects.specs.ReadServices.{answer_result, IDENTITY_ATTRIBUTES, all_attributes, numbers_of};
 ghost use Rattle.cip_objects.specs.Execution.{outcome_of_read, outcome_result, outcome_within};
 ghost use Rattle.cip_objects.specs.ReplyWriting.{Writes};
 ghost use Rattle.cip_objects.specs.AttributeValue.{value_bytes};
@@ -44,7 +44,7 @@ impl Objects {
         Ok(value)
     }
 
-    /// Get_Attributes_All: the values of attributes 1 to 7.
+    /// Get_Attributes_All: the values of the attributes that it reads.
     #[tactic(auto, unfolding(crate::specs::ReadServices::get_attributes_all))]
     pub(crate) fn get_attributes_all(
         &self,
@@ -54,6 +54,7 @@ impl Objects {
         reply: &mut ReplyBuf,
     ) -> Result<Completion, Refusal>
         requires there { Exists self.now.shapes resolved.object }
+        requires whole { IsReadWhole resolved.object }
         requires max_size { max_size ≤ REPLY_LIMIT }
         requires fits { length reply.old.items ≤ max_size }
         ensures { outcome_result self.now result reply.new.items
@@ -65,7 +66,8 @@ impl Objects {
         Ok(Completion::Whole)
     }
 
-    /// Appends the values of attributes 1 to 7.
+    /// Appends the values of all attributes that Get_Attributes_All reads of an object.
+    #[inline(always)]
     fn append_all(
         &self,
         object: ObjectRef,
@@ -73,11 +75,30 @@ impl Objects {
         reply: &mut ReplyBuf,
     ) -> Result<(), Refusal>
         requires there { Exists self.now.shapes object }
+        requires whole { IsReadWhole object }
         requires max_size { max_size ≤ REPLY_LIMIT }
         requires fits { length reply.old.items ≤ max_size }
-        ensures { Writes max_size (reply.old.items ++ flat_map (bytes_to self.now object) ALL_ATTRIBUTES)
+        ensures { Writes max_size (reply.old.items ++ flat_map (bytes_to self.now object)
+            (all_attributes self.now.shapes (class_at self.now.shapes object) (instance_at self.now.shapes object)))
             result reply.new.items }
     {
+        match object {
+            ObjectRef::Application(object_index) => {
+                self.append_object(object_index, max_size, reply)
+            }
+            _ => self.append_identity(max_size, reply),
+        }
+    }
+
+    /// Appends the values of attributes 1 to 7 of the Identity object.
+    fn append_identity(&self, max_size: usize, reply: &mut ReplyBuf) -> Result<(), Refusal>
+        requires max_size { max_size ≤ REPLY_LIMIT }
+        requires fits { length reply.old.items ≤ max_size }
+        ensures { Writes max_size
+            (reply.old.items ++ flat_map (bytes_to self.now ObjectRef.Identity) IDENTITY_ATTRIBUTES)
+            result reply.new.items }
+    {
+        let object = ObjectRef::Identity;
         // The reply ends after attribute 7 (our choice).
         self.append_value(object, 1, max_size, reply)?;
         self.append_value(object, 2, max_size, reply)?;
@@ -86,6 +107,28 @@ impl Objects {
         self.append_value(object, 5, max_size, reply)?;
         self.append_value(object, 6, max_size, reply)?;
         self.append_value(object, 7, max_size, reply)
+    }
+
+    /// Appends the values of all attributes of the application object at an index, in the order of their numbers.
+    #[tactic(auto, using(crate::proofs::Words::numbers))]
+    fn append_object(
+        &self,
+        object_index: usize,
+        max_size: usize,
+        reply: &mut ReplyBuf,
+    ) -> Result<(), Refusal>
+        requires there { IsObjectIndex self.now.shapes object_index }
+        requires max_size { max_size ≤ REPLY_LIMIT }
+        requires fits { length reply.old.items ≤ max_size }
+        ensures { Writes max_size
+            (reply.old.items ++ flat_map (bytes_to self.now (ObjectRef.Application object_index))
+            (numbers_of (Some (object_in self.now.shapes object_index))))
+            result reply.new.items }
+    {
+        for index in 0..self.attribute_count(object_index) {
+            append(self.value_by_index(object_index, index), max_size, reply)?;
+        }
+        Ok(())
     }
 
     /// Appends the value of an attribute, or nothing if there is no such attribute.

@@ -1,6 +1,7 @@
 //! The general statuses of replies: those of services that were performed, and those of refusals.
 ghost use Rattle.std.specs.Prelude.{◌≡◌};
 
+use cip_application::SetFault;
 use cip_bytes::protocol::GeneralStatus;
 
 /// How completely a service was performed.
@@ -53,6 +54,22 @@ pub(crate) enum Refusal {
     PathSizeInvalid,
     /// There is no such member.
     InvalidMemberId,
+}
+
+impl From<SetFault> for Refusal {
+    ghost use Rattle.cip_objects.specs.Status.{set_refusal};
+
+    ghost from_gives = { λ fault refusal. refusal ≡ set_refusal fault };
+
+    fn from(fault: SetFault) -> Refusal {
+        match fault {
+            SetFault::AttributeNotSupported => Refusal::AttributeNotSupported,
+            SetFault::AttributeNotSettable => Refusal::AttributeNotSettable,
+            SetFault::NotEnoughData => Refusal::NotEnoughData,
+            SetFault::TooMuchData => Refusal::TooMuchData,
+            SetFault::InvalidAttributeValue => Refusal::InvalidAttributeValue,
+        }
+    }
 }
 
 impl Refusal {

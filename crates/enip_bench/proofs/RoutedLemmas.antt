@@ -13,7 +13,7 @@ use Rattle.cip_ledger.proofs.Devices.{exec_device-passed, other_class}
 use Rattle.cip_objects.specs.Contents.{Contents}
 use Rattle.cip_objects.specs.Execution.{Outcome, outcome, exec, perform, request_or_refusal, path_or_refusal}
 use Rattle.cip_objects.specs.ReadServices.{service_at}
-use Rattle.cip_objects.specs.Tables.{Shape, services_of}
+use Rattle.cip_objects.specs.Tables.{Shapes, services_of}
 use Rattle.cip_objects.proofs.Refuses.{exec_left}
 use Rattle.enip_adapter.specs.declared.peer.Session.{Session}
 use Rattle.enip_adapter.specs.declared.shared.Shared.{Shared}
@@ -30,7 +30,7 @@ fails-then (Ok x) f e = absurd (cc)
 fails-then (Err x) f e = refl
 
 -- the objects offer no service at the Connection Manager
-no_service : (shapes : List Shape) (code : ℕ) → fails (service_at shapes 6 1 code) ≡ true
+no_service : (shapes : Shapes) (code : ℕ) → fails (service_at shapes 6 1 code) ≡ true
 unfolding service_at services_of
 no_service shapes code = refl
 

@@ -40,6 +40,9 @@ configuration N, the first that applies:
   3    more than 64 members in an assembly, or one of 0 bytes
   4    `instance` of an assembly is 0 or occurs twice
   5    `value` of the counter is over its `limit`
+  10   a class, an instance or a name of an object, or more than 32 objects
+  11   a number, a type, a value or a range of an attribute, or too many bytes
+  12   a number or a size of an object's service, or more than 16 services
 
 fault N:
 

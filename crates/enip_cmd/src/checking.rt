@@ -1,7 +1,9 @@
 //! `enip check`: prints the device that a configuration describes.
 
+use cip_application::{AttributeConfig, AttributeKind, NumberRange, ObjectConfig, ServiceConfig};
 use cip_objects::{AssemblyConfig, Config};
-use enip_config::{Configuration, LedgerConfig};
+use cip_values::{ElementaryType, ValueType, ValuesText, read_values};
+use enip_config::{AttributeType, Configuration, LedgerConfig};
 use std::alloc::Global;
 use std::io::{self, BufWriter, Write};
 
@@ -12,15 +14,23 @@ pub(crate) fn print_device<W: Write + Drop>(
     output: W,
 ) -> io::Result<()> {
     let mut output = BufWriter::new(alloc, output)?;
-    print_lines(&mut output, configuration)
+    print_lines(alloc, &mut output, configuration)
 }
 
 /// Prints all lines, and flushes the output.
-fn print_lines<W: Write>(output: &mut W, configuration: &Configuration) -> io::Result<()> {
+fn print_lines<W: Write>(
+    alloc: Global,
+    output: &mut W,
+    configuration: &Configuration,
+) -> io::Result<()> {
     print_identity(output, &configuration.objects)?;
     print_address_and_counter(output, configuration)?;
     for assembly in &configuration.objects.assemblies {
         print_assembly(output, assembly)?;
+    }
+    let objects = &configuration.objects.objects;
+    for (object, types) in objects.iter().zip(&configuration.attribute_types) {
+        print_object(alloc, output, object, types.as_slice())?;
     }
     if let Some(ledger) = configuration.ledger {
         print_ledger(output, ledger)?;
@@ -54,6 +64,9 @@ fn print_address_and_counter<W: Write>(
     let port = configuration.port;
     writeln!(output, "address {first}.{second}.{third}.{last}:{port}")?;
     let counter = configuration.objects.counter;
+    if !counter.enabled {
+        return writeln!(output, "no counter");
+    }
     let (value, limit) = (counter.value, counter.limit);
     writeln!(output, "counter {value}, limit {limit}")
 }
@@ -83,11 +96,7 @@ fn print_limits<W: Write>(output: &mut W, configuration: &Configuration) -> io::
 /// Assembly.)
 fn print_assembly<W: Write>(output: &mut W, assembly: &AssemblyConfig) -> io::Result<()> {
     let instance = assembly.instance;
-    let access = if assembly.settable {
-        "settable"
-    } else {
-        "read-only"
-    };
+    let access = access_of(assembly.settable);
     let bytes = assembly
         .members
         .iter()
@@ -100,4 +109,125 @@ fn print_assembly<W: Write>(output: &mut W, assembly: &AssemblyConfig) -> io::Re
         write!(output, " {size}")?;
     }
     writeln!(output)
+}
+
+/// What clients can do with data: set them too, or only read them.
+fn access_of(settable: bool) -> &'static str {
+    if settable { "settable" } else { "read-only" }
+}
+
+/// Prints an own object: its class, its instance and its name, then a line for each attribute and each service.
+fn print_object<W: Write>(
+    alloc: Global,
+    output: &mut W,
+    object: &ObjectConfig,
+    types: &[AttributeType],
+) -> io::Result<()> {
+    let (class, instance) = (object.class, object.instance);
+    write!(output, "object of class {class}, instance {instance}")?;
+    if let Some(name) = &object.name {
+        write!(output, ", {}", name.as_str())?;
+    }
+    writeln!(output)?;
+    for (attribute, of_type) in object.attributes.iter().zip(types) {
+        print_attribute(alloc, output, attribute, *of_type)?;
+    }
+    for service in &object.services {
+        print_service(output, *service)?;
+    }
+    Ok(())
+}
+
+/// Prints an attribute of an own object: its number, its type and its value, whether it can be set and whether a set is
+/// checked, and its range if it has one.
+fn print_attribute<W: Write>(
+    alloc: Global,
+    output: &mut W,
+    attribute: &AttributeConfig,
+    of_type: AttributeType,
+) -> io::Result<()> {
+    let number = attribute.number;
+    write!(output, "  attribute {number}, {of_type}, value ")?;
+    print_value(alloc, output, value_type_of(of_type), &attribute.value)?;
+    write!(output, ", {}", access_of(attribute.settable))?;
+    if attribute.checked {
+        write!(output, ", checked")?;
+    }
+    if let AttributeKind::Fixed {
+        range: Some(range),
+        ..
+    } = attribute.kind
+    {
+        print_range(alloc, output, of_type, range)?;
+    }
+    writeln!(output)
+}
+
+/// Prints the range of an attribute's numbers.
+fn print_range<W: Write>(
+    alloc: Global,
+    output: &mut W,
+    of_type: AttributeType,
+    range: NumberRange,
+) -> io::Result<()> {
+    let one = value_type_of(of_type).map(|list| ValueType {
+        element: list.element,
+        is_list: false,
+    });
+    let width = range.number.width();
+    write!(output, ", from ")?;
+    print_value(alloc, output, one, &range.least.to_le_bytes()[..width])?;
+    write!(output, " to ")?;
+    print_value(alloc, output, one, &range.greatest.to_le_bytes()[..width])
+}
+
+/// The type of an attribute's value as `--as` knows it. Bytes of any meaning have none.
+fn value_type_of(of_type: AttributeType) -> Option<ValueType> {
+    let (element, is_list) = match of_type {
+        AttributeType::One(element) => (element, false),
+        AttributeType::Array(element, _) => (element, true),
+        AttributeType::ShortString(_) => (ElementaryType::ShortString, false),
+        AttributeType::Bytes(_) => return None,
+    };
+    Some(ValueType { element, is_list })
+}
+
+/// Prints bytes as values of a type, or as hexadecimal digits if there is no type.
+fn print_value<W: Write>(
+    alloc: Global,
+    output: &mut W,
+    value_type: Option<ValueType>,
+    bytes: &[u8],
+) -> io::Result<()> {
+    let Some(value_type) = value_type else {
+        return print_digits(output, bytes);
+    };
+    match read_values(alloc, value_type, bytes) {
+        Ok(values) => {
+            let values = values.as_slice();
+            write!(output, "{}", ValuesText { value_type, values })
+        }
+        Err(_) => print_digits(output, bytes),
+    }
+}
+
+/// Prints two hexadecimal digits for each byte.
+fn print_digits<W: Write>(output: &mut W, bytes: &[u8]) -> io::Result<()> {
+    for byte in bytes {
+        write!(output, "{byte:02x}")?;
+    }
+    Ok(())
+}
+
+/// Prints an own service: its number, the size of its data, and the size of its reply's data.
+fn print_service<W: Write>(output: &mut W, service: ServiceConfig) -> io::Result<()> {
+    let (number, least, most) = (service.number, service.least, service.most);
+    write!(output, "  service {number}, data of ")?;
+    if least == most {
+        write!(output, "{most} bytes")?;
+    } else {
+        write!(output, "{least} to {most} bytes")?;
+    }
+    let reply = service.reply;
+    writeln!(output, ", reply of up to {reply} bytes")
 }

@@ -7,7 +7,7 @@ use Rattle.toml.specs.Data.{table}
 use Rattle.toml.specs.View.{view, items_view, members_view}
 use Rattle.toml.proofs.Views.{Entry, view-Array, view-Table}
 use Rattle.toml.specs.declared.value.Value.{Value, Array, Table}
-use Rattle.enip_config.specs.Known.{has_key, any_has_key, has_other_keys, any_has_other_keys, has_other_keys_within}
+use Rattle.enip_config.specs.Known.{has_key, any_has_key, has_other_keys, any_has_other_keys, has_other_keys_within, object_has_other_keys, any_object_has_other_keys, has_other_keys_in_objects}
 
 not_true : (b : Bool) → (b ≡ true → ⊥) → b ≡ false
 not_true true never = absurd (never refl)
@@ -26,6 +26,10 @@ pub any_other_keys : (known : List (List ℕ)) (vs : List Value) → list_any (�
 any_other_keys known [] = refl
 any_other_keys known (v ∷ vs) = ap (λ rest. has_other_keys known (view v) || rest) (any_other_keys known vs)
 
+pub any_object_keys : (vs : List Value) → list_any (λ v. object_has_other_keys (view v)) vs ≡ any_object_has_other_keys (items_view vs)
+any_object_keys [] = refl
+any_object_keys (v ∷ vs) = ap (λ rest. object_has_other_keys (view v) || rest) (any_object_keys vs)
+
 -- A table with a member.
 pub some_member : (b : Bool) (es : List Entry) → (IsTrue b ↔ (length es ≡ 0)) → not b ≡ has_key (table (members_view es))
 some_member true [] empty = refl
@@ -40,6 +44,10 @@ array_key v vs is = any_key vs.items ∙ rw (is, view-Array vs) refl
 pub array_other_keys : (known : List (List ℕ)) (v : Value) (vs : Vec Value Global) → v ≡ Array vs
     → list_any (λ w. has_other_keys known (view w)) vs.items ≡ has_other_keys_within known (view v)
 array_other_keys known v vs is = any_other_keys known vs.items ∙ rw (is, view-Array vs) refl
+
+pub array_object_keys : (v : Value) (vs : Vec Value Global) → v ≡ Array vs
+    → list_any (λ w. object_has_other_keys (view w)) vs.items ≡ has_other_keys_in_objects (view v)
+array_object_keys v vs is = any_object_keys vs.items ∙ rw (is, view-Array vs) refl
 
 pub table_key : (v : Value) (m : BTreeMap (String Global) Value) → v ≡ Table m → has_key (table (members_view m.entries)) ≡ has_key (view v)
 table_key v m is = rw (is, view-Table m) refl

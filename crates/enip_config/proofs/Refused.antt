@@ -2,7 +2,7 @@ use Rattle.std.proofs.Common.{◌≡◌, ◌≤◌, ℕ, List, subst, Option, If
 use Rattle.std.specs.Result.{IsErr, IsErrAnd}
 use Rattle.toml.specs.Data.{Data, Members, get_member}
 use Rattle.cip_objects.specs.declared.config.ConfigFault.{ConfigFault}
-use Rattle.cip_objects.specs.declared.config.ConfigFault.TheVariants.{Name, Size, Members as WrongMembers, DoubleInstance, Limit, Memory}
+use Rattle.cip_objects.specs.declared.config.ConfigFault.TheVariants.{Name, Size, Members as WrongMembers, DoubleInstance, Limit, Object, Attribute, Service, Memory}
 use Rattle.cip_objects.specs.Configuration.{fault_of}
 use Rattle.enip_config.specs.declared.configuration.Configuration.{Configuration}
 use Rattle.enip_config.specs.Keys.{KeyRow, row, number_in, number_by, number_of, table_with, read_or}
@@ -21,6 +21,9 @@ refused_by_objects bytes described c Size known values fails = (described, (c, (
 refused_by_objects bytes described c WrongMembers known values fails = (described, (c, (known, (values, rw fails refl))))
 refused_by_objects bytes described c DoubleInstance known values fails = (described, (c, (known, (values, rw fails refl))))
 refused_by_objects bytes described c Limit known values fails = (described, (c, (known, (values, rw fails refl))))
+refused_by_objects bytes described c Object known values fails = (described, (c, (known, (values, rw fails refl))))
+refused_by_objects bytes described c Attribute known values fails = (described, (c, (known, (values, rw fails refl))))
+refused_by_objects bytes described c Service known values fails = (described, (c, (known, (values, rw fails refl))))
 refused_by_objects bytes described c Memory known values fails = tt
 
 -- A number that could not be read.

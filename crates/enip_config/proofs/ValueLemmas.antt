@@ -4,6 +4,7 @@ use Rattle.toml.specs.View.{view, items_view, table_view}
 use Rattle.toml.specs.declared.value.Value.{Value, Table}
 use Rattle.toml.proofs.Views.{items_view-drop, view-Table}
 use Rattle.enip_config.specs.Keys.{each, address_in}
+use Rattle.enip_config.specs.Objects.{two_sizes}
 
 moved : {A : Type 0} (done : List A) (a : A) (rest : Option (List A)) → option_map (λ xs. (done ++ a ∷ []) ++ xs) rest ≡ option_map (λ xs. done ++ xs) (option_map (λ xs. a ∷ xs) rest)
 moved done a None = refl
@@ -24,6 +25,18 @@ over_four (a ∷ b ∷ []) many = absurd (omega arith)
 over_four (a ∷ b ∷ c ∷ []) many = absurd (omega arith)
 over_four (a ∷ b ∷ c ∷ d ∷ []) many = absurd (omega arith)
 over_four (a ∷ b ∷ c ∷ d ∷ e ∷ vs) many = refl
+
+-- A range of sizes has two values.
+pub under_two : (vs : List Value) → length vs < 2 → two_sizes (array (items_view vs)) ≡ None
+under_two [] few = refl
+under_two (a ∷ []) few = refl
+under_two (a ∷ b ∷ vs) few = absurd (omega arith)
+
+pub over_two : (vs : List Value) → 2 < length vs → two_sizes (array (items_view vs)) ≡ None
+over_two [] many = absurd (omega arith)
+over_two (a ∷ []) many = absurd (omega arith)
+over_two (a ∷ b ∷ []) many = absurd (omega arith)
+over_two (a ∷ b ∷ c ∷ vs) many = refl
 
 -- The values from an index on.
 pub each-drop : {A : Type 0} (read : Data → Option A) (vs : List Value) (i : ℕ) (v : Value) → i < length vs → get_or vs i v ≡ v

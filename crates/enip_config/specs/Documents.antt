@@ -1,4 +1,5 @@
--- What a configuration says, and why one is refused: the first check that fails, in the order 7, 9, 8, 1 to 5.
+-- What a configuration says, and why one is refused: the first check that fails, in the order 7, 9, 8, 1 to 5, 10
+-- to 12.
 use Rattle.std.specs.Prelude.{◌≡◌, ◌≤◌, ◌⊎◌, ⊤, ℕ, List, Bool, true, false, Option, Some, None, IfSome, option_map, map, string_bytes}
 use Rattle.std.specs.Prelude.{IsUtf8}
 use Rattle.std.specs.Option.{IsSomeAnd}
@@ -19,6 +20,9 @@ use Rattle.enip_config.specs.declared.key.NumberKey.TheVariants.{CounterLimit}
 use Rattle.enip_config.specs.Known.{has_unknown_key}
 use Rattle.enip_config.specs.declared.ledger.LedgerConfig.{LedgerConfig}
 use Rattle.enip_config.specs.Keys.{row, originators_row, life_row, number_of, name_of, address_of, assemblies_of, ledger_of}
+use Rattle.enip_config.specs.Keys.{counter_enabled}
+use Rattle.enip_config.specs.Objects.{objects_of, object_seen}
+use Rattle.enip_config.specs.ObjectTypes.{types_of, types_seen}
 use Rattle.enip_config.specs.Refusals.{fault_of_objects}
 
 -- the number that a configuration has for a key
@@ -54,13 +58,16 @@ pub record HasValues (described : Members) (c : Configuration) : Type 0 where
   pub address : address_of described ≡ Some c.address
   pub assemblies : assemblies_of described ≡ Some (map assembly_seen c.objects.assemblies.items)
   pub ledger : ledger_of described ≡ Some (option_map ledger_seen c.ledger)
+  pub enabled : counter_enabled described ≡ Some c.objects.counter.enabled
+  pub objects : objects_of described ≡ Some (map object_seen c.objects.objects.items)
+  pub types : map types_seen c.attribute_types.items ≡ types_of described
 
 -- a required value is missing, or a value has another type or is out of range
 abbrev pub HasBadValue : Members → Type 0
 HasBadValue described =
     ((key : NumberKey) × (number_of key described ≡ None))
     ⊎ ((name_of described ≡ None) ⊎ ((address_of described ≡ None) ⊎ ((assemblies_of described ≡ None)
-    ⊎ (ledger_of described ≡ None))))
+    ⊎ ((ledger_of described ≡ None) ⊎ ((counter_enabled described ≡ None) ⊎ (objects_of described ≡ None))))))
 
 -- why a table whose keys are all known gives no configuration
 abbrev pub IsUnread : Members → LoadFault → Type 0
@@ -99,7 +106,7 @@ IsRefused bytes NotToml = IsUtf8 bytes → parse_document bytes ≡ None
 IsRefused bytes UnknownKey = (described : Members) × (IsDocument bytes described × (has_unknown_key described ≡ true))
 -- 8: a required value is missing, or a value has another type or is out of range
 IsRefused bytes BadValue = (described : Members) × (IsKnown bytes described × HasBadValue described)
--- 1 to 5: the first check of the objects that fails
+-- 1 to 5 and 10 to 12: the first check of the objects that fails
 IsRefused bytes refusal =
     (described : Members) × ((c : Configuration) × (IsKnown bytes described
     × (HasValues described c × IsSomeAnd (fault_of c.objects) (λ check. fault_of_objects check ≡ Refused refusal))))

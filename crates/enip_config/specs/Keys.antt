@@ -1,5 +1,5 @@
 -- The keys of a configuration: their names, ranges and defaults.
-use Rattle.std.specs.Prelude.{ℕ, pos, List, [], ◌∷◌, Bool, false, ◌&&◌, if◌then◌else◌, nat_le, codes, Option, Some}
+use Rattle.std.specs.Prelude.{ℕ, pos, List, [], ◌∷◌, Bool, false, true, ◌&&◌, if◌then◌else◌, nat_le, codes, Option, Some}
 use Rattle.std.specs.Prelude.{None, option_map, option_and_then, String}
 use Rattle.std.specs.Borrow.{Bor}
 use Rattle.std.specs.BTreeMap.{BTreeMap}
@@ -22,10 +22,10 @@ pub record KeyRow : Type 0 where
   pub greatest : ℕ
   pub default : Option ℕ
 
-abbrev required : List ℕ → ℕ → ℕ → KeyRow
+abbrev pub required : List ℕ → ℕ → ℕ → KeyRow
 required name least greatest = record { name = name; least = least; greatest = greatest; default = None }
 
-abbrev optional : List ℕ → ℕ → ℕ → ℕ → KeyRow
+abbrev pub optional : List ℕ → ℕ → ℕ → ℕ → KeyRow
 optional name least greatest default =
     record { name = name; least = least; greatest = greatest; default = Some default }
 
@@ -47,7 +47,7 @@ row FirstId = optional (codes "first_id") 1 0xffffffff 1
 row CounterValue = optional (codes "value") 0 0xffffffff 0
 row CounterLimit = optional (codes "limit") 0 0xffffffff 0xffffffff
 
--- the key `instance` of a table `assembly`
+-- the key `instance` of a table `assembly` or `object`
 abbrev pub instance_row : KeyRow
 instance_row = required (codes "instance") 0 0xffff
 
@@ -120,9 +120,17 @@ sizes_in _ = None
 abbrev pub sizes_of : Members → Option (List ℕ)
 sizes_of described = read_or None sizes_in (get_member (codes "members") described)
 
+-- a key that is true or false, or its default
+abbrev pub flag_of : List ℕ → Bool → Members → Option Bool
+flag_of name default described = read_or (Some default) as_bool (get_member name described)
+
+-- whether the device has the counter
+abbrev pub counter_enabled : Members → Option Bool
+counter_enabled described = option_and_then (flag_of (codes "enabled") true) (counter_table described)
+
 -- whether clients can set an assembly's data
 abbrev pub settable_of : Members → Option Bool
-settable_of described = read_or (Some false) as_bool (get_member (codes "settable") described)
+settable_of described = flag_of (codes "settable") false described
 
 -- two results as a pair; None if either is
 abbrev pub both : {A B : Type 0} → Option A → Option B → Option (A × B)

@@ -2,13 +2,15 @@
 use Rattle.std.specs.Prelude.{ℕ, List, [], ◌∷◌, ◌++◌, map, Bool, true, false, ◌||◌, not, codes, bytes_eq, if◌then◌else◌}
 use Rattle.std.specs.List.{list_any}
 use Rattle.enip_config.specs.declared.known.TableKind.{TableKind}
-use Rattle.enip_config.specs.declared.known.TableKind.TheVariants.{Text, Counter, Assembly, Ledger}
+use Rattle.enip_config.specs.declared.known.TableKind.TheVariants.{Text, Counter, Assembly, Ledger, Object}
+use Rattle.enip_config.specs.declared.known.TableKind.TheVariants.{Attribute, Service}
 use Rattle.enip_config.specs.declared.key.NumberKey.{NumberKey}
 use Rattle.enip_config.specs.declared.key.NumberKey.TheVariants.{Vendor, DeviceType, ProductCode, Major, Minor, Serial}
 use Rattle.enip_config.specs.declared.key.NumberKey.TheVariants.{Status, State, Port, Peers, Connections, FirstHandle}
 use Rattle.enip_config.specs.declared.key.NumberKey.TheVariants.{FirstId, CounterValue}
 use Rattle.enip_config.specs.declared.key.NumberKey.TheVariants.{CounterLimit}
 use Rattle.enip_config.specs.Keys.{row, instance_row, originators_row, life_row}
+use Rattle.enip_config.specs.Objects.{class_row, attribute_row, service_row, reply_row}
 use Rattle.toml.specs.Data.{Data, array, table, Items, no_items, item, Members, no_members, member}
 
 -- whether there is a key within a value, at any depth
@@ -56,9 +58,39 @@ text_numbers =
 -- the names of the known keys of a table, except tables within it
 abbrev pub keys_of : TableKind → List (List ℕ)
 keys_of Text = map (λ key. (row key).name) text_numbers ++ (codes "name" ∷ codes "address" ∷ [])
-keys_of Counter = map (λ key. (row key).name) (CounterValue ∷ CounterLimit ∷ [])
+keys_of Counter = map (λ key. (row key).name) (CounterValue ∷ CounterLimit ∷ []) ++ (codes "enabled" ∷ [])
 keys_of Assembly = instance_row.name ∷ codes "settable" ∷ codes "members" ∷ []
 keys_of Ledger = originators_row.name ∷ life_row.name ∷ []
+keys_of Object = class_row.name ∷ instance_row.name ∷ codes "name" ∷ []
+keys_of Attribute =
+    attribute_row.name ∷ codes "type" ∷ codes "value" ∷ codes "settable" ∷ codes "checked" ∷ codes "min"
+    ∷ codes "max" ∷ []
+keys_of Service = service_row.name ∷ codes "size" ∷ codes "sizes" ∷ reply_row.name ∷ []
+
+-- whether a key of a table `object` is unknown, or one within its value
+abbrev pub is_unknown_in_object : List ℕ → Data → Bool
+is_unknown_in_object key value =
+    if bytes_eq key (codes "attribute") then has_other_keys_within (keys_of Attribute) value
+    else if bytes_eq key (codes "service") then has_other_keys_within (keys_of Service) value
+    else not (is_among (keys_of Object) key) || has_key value
+
+-- whether a table `object` has an unknown key, at any depth
+abbrev pub are_other_object_keys : Members → Bool
+are_other_object_keys no_members = false
+are_other_object_keys (member key value more) = is_unknown_in_object key value || are_other_object_keys more
+
+-- the same for a value, for the values of an array, and for a value or an array of values
+abbrev pub object_has_other_keys : Data → Bool
+object_has_other_keys (table described) = are_other_object_keys described
+object_has_other_keys value = has_key value
+
+abbrev pub any_object_has_other_keys : Items → Bool
+any_object_has_other_keys no_items = false
+any_object_has_other_keys (item value values) = object_has_other_keys value || any_object_has_other_keys values
+
+abbrev pub has_other_keys_in_objects : Data → Bool
+has_other_keys_in_objects (array values) = any_object_has_other_keys values
+has_other_keys_in_objects value = object_has_other_keys value
 
 -- whether a key at the top level is unknown, or one within its value
 abbrev pub is_unknown : List ℕ → Data → Bool
@@ -66,6 +98,7 @@ is_unknown key value =
     if bytes_eq key (codes "counter") then has_other_keys_within (keys_of Counter) value
     else if bytes_eq key (codes "assembly") then has_other_keys_within (keys_of Assembly) value
     else if bytes_eq key (codes "ledger") then has_other_keys_within (keys_of Ledger) value
+    else if bytes_eq key (codes "object") then has_other_keys_in_objects value
     else not (is_among (keys_of Text) key) || has_key value
 
 -- whether a key is unknown, at any depth

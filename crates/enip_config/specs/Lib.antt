@@ -1,4 +1,7 @@
 pub mod Keys
+pub mod Types
+pub mod Objects
+pub mod ObjectTypes
 pub mod Known
 pub mod Refusals
 pub mod Documents

@@ -2,6 +2,7 @@
 use Rattle.std.specs.Prelude.{ℕ}
 use Rattle.cip_objects.specs.declared.config.ConfigFault.{ConfigFault}
 use Rattle.cip_objects.specs.declared.config.ConfigFault.TheVariants.{Name, Size, Members, DoubleInstance, Limit}
+use Rattle.cip_objects.specs.declared.config.ConfigFault.TheVariants.{Object, Attribute, Service}
 use Rattle.cip_objects.specs.declared.config.ConfigFault.TheVariants.{Memory as NoMemory}
 use Rattle.enip_config.specs.declared.fault.LoadFault.{LoadFault}
 use Rattle.enip_config.specs.declared.fault.LoadFault.TheVariants.{Refused, Memory}
@@ -18,6 +19,9 @@ refusal_number refused.Limit = 5
 refusal_number refused.NotToml = 7
 refusal_number refused.BadValue = 8
 refusal_number refused.UnknownKey = 9
+refusal_number refused.Object = 10
+refusal_number refused.Attribute = 11
+refusal_number refused.Service = 12
 
 -- the check of the objects that fails, or Memory
 abbrev pub fault_of_objects : ConfigFault → LoadFault
@@ -26,4 +30,7 @@ fault_of_objects Size = Refused refused.Size
 fault_of_objects Members = Refused refused.Members
 fault_of_objects DoubleInstance = Refused refused.DoubleInstance
 fault_of_objects Limit = Refused refused.Limit
+fault_of_objects Object = Refused refused.Object
+fault_of_objects Attribute = Refused refused.Attribute
+fault_of_objects Service = Refused refused.Service
 fault_of_objects NoMemory = Memory

@@ -2,13 +2,13 @@
 
 ghost use Rattle.std.specs.Prelude.{◌≡◌, IfOk, IfErr, Some, map};
 ghost use Rattle.toml.specs.View.{view, items_view, table_view};
-ghost use Rattle.enip_config.specs.Keys.{each, number_in, settable_of, sizes_of, assembly_in};
+ghost use Rattle.enip_config.specs.Keys.{each, number_in, sizes_of, assembly_in};
 ghost use Rattle.enip_config.specs.Keys.{assemblies_of};
-ghost use Rattle.enip_config.specs.Documents.{IsBad, IsBadOrMemory, IsUnread, assembly_seen};
+ghost use Rattle.enip_config.specs.Documents.{IsBadOrMemory, IsUnread, assembly_seen};
 
 use crate::fault::LoadFault;
 use crate::key::INSTANCE;
-use crate::values::{BAD_VALUE, number_by, number_in, value_of};
+use crate::values::{BAD_VALUE, flag_of, number_by, number_in, value_of};
 use crate::width::Width;
 use cip_objects::AssemblyConfig;
 use std::alloc::Global;
@@ -50,20 +50,9 @@ fn assembly_of(alloc: Global, value: &Value) -> Result<AssemblyConfig, LoadFault
     };
     Ok(AssemblyConfig {
         instance: number_by(table, INSTANCE)?,
-        settable: settable_of(table)?,
+        settable: flag_of(table, "settable", false)?,
         members: sizes_of(alloc, table)?,
     })
-}
-
-/// Whether clients can set the data of an assembly. False if the key is left out.
-fn settable_of(table: &Table) -> Result<bool, LoadFault>
-    ensures read { IfOk result (λ settable. settable_of (table_view table.now) ≡ Some settable) }
-    ensures refused { IfErr result (IsBad (settable_of (table_view table.now))) }
-{
-    match value_of(table, "settable") {
-        None => Ok(false),
-        Some(value) => value.as_bool().ok_or(BAD_VALUE),
-    }
 }
 
 /// The sizes of an assembly's members, in bytes.

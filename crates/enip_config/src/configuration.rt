@@ -7,17 +7,20 @@ ghost use Rattle.cip_objects.specs.Configuration.{fault_of};
 ghost use Rattle.enip_config.specs.Documents.{IsDescribed, IsFaultOf, IsInRange, IsLedgerInRange, IsUnread, HasValues};
 
 use crate::assemblies::assemblies_of;
+use crate::attribute_type::AttributeType;
 use crate::fault::{ConfigurationRefusal, LoadFault};
 use crate::key::NumberKey;
 use crate::known::has_unknown_key;
 use crate::ledger::{LedgerConfig, ledger_of};
-use crate::values::{address_of, name_of, number};
+use crate::object_types::types_of;
+use crate::objects::objects_of;
+use crate::values::{address_of, counter_enabled, name_of, number};
 use cip_objects::{Config, CounterConfig};
 use std::alloc::Global;
 use toml::Table;
 
-/// A device as a configuration describes it: its objects, the address and port that it reports, its limits, and its
-/// command ledger if it has one.
+/// A device as a configuration describes it: its objects, the address and port that it reports, its limits, its
+/// command ledger if it has one, and the types of its own attributes.
 ///
 /// ```
 /// const DEVICE: &[u8] = b"vendor = 1
@@ -52,6 +55,8 @@ pub struct Configuration {
     pub first_id: u32,
     /// The command ledger before the objects, if there is one.
     pub ledger: Option<LedgerConfig>,
+    /// The types of the attributes of each own object, in the order of the file.
+    pub attribute_types: Vec<Vec<AttributeType>>,
 }
 
 impl Configuration {
@@ -61,7 +66,7 @@ impl Configuration {
     ///
     /// `LoadFault::Refused` with the first check that fails, in this order: `NotToml` (7); `UnknownKey` (9) if any key
     /// is unknown; `BadValue` (8) if a required key is missing, or a value has another type or is out of range; the
-    /// checks of the objects (1 to 5). `LoadFault::Memory` if memory is refused.
+    /// checks of the objects (1 to 5, 10 to 12). `LoadFault::Memory` if memory is refused.
     pub fn from_bytes(alloc: Global, bytes: &[u8]) -> Result<Configuration, LoadFault>
         ensures read { IfOk result (IsDescribed bytes.now) }
         ensures in_range { IfOk result IsInRange }
@@ -100,10 +105,12 @@ impl Configuration {
                 status: number(text, NumberKey::Status)?,
                 state: number(text, NumberKey::State)?,
                 counter: CounterConfig {
+                    enabled: counter_enabled(text)?,
                     value: number(text, NumberKey::CounterValue)?,
                     limit: number(text, NumberKey::CounterLimit)?,
                 },
                 assemblies: assemblies_of(alloc, text)?,
+                objects: objects_of(alloc, text)?,
             },
             address: address_of(text)?,
             port: number(text, NumberKey::Port)?,
@@ -112,6 +119,7 @@ impl Configuration {
             first_handle: number(text, NumberKey::FirstHandle)?,
             first_id: number(text, NumberKey::FirstId)?,
             ledger: ledger_of(text)?,
+            attribute_types: types_of(alloc, text)?,
         })
     }
 }

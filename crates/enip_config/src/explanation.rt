@@ -3,9 +3,11 @@
 ghost use Rattle.std.specs.Prelude.{◌≡◌, IfOk, IfSome};
 ghost use Rattle.enip_config.specs.Explained.{IsExplained, refusal_of};
 
+use crate::attribute_problems::AttributeProblem;
 use crate::configuration::Configuration;
 use crate::fault::{ConfigurationRefusal, LoadFault};
 use crate::object_problems::object_problem;
+use crate::own_problems::{ObjectProblem, ServiceProblem};
 use crate::text_problems::{no_toml, unknown_key};
 use crate::value_problems::bad_value;
 use std::alloc::{AllocError, Global};
@@ -59,8 +61,10 @@ pub(crate) enum Problem {
     Range(&'static str, i64, u64, u64),
     #[error("{0} is not {1}")]
     Type(&'static str, &'static str),
-    #[error("settable is neither true nor false")]
-    Settable,
+    #[error("{0} is neither true nor false")]
+    Flag(&'static str),
+    #[error("size and sizes exclude each other")]
+    BothSizes,
     #[error("name has {0} bytes (allowed: up to 32, each from 0x20 to 0x7e)")]
     Name(usize),
     #[error("there are {0} assemblies (allowed: up to 16)")]
@@ -77,13 +81,20 @@ pub(crate) enum Problem {
     Twice(u16),
     #[error("counter.value is {0}, but counter.limit is {1}")]
     Limit(u32, u32),
+    #[error("{0}")]
+    Object(ObjectProblem),
+    #[error("{0}")]
+    Attribute(AttributeProblem),
+    #[error("{0}")]
+    Service(ServiceProblem),
     /// The number of a check for which no other text was found.
     #[error("check {0} of the configuration fails")]
     Check(u8),
 }
 
-/// A location in a configuration: a key at the top level, a key of the table `counter` or `ledger`, one of the tables `assembly`,
-/// from 0, or a key of one.
+/// A location in a configuration: a key at the top level, a key of the table `counter` or `ledger`, one of the tables
+/// `assembly` or `object`, from 0, or a key of one. A part of an object is one of its tables `attribute` or `service`,
+/// from 0.
 #[derive(Clone, Copy)]
 pub(crate) enum Location<'a> {
     Text(&'a str),
@@ -91,6 +102,10 @@ pub(crate) enum Location<'a> {
     Ledger(&'a str),
     Assembly(usize),
     InAssembly(usize, &'a str),
+    Object(usize),
+    InObject(usize, &'a str),
+    Part(usize, &'a str, usize),
+    InPart(usize, &'a str, usize, &'a str),
 }
 
 impl Location<'_> {
@@ -98,27 +113,45 @@ impl Location<'_> {
     fn is_in(self, text: &Table) -> bool {
         match self {
             Location::Text(key) => text.get(key).is_some(),
-            Location::Counter(key) => text
-                .get("counter")
-                .is_some_and(|described| described.get(key).is_some()),
-            Location::Ledger(key) => text
-                .get("ledger")
-                .is_some_and(|described| described.get(key).is_some()),
-            Location::Assembly(place) => assembly_at(text, place).is_some(),
+            Location::Counter(key) => has_member(text.get("counter"), key),
+            Location::Ledger(key) => has_member(text.get("ledger"), key),
+            Location::Assembly(place) => item_at(text.get("assembly"), place).is_some(),
             Location::InAssembly(place, key) => {
-                assembly_at(text, place).is_some_and(|described| described.get(key).is_some())
+                has_member(item_at(text.get("assembly"), place), key)
+            }
+            Location::Object(place) => item_at(text.get("object"), place).is_some(),
+            Location::InObject(place, key) => has_member(item_at(text.get("object"), place), key),
+            Location::Part(place, name, index) => part_at(text, place, name, index).is_some(),
+            Location::InPart(place, name, index, key) => {
+                has_member(part_at(text, place, name, index), key)
             }
         }
     }
 }
 
-/// The table `assembly` with this index, from 0.
-pub(crate) fn assembly_at(text: &Table, place: usize) -> Option<&Value> {
-    match text.get("assembly") {
+/// Whether a value is a table with this key.
+fn has_member(value: Option<&Value>, key: &str) -> bool {
+    value.is_some_and(|described| described.get(key).is_some())
+}
+
+/// The value with this index, from 0, of an array, or the first of a value that is not an array.
+pub(crate) fn item_at(value: Option<&Value>, place: usize) -> Option<&Value> {
+    match value {
         Some(Value::Array(values)) => values.get(place),
         Some(value) if place == 0 => Some(value),
         _ => None,
     }
+}
+
+/// The table `attribute` or `service` with this index, from 0, of the object with an index.
+pub(crate) fn part_at<'a>(
+    text: &'a Table,
+    place: usize,
+    name: &str,
+    index: usize,
+) -> Option<&'a Value> {
+    let object = item_at(text.get("object"), place)?;
+    item_at(object.get(name), index)
 }
 
 /// What is wrong with the bytes of a configuration. `None` exactly if nothing is.

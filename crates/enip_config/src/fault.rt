@@ -26,6 +26,13 @@ pub enum ConfigurationRefusal {
     BadValue = 8,
     /// A key is unknown in its table, at any depth.
     UnknownKey = 9,
+    /// There are over 32 own objects, or one has a class, an instance number or a name that it cannot have.
+    Object = 10,
+    /// An own object has over 32 attributes, or one has a number, a type, a value or a range that it cannot have, or
+    /// all values together have over 16,384 bytes.
+    Attribute = 11,
+    /// An own object has over 16 services, or one has a number or sizes that it cannot have.
+    Service = 12,
 }
 
 impl ConfigurationRefusal {
@@ -81,6 +88,9 @@ impl From<ConfigFault> for LoadFault {
             ConfigFault::Members => LoadFault::Refused(ConfigurationRefusal::Members),
             ConfigFault::DoubleInstance => LoadFault::Refused(ConfigurationRefusal::DoubleInstance),
             ConfigFault::Limit => LoadFault::Refused(ConfigurationRefusal::Limit),
+            ConfigFault::Object => LoadFault::Refused(ConfigurationRefusal::Object),
+            ConfigFault::Attribute => LoadFault::Refused(ConfigurationRefusal::Attribute),
+            ConfigFault::Service => LoadFault::Refused(ConfigurationRefusal::Service),
             ConfigFault::Memory => LoadFault::Memory,
         }
     }

@@ -55,12 +55,44 @@ pub(crate) struct Row {
     pub(crate) default: Option<u64>,
 }
 
-/// The key `instance` of a table `assembly`.
+/// The key `instance` of a table `assembly` or `object`.
 pub(crate) const INSTANCE: Row = Row {
     name: "instance",
     least: 0,
     greatest: 0xffff,
     default: None,
+};
+
+/// The key `class` of a table `object`.
+pub(crate) const CLASS: Row = Row {
+    name: "class",
+    least: 0,
+    greatest: 0xffff,
+    default: None,
+};
+
+/// The key `number` of a table `object.attribute`.
+pub(crate) const ATTRIBUTE_NUMBER: Row = Row {
+    name: "number",
+    least: 0,
+    greatest: 0xffff,
+    default: None,
+};
+
+/// The key `number` of a table `object.service`.
+pub(crate) const SERVICE_NUMBER: Row = Row {
+    name: "number",
+    least: 0,
+    greatest: 0xff,
+    default: None,
+};
+
+/// The key `reply` of a table `object.service`.
+pub(crate) const REPLY: Row = Row {
+    name: "reply",
+    least: 0,
+    greatest: 0xffff,
+    default: Some(0),
 };
 
 /// The key `originators` of the table `ledger`.

@@ -7,8 +7,12 @@ ghost use Rattle.toml.specs.View.{view, table_view};
 ghost use Rattle.enip_config.specs.Keys.{row};
 ghost use Rattle.enip_config.specs.Known.{is_among, keys_of, has_key, has_unknown_key, is_unknown};
 ghost use Rattle.enip_config.specs.Known.{are_other_keys, has_other_keys, has_other_keys_within};
+ghost use Rattle.enip_config.specs.Known.{has_other_keys_in_objects, object_has_other_keys, are_other_object_keys};
+ghost use Rattle.enip_config.specs.Known.{is_unknown_in_object};
 
-use crate::key::{INSTANCE, LIFE, NumberKey, ORIGINATORS};
+use crate::key::{
+    ATTRIBUTE_NUMBER, CLASS, INSTANCE, LIFE, NumberKey, ORIGINATORS, REPLY, SERVICE_NUMBER,
+};
 use toml::{Table, Value};
 
 /// The kinds of tables in a configuration.
@@ -22,6 +26,12 @@ pub(crate) enum TableKind {
     Assembly,
     /// The table `ledger`.
     Ledger,
+    /// A table `object`, without the tables in it.
+    Object,
+    /// A table `object.attribute`.
+    Attribute,
+    /// A table `object.service`.
+    Service,
 }
 
 /// The keys at the top level whose values are numbers.
@@ -50,16 +60,35 @@ impl TableKind {
             TableKind::Text => is_number(&TEXT_NUMBERS, name)
                 || name == "name"
                 || name == "address",
-            TableKind::Counter => is_number(
-                &[NumberKey::CounterValue, NumberKey::CounterLimit],
-                name,
-            ),
+            TableKind::Counter => {
+                is_number(&[NumberKey::CounterValue, NumberKey::CounterLimit], name)
+                    || name == "enabled"
+            }
             TableKind::Assembly => INSTANCE.is_named(name)
                 || name == "settable"
                 || name == "members",
             TableKind::Ledger => ORIGINATORS.is_named(name) || LIFE.is_named(name),
+            TableKind::Object => CLASS.is_named(name) || INSTANCE.is_named(name) || name == "name",
+            TableKind::Attribute => is_attribute_key(name),
+            TableKind::Service => SERVICE_NUMBER.is_named(name)
+                || name == "size"
+                || name == "sizes"
+                || REPLY.is_named(name),
         }
     }
+}
+
+/// Whether a table `object.attribute` has a key of this name.
+fn is_attribute_key(name: &str) -> bool
+    ensures { result ≡ is_among (keys_of TableKind.Attribute) name.now }
+{
+    ATTRIBUTE_NUMBER.is_named(name)
+        || name == "type"
+        || name == "value"
+        || name == "settable"
+        || name == "checked"
+        || name == "min"
+        || name == "max"
 }
 
 /// Whether one of these keys has this name.
@@ -94,6 +123,7 @@ fn is_unknown(key: &str, value: &Value) -> bool
         "counter" => has_other_keys_within(value, TableKind::Counter),
         "assembly" => has_other_keys_within(value, TableKind::Assembly),
         "ledger" => has_other_keys_within(value, TableKind::Ledger),
+        "object" => has_other_keys_in_objects(value),
         name => !TableKind::Text.knows(name) || has_key(value),
     }
 }
@@ -140,6 +170,61 @@ fn are_other_keys(table: &Table, kind: TableKind) -> bool
         }
     }
     false
+}
+
+/// Whether the value of `object` has an unknown key, at any depth: in a table, or in the tables of an array.
+fn has_other_keys_in_objects(value: &Value) -> bool
+    ensures { result ≡ has_other_keys_in_objects (view value.now) }
+{
+    match value {
+        Value::Array(values) => any_object_has_other_keys(values.as_slice()),
+        _ => object_has_other_keys(value),
+    }
+}
+
+/// Whether one of these objects has an unknown key.
+fn any_object_has_other_keys(values: &[Value]) -> bool
+    ensures { result ≡ list_any (λ value. object_has_other_keys (view value)) values.now }
+{
+    for value in values {
+        if object_has_other_keys(value) {
+            return true;
+        }
+    }
+    false
+}
+
+/// Whether an object has an unknown key.
+fn object_has_other_keys(value: &Value) -> bool
+    ensures { result ≡ object_has_other_keys (view value.now) }
+{
+    match value {
+        Value::Table(table) => are_other_object_keys(table),
+        _ => has_key(value),
+    }
+}
+
+/// Whether a table `object` has an unknown key.
+fn are_other_object_keys(table: &Table) -> bool
+    ensures { result ≡ are_other_object_keys (table_view table.now) }
+{
+    for (key, value) in table.iter() {
+        if is_unknown_in_object(key.as_str(), value) {
+            return true;
+        }
+    }
+    false
+}
+
+/// Whether a key of a table `object` is unknown, or one within its value.
+fn is_unknown_in_object(key: &str, value: &Value) -> bool
+    ensures { result ≡ is_unknown_in_object key.now (view value.now) }
+{
+    match key {
+        "attribute" => has_other_keys_within(value, TableKind::Attribute),
+        "service" => has_other_keys_within(value, TableKind::Service),
+        name => !TableKind::Object.knows(name) || has_key(value),
+    }
 }
 
 /// Whether a value has a key within it, at any depth.

@@ -1,9 +1,11 @@
-//! The configuration of an EtherNet/IP device, as a TOML document: its identity, counter and assemblies, the address
-//! and port that it reports, its limits, and its command ledger.
+//! The configuration of an EtherNet/IP device, as a TOML document: its identity, counter and assemblies, its own
+//! objects, the address and port that it reports, its limits, and its command ledger.
 //!
 //! - [`Configuration::from_bytes`] reads a configuration, and refuses it by the first check that fails
 //!   (`specs/Documents.antt`). Each check has a number. Each key has a name, a range and, unless it is required, a
 //!   default (`specs/Keys.antt`). The objects accept every configuration that is read.
+//! - An own object has attributes and services (`specs/Objects.antt`). An [`AttributeType`] has a name, as `UINT[4]`,
+//!   and says how a value is read and which bytes it has (`specs/Types.antt`).
 //! - [`adapter_from`] makes the adapter of a configuration (`specs/Configured.antt`), [`adapter_in_life`] that of another
 //!   life of its ledger.
 //! - [`explain`] says what is wrong with a refused configuration, and in which line.
@@ -25,19 +27,28 @@
 
 mod adapter;
 mod assemblies;
+mod attribute_problems;
+mod attribute_type;
 mod configuration;
+mod elements;
 mod explanation;
 mod fault;
 mod key;
 mod known;
 mod ledger;
 mod object_problems;
+mod object_types;
+mod objects;
+mod own_problems;
+mod own_value_problems;
 mod text_problems;
+mod typed;
 mod value_problems;
 mod values;
 mod width;
 
 pub use adapter::{adapter_from, adapter_in_life};
+pub use attribute_type::AttributeType;
 pub use configuration::Configuration;
 pub use explanation::{Explanation, explain};
 pub use fault::{ConfigurationRefusal, LoadFault};

@@ -2,6 +2,7 @@
 
 use crate::configuration::Configuration;
 use crate::explanation::{Location, Problem};
+use crate::own_problems::own_problem;
 use cip_objects::{AssemblyConfig, Config, ConfigFault};
 use std::alloc::{AllocError, Global};
 use toml::Table;
@@ -25,8 +26,17 @@ pub(crate) fn object_problem(
             let problem = Problem::Limit(config.counter.value, config.counter.limit);
             Ok(Some((Location::Counter("value"), problem)))
         }
+        Some(check) if is_own(check) => own_problem(alloc, text, config, check),
         Some(check) => assembly_problem(config, check),
     }
+}
+
+/// Whether a check is about the own objects.
+fn is_own(check: ConfigFault) -> bool {
+    matches!(
+        check,
+        ConfigFault::Object | ConfigFault::Attribute | ConfigFault::Service
+    )
 }
 
 /// The first assembly at which a check fails: the check passes with only those before it.

@@ -32,6 +32,7 @@ pub(crate) fn unknown_key(
             "counter" => unknown_within(alloc, key, value, TableKind::Counter)?,
             "assembly" => unknown_within(alloc, key, value, TableKind::Assembly)?,
             "ledger" => unknown_within(alloc, key, value, TableKind::Ledger)?,
+            "object" => unknown_in_objects(alloc, value)?,
             _ => unknown_at(alloc, "", key, value, TableKind::Text)?.map(|problem| (
                 Location::Text(key),
                 problem,
@@ -70,6 +71,74 @@ fn unknown_within<'a>(
             }))
         }
     }
+}
+
+/// The same within the value of `object`: a table, or an array of them.
+fn unknown_in_objects(
+    alloc: Global,
+    value: &Value,
+) -> Result<Option<(Location<'_>, Problem)>, AllocError> {
+    let Value::Array(values) = value else {
+        return unknown_in_object(alloc, 0, value);
+    };
+    for (place, value) in values.iter().enumerate() {
+        let found = unknown_in_object(alloc, place, value)?;
+        if found.is_some() {
+            return Ok(found);
+        }
+    }
+    Ok(None)
+}
+
+/// The same in one table `object`.
+fn unknown_in_object(
+    alloc: Global,
+    place: usize,
+    value: &Value,
+) -> Result<Option<(Location<'_>, Problem)>, AllocError> {
+    let Value::Table(table) = value else {
+        return Ok(None);
+    };
+    for (key, value) in table.iter() {
+        let key = key.as_str();
+        let found = match key {
+            "attribute" => unknown_in_parts(alloc, place, key, value, TableKind::Attribute)?,
+            "service" => unknown_in_parts(alloc, place, key, value, TableKind::Service)?,
+            _ => unknown_at(alloc, "object", key, value, TableKind::Object)?.map(|problem| (
+                Location::InObject(place, key),
+                problem,
+            )),
+        };
+        if found.is_some() {
+            return Ok(found);
+        }
+    }
+    Ok(None)
+}
+
+/// The same within the value of `attribute` or `service` of an object: a table, or an array of them.
+fn unknown_in_parts<'a>(
+    alloc: Global,
+    place: usize,
+    name: &'a str,
+    value: &'a Value,
+    kind: TableKind,
+) -> Result<Option<(Location<'a>, Problem)>, AllocError> {
+    let dotted = match kind {
+        TableKind::Service => "object.service",
+        _ => "object.attribute",
+    };
+    let Value::Array(values) = value else {
+        let found = unknown_in(alloc, dotted, value, kind)?;
+        return Ok(found.map(|(key, problem)| (Location::InPart(place, name, 0, key), problem)));
+    };
+    for (index, value) in values.iter().enumerate() {
+        let found = unknown_in(alloc, dotted, value, kind)?;
+        if let Some((key, problem)) = found {
+            return Ok(Some((Location::InPart(place, name, index, key), problem)));
+        }
+    }
+    Ok(None)
 }
 
 /// The same in one table: the key, and what is wrong with it.

@@ -3,11 +3,12 @@
 use crate::explanation::{Location, Problem};
 use crate::key::{INSTANCE, LIFE, NumberKey, ORIGINATORS, Row};
 use crate::known::TEXT_NUMBERS;
+use crate::own_value_problems::bad_objects;
 use crate::values::number_in;
 use toml::{Table, Value};
 
-/// The first bad value, in this order: the numbers, the name, the address, the counter, the assemblies, the
-/// ledger.
+/// The first bad value, in this order: the numbers, the name, the address, the counter, the assemblies, the ledger, the
+/// own objects.
 pub(crate) fn bad_value(text: &Table) -> Option<(Location<'static>, Problem)> {
     for key in &TEXT_NUMBERS {
         let row = key.row();
@@ -27,11 +28,14 @@ pub(crate) fn bad_value(text: &Table) -> Option<(Location<'static>, Problem)> {
     if let Some(found) = bad_assemblies(text) {
         return Some(found);
     }
-    bad_ledger(text)
+    if let Some(found) = bad_ledger(text) {
+        return Some(found);
+    }
+    bad_objects(text)
 }
 
 /// What is wrong with the number of a key.
-fn bad_number(table: &Table, row: Row) -> Option<Problem> {
+pub(crate) fn bad_number(table: &Table, row: Row) -> Option<Problem> {
     match table.get(row.name) {
         None if row.default.is_some() => None,
         None => Some(Problem::Missing(row.name)),
@@ -40,7 +44,12 @@ fn bad_number(table: &Table, row: Row) -> Option<Problem> {
 }
 
 /// What is wrong with a number.
-fn out_of_range(name: &'static str, value: &Value, least: u64, greatest: u64) -> Option<Problem> {
+pub(crate) fn out_of_range(
+    name: &'static str,
+    value: &Value,
+    least: u64,
+    greatest: u64,
+) -> Option<Problem> {
     if number_in(value, least, greatest).is_ok() {
         return None;
     }
@@ -85,7 +94,16 @@ fn bad_counter(text: &Table) -> Option<(Location<'static>, Problem)> {
             return Some((Location::Counter(row.name), problem));
         }
     }
-    None
+    let problem = bad_flag(table, "enabled")?;
+    Some((Location::Counter("enabled"), problem))
+}
+
+/// What is wrong with a key that is true or false.
+pub(crate) fn bad_flag(table: &Table, name: &'static str) -> Option<Problem> {
+    match table.get(name) {
+        None | Some(Value::Boolean(_)) => None,
+        Some(_) => Some(Problem::Flag(name)),
+    }
 }
 
 fn bad_ledger(text: &Table) -> Option<(Location<'static>, Problem)> {
@@ -138,9 +156,8 @@ fn bad_assembly(table: &Table) -> Option<(&'static str, Problem)> {
     if let Some(problem) = bad_number(table, INSTANCE) {
         return Some((INSTANCE.name, problem));
     }
-    match table.get("settable") {
-        None | Some(Value::Boolean(_)) => {}
-        Some(_) => return Some(("settable", Problem::Settable)),
+    if let Some(problem) = bad_flag(table, "settable") {
+        return Some(("settable", problem));
     }
     let sizes = match table.get("members") {
         None => return Some(("members", Problem::Missing("members"))),

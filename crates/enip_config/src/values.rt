@@ -4,7 +4,7 @@ ghost use Rattle.std.specs.Prelude.{◌≡◌, ◌≤◌, IfOk, IfErr, IfSome, S
 ghost use Rattle.toml.specs.Data.{array, as_str, get_member};
 ghost use Rattle.toml.specs.View.{view, items_view, table_view};
 ghost use Rattle.enip_config.specs.Keys.{row, row_seen, number_by, number_of, table_with, counter_table, members_found};
-ghost use Rattle.enip_config.specs.Keys.{name_of};
+ghost use Rattle.enip_config.specs.Keys.{flag_of, counter_enabled, name_of};
 ghost use Rattle.enip_config.specs.Keys.{number_in, address_in, address_of};
 ghost use Rattle.enip_config.specs.Documents.{IsBad, IsUnread};
 
@@ -96,6 +96,28 @@ fn counter_table(text: &Table) -> Result<Option<&Table>, LoadFault>
     match value_of(text, "counter") {
         None => Ok(None),
         Some(value) => Ok(Some(value.as_table().ok_or(BAD_VALUE)?)),
+    }
+}
+
+/// Whether the key with this name is true in a table, or the default if it is left out.
+pub(crate) fn flag_of(table: &Table, name: &str, default: bool) -> Result<bool, LoadFault>
+    ensures read { IfOk result (λ flag. flag_of name.now default (table_view table.now) ≡ Some flag) }
+    ensures refused { IfErr result (IsBad (flag_of name.now default (table_view table.now))) }
+{
+    match value_of(table, name) {
+        None => Ok(default),
+        Some(value) => value.as_bool().ok_or(BAD_VALUE),
+    }
+}
+
+/// Whether the device has the counter. True if the table or the key is left out.
+pub(crate) fn counter_enabled(text: &Table) -> Result<bool, LoadFault>
+    ensures read { IfOk result (λ enabled. counter_enabled (table_view text.now) ≡ Some enabled) }
+    ensures refused { IfErr result (IsUnread (table_view text.now)) }
+{
+    match counter_table(text)? {
+        None => Ok(true),
+        Some(table) => flag_of(table, "enabled", true),
     }
 }
 

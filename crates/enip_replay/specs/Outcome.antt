@@ -9,7 +9,8 @@ use Rattle.cip_bytes.specs.declared.protocol.TheConstants.{COUNTER}
 use Rattle.cip_objects.specs.Contents.{Contents, bytes_at, udint_at}
 use Rattle.enip_bench.specs.Events.{Event, Submit, Resend, Reach, Back, Other, Write, Shut, GiveUp}
 use Rattle.enip_bench.specs.CountingWorld.{CountingWorld, counting_step}
-use Rattle.enip_bench.specs.EventResults.{event_result, EventResult, Sends, Refuses, Resends, Reaches, Accepts, Ignores, Impossible, Done}
+use Rattle.enip_bench.specs.EventResults.{event_result, EventResult, Sends, Refuses, Resends, Reaches, Accepts, Ignores}
+use Rattle.enip_bench.specs.EventResults.{Impossible, Done}
 use Rattle.enip_commands.specs.Lines.{with_newline}
 
 -- The line of an event, without the digits of a request.

@@ -123,4 +123,5 @@ IsStop adapter refused before after (stops.Program fault) = IsStopAt refused fau
 -- Why a replay of a script ends early.
 abbrev pub IsStopOf : AdapterState → List ℕ → Option (List ℕ) → Option (List ℕ) → ReplayFailure → Type 0
 IsStopOf adapter script before after =
-    IsStop adapter (λ number. OnceOpened adapter (λ opened. IsPlayedUpTo opened script before after number)) before after
+    IsStop adapter (λ number. OnceOpened adapter (λ opened. IsPlayedUpTo opened script before after number))
+    before after

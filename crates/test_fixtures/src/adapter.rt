@@ -74,10 +74,12 @@ pub fn config(alloc: Global) -> Result<Config, Fail> {
         status: 0,
         state: 3,
         counter: CounterConfig {
+            enabled: true,
             value: 0,
             limit: 100,
         },
         assemblies,
+        objects: Vec::new(alloc),
     })
 }
 

@@ -65,8 +65,13 @@ pub fn config(alloc: Global, limit: u32) -> Result<Config, Fail> {
         name: String::from_str(alloc, "Demo")?,
         status: 0,
         state: 3,
-        counter: CounterConfig { value: 0, limit },
+        counter: CounterConfig {
+            enabled: true,
+            value: 0,
+            limit,
+        },
         assemblies,
+        objects: Vec::new(alloc),
     })
 }
 

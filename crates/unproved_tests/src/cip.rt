@@ -1,6 +1,7 @@
 //! Tests of the crates from `cip_bytes` to `cip_manager`: results and lengths that no command prints, steps of a
 //! search, and very long runs.
 
+mod application_objects;
 mod bytes;
 mod class3_changed;
 mod class3_long;

@@ -20,10 +20,12 @@ pub fn objects(alloc: Global) -> Result<Objects, Fail> {
         status: 0,
         state: 3,
         counter: CounterConfig {
+            enabled: true,
             value: 0,
             limit: u32::MAX,
         },
         assemblies: Vec::new(alloc),
+        objects: Vec::new(alloc),
     };
     let objects = Objects::new(alloc, &config)
         .ok()

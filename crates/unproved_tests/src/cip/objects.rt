@@ -17,10 +17,12 @@ fn demo(alloc: Global) -> Result<Config, Fail> {
         status: 0,
         state: 3,
         counter: CounterConfig {
+            enabled: true,
             value: 0,
             limit: 100,
         },
         assemblies: Vec::new(alloc),
+        objects: Vec::new(alloc),
     })
 }
 

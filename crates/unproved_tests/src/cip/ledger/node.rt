@@ -89,10 +89,12 @@ pub fn objects(alloc: Global) -> Result<Objects, Fail> {
         status: 0,
         state: 3,
         counter: CounterConfig {
+            enabled: true,
             value: 0,
             limit: 100,
         },
         assemblies,
+        objects: Vec::new(alloc),
     };
     let objects = Objects::new(alloc, &config)
         .ok()

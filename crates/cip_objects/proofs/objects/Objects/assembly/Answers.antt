@@ -18,7 +18,7 @@ returns-clause-shape c =
     let m = c.args.self.now in
     let n = number_at m.shapes c.args.assembly_index in
     let f = first_at_place o m c.args.assembly_index c.self.view_is c.requires in
-    shape_at-contents o.identity (boxed_slice_items o.assemblies) (counter_values o.counter) m n c.self.view_is
+    shape_at-contents o.identity (boxed_slice_items o.assemblies) (counter_values o.counter) o.application m n c.self.view_is
     ∙ ap (option_map shape_of) (first_at (boxed_slice_items o.assemblies) n c.args.assembly_index c.index.result.now f)
     ∙ ap (λ b. Some (shape_of b)) (sym c.index.ensures)
 
@@ -31,5 +31,5 @@ returns-clause-content c =
     let numbered = c.self.invariant.numbered in
     let b = c.index.result.now in
     ap (λ x. x.content) c.index.ensures
-    ∙ sym (content_read o.identity (boxed_slice_items o.assemblies) (counter_values o.counter) m n c.args.assembly_index b
-    c.self.view_is numbered f)
+    ∙ sym (content_read o.identity (boxed_slice_items o.assemblies) (counter_values o.counter) o.application m n c.args.assembly_index b
+    c.self.view_is numbered c.self.invariant.free f)

@@ -14,8 +14,8 @@ returns-in_err-assembly_index-clause-changes c =
     let none : assembly_at i (boxed_slice_items o.assemblies) ≡ None =
     rw c.deref.ensures.value at c.in_err-assembly_index.ensures in
     c.from_residual.ensures
-    ∙ sym (changes_of-contents o.identity (boxed_slice_items o.assemblies) (counter_values o.counter) c.args.self.now i
-    c.self.view_is ∙ ap (option_map (λ b. b.changes)) none)
+    ∙ sym (changes_of-contents o.identity (boxed_slice_items o.assemblies) (counter_values o.counter) o.application c.args.self.now i
+    c.self.view_is c.self.invariant.free ∙ ap (option_map (λ b. b.changes)) none)
 
 pub returns-in_err-assembly_index-clause-there : goal.returns-in_err-assembly_index-clause-there
 returns-in_err-assembly_index-clause-there c =
@@ -24,7 +24,7 @@ returns-in_err-assembly_index-clause-there c =
     let none : assembly_at i (boxed_slice_items o.assemblies) ≡ None =
     rw c.deref.ensures.value at c.in_err-assembly_index.ensures in
     ap is_some c.from_residual.ensures
-    ∙ sym (ap is_some (shape_at-contents o.identity (boxed_slice_items o.assemblies) (counter_values o.counter)
+    ∙ sym (ap is_some (shape_at-contents o.identity (boxed_slice_items o.assemblies) (counter_values o.counter) o.application
     c.args.self.now i c.self.view_is ∙ ap (option_map shape_of) none))
 
 pub returns-clause-changes : goal.returns-clause-changes
@@ -35,7 +35,7 @@ returns-clause-changes c =
     let assembly_index = c.in_ok-assembly_index.assembly_index in
     let first : IsFirst (λ b. b.instance) bs i assembly_index = rw c.deref.ensures.value at c.in_ok-assembly_index.ensures in
     ap (λ n. Some n) (c.changes.ensures ∙ ap (λ b. b.changes) c.index.ensures)
-    ∙ sym (changes_of-contents o.identity bs (counter_values o.counter) c.args.self.now i c.self.view_is
+    ∙ sym (changes_of-contents o.identity bs (counter_values o.counter) o.application c.args.self.now i c.self.view_is c.self.invariant.free
     ∙ ap (option_map (λ b. b.changes)) (first_at bs i assembly_index c.index.result.now first))
 
 pub returns-clause-there : goal.returns-clause-there
@@ -45,5 +45,5 @@ returns-clause-there c =
     let i = c.args.instance in
     let assembly_index = c.in_ok-assembly_index.assembly_index in
     let first : IsFirst (λ b. b.instance) bs i assembly_index = rw c.deref.ensures.value at c.in_ok-assembly_index.ensures in
-    sym (ap is_some (shape_at-contents o.identity bs (counter_values o.counter) c.args.self.now i c.self.view_is
+    sym (ap is_some (shape_at-contents o.identity bs (counter_values o.counter) o.application c.args.self.now i c.self.view_is
     ∙ ap (option_map shape_of) (first_at bs i assembly_index c.index.result.now first)))

@@ -16,6 +16,7 @@ invariant_of-self c =
       few = old.few;
       numbered = numbered_counted bs c.args.assembly_index c.index_mut.result.now c.count_change.new.self old.numbered
           c.index_mut.ensures.value c.count_change.ensures;
+      free = old.free;
       value = old.value;
       limit = old.limit;
       additions = old.additions;
@@ -27,5 +28,5 @@ returns c =
     let m = c.args.self.now in
     let n = number_at m.shapes c.args.assembly_index in
     let f = first_at_place o m c.args.assembly_index c.self.view_is c.requires in
-    count_set o.identity (boxed_slice_items o.assemblies) (counter_values o.counter) m n c.args.assembly_index
+    count_set o.identity (boxed_slice_items o.assemblies) (counter_values o.counter) o.application m n c.args.assembly_index
     c.index_mut.result.now c.count_change.new.self c.self.view_is f c.index_mut.ensures.value c.count_change.ensures

@@ -46,5 +46,5 @@ returns-in_err-position-in-4-default-clause-resolves c =
     let e : services_of m.shapes class i ≡ None =
     services_missing o m class i c.self.view_is c.in-4-default.is-0 c.in-4-default.is-1.1 none in
     subst (λ r. MatchOption r (HasNoValue m class i) (Resolves m.shapes class i)) (sym c.from_residual.ensures)
-    (no_value o.identity (boxed_slice_items o.assemblies) (counter_values o.counter) m class i c.self.view_is
-    c.self.invariant.numbered e)
+    (no_value o.identity (boxed_slice_items o.assemblies) (counter_values o.counter) o.application m class i
+    c.self.view_is c.self.invariant.numbered c.self.invariant.free e)

@@ -10,6 +10,6 @@ pub returns : goal.returns
 returns c =
     let o = c.self.inside in
     let blocks = boxed_slice_items o.assemblies in
-    ap (λ d. contents_of d blocks (counter_values o.counter)) c.set_state.ensures
-    ∙ state_written o.identity blocks (counter_values o.counter) c.args.state
+    ap (λ d. contents_of d blocks (counter_values o.counter) o.application) c.set_state.ensures
+    ∙ state_written o.identity blocks (counter_values o.counter) o.application c.args.state
     ∙ ap (λ m. with_device_state m c.args.state) c.self.view_is

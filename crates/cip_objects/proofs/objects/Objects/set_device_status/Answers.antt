@@ -10,6 +10,6 @@ pub returns : goal.returns
 returns c =
     let o = c.self.inside in
     let blocks = boxed_slice_items o.assemblies in
-    ap (λ d. contents_of d blocks (counter_values o.counter)) c.set_status.ensures
-    ∙ status_written o.identity blocks (counter_values o.counter) c.args.status
+    ap (λ d. contents_of d blocks (counter_values o.counter) o.application) c.set_status.ensures
+    ∙ status_written o.identity blocks (counter_values o.counter) o.application c.args.status
     ∙ ap (λ m. with_device_status m c.args.status) c.self.view_is

@@ -5,11 +5,13 @@ use Rattle.cip_objects.specs.Contents.{with_value}
 use Rattle.cip_objects.specs.Counter.{counter_values}
 use Rattle.cip_bytes.specs.declared.protocol.TheConstants.{COUNTER}
 use Rattle.cip_objects.proofs.Writes.{value_written}
+use Rattle.cip_objects.proofs.Numbers.{enabled}
 use Rattle.cip_objects.proofs.objects.Objects.set_value.Goals as goal
 
 pub returns : goal.returns
 returns c =
     let o = c.self.inside in
     let blocks = boxed_slice_items o.assemblies in
-    value_written o.identity blocks (counter_values o.counter) c.args.value
+    value_written o.identity blocks (counter_values o.counter) o.application c.args.value
+    (enabled o.identity blocks (counter_values o.counter) o.application c.args.self.now c.self.view_is c.requires)
     ∙ ap (λ m. with_value m COUNTER 1 1 (little_bytes 4 c.args.value)) c.self.view_is

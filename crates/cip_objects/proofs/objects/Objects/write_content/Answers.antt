@@ -16,8 +16,8 @@ write-requires c =
     let f = first_at_place o m c.args.assembly_index c.self.view_is c.requires.there in
     let b = c.index_mut.result.now in
     let numbered = c.self.invariant.numbered in
-    let e = content_read o.identity (boxed_slice_items o.assemblies) (counter_values o.counter) m n c.args.assembly_index b
-    c.self.view_is numbered f in
+    let e = content_read o.identity (boxed_slice_items o.assemblies) (counter_values o.counter) o.application m n c.args.assembly_index b
+    c.self.view_is numbered c.self.invariant.free f in
     rw (c.index_mut.ensures.value, ← e) c.requires.inside
 
 pub invariant_of-self : goal.invariant_of-self
@@ -28,6 +28,7 @@ invariant_of-self c =
       few = old.few;
       numbered = numbered_set bs c.args.assembly_index c.index_mut.result.now c.write.new.self _ old.numbered
           c.index_mut.ensures.value c.write.ensures;
+      free = old.free;
       value = old.value;
       limit = old.limit;
       additions = old.additions;
@@ -39,6 +40,6 @@ returns c =
     let m = c.args.self.now in
     let n = number_at m.shapes c.args.assembly_index in
     let f = first_at_place o m c.args.assembly_index c.self.view_is c.requires.there in
-    content_set o.identity (boxed_slice_items o.assemblies) (counter_values o.counter) m n c.args.assembly_index
-    c.index_mut.result.now c.write.new.self c.args.offset c.args.bytes.now c.self.view_is c.self.invariant.numbered f
+    content_set o.identity (boxed_slice_items o.assemblies) (counter_values o.counter) o.application m n c.args.assembly_index
+    c.index_mut.result.now c.write.new.self c.args.offset c.args.bytes.now c.self.view_is c.self.invariant.numbered c.self.invariant.free f
     c.index_mut.ensures.value c.write.ensures

@@ -1,0 +1,10 @@
+use Rattle.std.proofs.Common.{◌≡◌, ◌++◌, drop, map, option_map}
+use Rattle.toml.specs.View.{items_view}
+use Rattle.enip_config.specs.Keys.{each}
+use Rattle.enip_config.specs.Objects.{service_in, service_seen}
+use Rattle.enip_config.proofs.objects.each_service.Given as goal
+
+abbrev pub invariant-loop-value : goal.invariant-loop-value
+invariant-loop-value l =
+    option_map (λ rest. map service_seen l.services.items ++ rest) (each service_in (items_view (drop l.value-index l.values)))
+    ≡ each service_in (items_view l.values)

@@ -1,0 +1,187 @@
+//! What is wrong with the own objects of a configuration whose keys each have a value of their type.
+
+use crate::attribute_problems::{AttributeProblem, attribute_problem};
+use crate::explanation::{Location, Problem};
+use cip_application::{ObjectConfig, ServiceConfig};
+use cip_objects::{Config, ConfigFault};
+use std::alloc::{AllocError, Global};
+use thiserror::Error;
+use toml::Table;
+
+/// What is wrong with an object: its class, its instance, its name, or how many objects there are.
+#[derive(Debug, Drop, Error)]
+pub(crate) enum ObjectProblem {
+    #[error("class is 0 (allowed: 1 to 65535)")]
+    NoClass,
+    #[error("class {0} is one of the adapter's own")]
+    TakenClass(u16),
+    #[error("an object has instance 0, which is the class itself")]
+    NoInstance,
+    #[error("name has {0} bytes (allowed: 1 to 32, each from 0x20 to 0x7e)")]
+    Name(usize),
+    #[error("instance {1} of class {0} is defined twice")]
+    Twice(u16, u16),
+    #[error("there are {0} objects (allowed: up to 32)")]
+    Count(usize),
+}
+
+/// What is wrong with a service, or how many services an object has.
+#[derive(Debug, Drop, Error)]
+pub(crate) enum ServiceProblem {
+    #[error("number is {0} (allowed: 50 to 99)")]
+    Number(u8),
+    #[error("service {0} is defined twice")]
+    Twice(u8),
+    #[error("sizes are from {0} to {1}")]
+    Falling(u16, u16),
+    #[error("{0} is {1} (allowed: 0 to 480)")]
+    Size(&'static str, u16),
+    #[error("there are {0} services (allowed: up to 16)")]
+    Count(usize),
+}
+
+/// What is wrong with the first object at which a check fails: it passes with only the objects before it.
+pub(crate) fn own_problem(
+    alloc: Global,
+    text: &Table,
+    config: Config,
+    check: ConfigFault,
+) -> Result<Option<(Location<'static>, Problem)>, AllocError> {
+    let mut config = config;
+    let count = config.objects.len();
+    for _ in 0..count {
+        let Some(last) = config.objects.pop() else {
+            break;
+        };
+        if config.fault() != Some(check) {
+            let place = config.objects.len();
+            return match check {
+                ConfigFault::Object => object_problem(config, last, count),
+                ConfigFault::Attribute => attributes_problem(alloc, text, place, &last),
+                _ => Ok(service_problem(place, &last)),
+            };
+        }
+    }
+    Ok(None)
+}
+
+/// What is wrong with an object that is not allowed after those before it.
+fn object_problem(
+    before: Config,
+    object: ObjectConfig,
+    count: usize,
+) -> Result<Option<(Location<'static>, Problem)>, AllocError> {
+    let mut before = before;
+    let place = before.objects.len();
+    let (class, instance) = (object.class, object.instance);
+    let is_twice = before
+        .objects
+        .iter()
+        .any(|other| other.class == class && other.instance == instance);
+    let name = match &object.name {
+        Some(name) if is_bad_name(name.as_bytes()) => Some(name.len()),
+        _ => None,
+    };
+    before.objects.clear();
+    before.objects.push(object)?;
+    let is_bad_alone = before.fault() == Some(ConfigFault::Object);
+    let (key, problem) = match (class, instance, name) {
+        (0, _, _) => ("class", ObjectProblem::NoClass),
+        (_, 0, _) => ("instance", ObjectProblem::NoInstance),
+        (_, _, Some(size)) => ("name", ObjectProblem::Name(size)),
+        _ if is_bad_alone => ("class", ObjectProblem::TakenClass(class)),
+        _ if is_twice => ("instance", ObjectProblem::Twice(class, instance)),
+        _ => ("class", ObjectProblem::Count(count)),
+    };
+    Ok(Some((Location::InObject(place, key), Problem::Object(problem))))
+}
+
+/// Whether a name is empty, too long, or not printable.
+fn is_bad_name(name: &[u8]) -> bool {
+    name.is_empty() || name.len() > 32 || name.iter().any(|byte| *byte < 0x20 || *byte > 0x7e)
+}
+
+/// What is wrong with the attributes of an object.
+fn attributes_problem(
+    alloc: Global,
+    text: &Table,
+    place: usize,
+    object: &ObjectConfig,
+) -> Result<Option<(Location<'static>, Problem)>, AllocError> {
+    let attributes = object.attributes.as_slice();
+    if attributes.len() > 32 {
+        let problem = AttributeProblem::Count(attributes.len());
+        return Ok(Some((
+            Location::InObject(place, "attribute"),
+            Problem::Attribute(problem),
+        )));
+    }
+    for (index, attribute) in attributes.iter().enumerate() {
+        let is_twice = attributes[..index]
+            .iter()
+            .any(|other| other.number == attribute.number);
+        let found = if is_twice {
+            Some(("number", AttributeProblem::Twice(attribute.number)))
+        } else {
+            attribute_problem(alloc, text, (place, index), attribute)?
+        };
+        if let Some((key, problem)) = found {
+            return Ok(Some((
+                Location::InPart(place, "attribute", index, key),
+                Problem::Attribute(problem),
+            )));
+        }
+    }
+    Ok(Some((
+        Location::InObject(place, "attribute"),
+        Problem::Attribute(AttributeProblem::Total),
+    )))
+}
+
+/// What is wrong with the services of an object.
+fn service_problem(place: usize, object: &ObjectConfig) -> Option<(Location<'static>, Problem)> {
+    let services = object.services.as_slice();
+    if services.len() > 16 {
+        let problem = ServiceProblem::Count(services.len());
+        return Some((
+            Location::InObject(place, "service"),
+            Problem::Service(problem),
+        ));
+    }
+    for (index, service) in services.iter().enumerate() {
+        let is_twice = services[..index]
+            .iter()
+            .any(|other| other.number == service.number);
+        let found = if is_twice {
+            Some(("number", ServiceProblem::Twice(service.number)))
+        } else {
+            one_service_problem(service)
+        };
+        if let Some((key, problem)) = found {
+            return Some((
+                Location::InPart(place, "service", index, key),
+                Problem::Service(problem),
+            ));
+        }
+    }
+    None
+}
+
+/// What is wrong with a service alone, and at which key.
+fn one_service_problem(service: &ServiceConfig) -> Option<(&'static str, ServiceProblem)> {
+    let (least, most) = (service.least, service.most);
+    if service.number < 50 || service.number > 99 {
+        return Some(("number", ServiceProblem::Number(service.number)));
+    }
+    if most < least {
+        return Some(("sizes", ServiceProblem::Falling(least, most)));
+    }
+    if most > 480 {
+        let key = if least == most { "size" } else { "sizes" };
+        return Some((key, ServiceProblem::Size("size", most)));
+    }
+    if service.reply > 480 {
+        return Some(("reply", ServiceProblem::Size("reply", service.reply)));
+    }
+    None
+}
