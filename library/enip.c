@@ -1,6 +1,7 @@
 /*
  * The layer between C and the proved calls of crates/enip_c. It refuses what a C caller can get wrong (NULL pointers,
- * foreign handles, empty or overlapping ranges) and passes everything else on. It decides nothing else.
+ * foreign handles, empty or overlapping ranges), calls the owner of a device, and passes everything else on. It decides
+ * nothing else.
  */
 #include "enip.h"
 
@@ -12,18 +13,22 @@ struct kept {
     void *at;
 };
 
-enum { REFUSAL_LENGTH = 511 };
+enum { REFUSAL_LENGTH = 511, ASKED_DATA = 500 };
 
 #define ADAPTER_MARK UINT64_C(0x656e69702d616461)
 #define ENDINGS_MARK UINT64_C(0x656e69702d656e64)
 #define CLIENT_MARK UINT64_C(0x656e69702d636c69)
 #define ONCE_MARK UINT64_C(0x656e69702d6f6e63)
 
-/* The mark lies behind the bytes that an allocator overwrites in a freed block. */
+/*
+ * The mark lies behind the bytes that an allocator overwrites in a freed block. While the owner is asked, the calls
+ * that could change what is asked are misuse.
+ */
 struct enip_adapter {
     struct kept kept;
     uint64_t spare[2];
     uint64_t mark;
+    int is_asking;
 };
 
 struct enip_endings {
@@ -44,11 +49,23 @@ struct enip_once {
     uint64_t mark;
 };
 
+/* What the proved calls return of a request to the owner, apart from its data. */
+struct asked {
+    size_t length;
+    uint32_t instance;
+    uint16_t class_code, attribute, reply_limit;
+    uint8_t service, has_attribute;
+};
+
 uint32_t enip_core_adapter_new(struct kept *, const uint8_t *, size_t, uint32_t *);
 void enip_core_adapter_free(struct kept *);
 uint32_t enip_core_adapter_begin(struct kept *, uint32_t *);
 uint32_t enip_core_adapter_feed(struct kept *, uint64_t, uint32_t, const uint8_t *, size_t, uint8_t *, size_t,
                                 enip_fed *);
+uint32_t enip_core_adapter_asked(struct kept *, uint64_t, uint32_t, const uint8_t *, size_t, uint8_t *, size_t,
+                                 struct asked *);
+uint32_t enip_core_adapter_feed_prepared(struct kept *, uint64_t, uint32_t, const uint8_t *, size_t, uint8_t,
+                                         const uint8_t *, size_t, uint16_t, uint8_t *, size_t, enip_fed *);
 void enip_core_adapter_tick(struct kept *, uint64_t);
 void enip_core_adapter_end(struct kept *, uint32_t);
 uint32_t enip_core_adapter_deadline(struct kept *, uint64_t *);
@@ -56,7 +73,10 @@ uint32_t enip_core_adapter_read(struct kept *, uint16_t, uint32_t, uint16_t, uin
 uint32_t enip_core_adapter_discover(struct kept *, const uint8_t *, size_t, uint8_t *, size_t, size_t *);
 void enip_core_adapter_places(struct kept *, uint16_t *, uint16_t *);
 uint32_t enip_core_adapter_write(struct kept *, uint32_t, size_t, const uint8_t *, size_t);
+uint32_t enip_core_adapter_write_attribute(struct kept *, uint16_t, uint32_t, uint16_t, size_t, const uint8_t *,
+                                           size_t);
 uint32_t enip_core_adapter_changes(struct kept *, uint32_t, uint32_t *);
+uint32_t enip_core_adapter_attribute_changes(struct kept *, uint16_t, uint32_t, uint16_t, uint32_t *);
 void enip_core_adapter_set_status(struct kept *, uint16_t);
 void enip_core_adapter_set_state(struct kept *, uint8_t);
 uint32_t enip_core_endings_new(struct kept *);
@@ -97,6 +117,11 @@ static inline int are_apart(const void *a, size_t a_size, const void *b, size_t 
 
 static int is_adapter(const enip_adapter *adapter) {
     return adapter != NULL && adapter->mark == ADAPTER_MARK;
+}
+
+/* Whether a call may change an adapter's peers, connections or time. */
+static int is_free_adapter(const enip_adapter *adapter) {
+    return is_adapter(adapter) && !adapter->is_asking;
 }
 
 static int is_endings(const enip_endings *endings) {
@@ -170,6 +195,7 @@ int enip_adapter_new(const char *text, size_t length, enip_adapter **adapter, en
         return (int)status;
     }
     made->mark = ADAPTER_MARK;
+    made->is_asking = 0;
     *adapter = made;
     return ENIP_OK;
 }
@@ -177,7 +203,7 @@ int enip_adapter_new(const char *text, size_t length, enip_adapter **adapter, en
 int enip_adapter_free(enip_adapter *adapter) {
     if (adapter == NULL)
         return ENIP_OK;
-    if (!is_adapter(adapter))
+    if (!is_free_adapter(adapter))
         return ENIP_MISUSE;
     enip_core_adapter_free(&adapter->kept);
     *(volatile uint64_t *)&adapter->mark = 0;
@@ -186,20 +212,63 @@ int enip_adapter_free(enip_adapter *adapter) {
 }
 
 int enip_adapter_begin(enip_adapter *adapter, uint32_t *peer) {
-    if (!is_adapter(adapter) || peer == NULL)
+    if (!is_free_adapter(adapter) || peer == NULL)
         return ENIP_MISUSE;
     return (int)enip_core_adapter_begin(&adapter->kept, peer);
 }
 
 int enip_adapter_feed(enip_adapter *adapter, uint64_t now, uint32_t peer, const void *bytes, size_t length,
                       void *buffer, size_t size, enip_fed *fed) {
-    if (!is_adapter(adapter) || !is_call(bytes, length, buffer, size, fed, sizeof *fed))
+    if (!is_free_adapter(adapter) || !is_call(bytes, length, buffer, size, fed, sizeof *fed))
         return ENIP_MISUSE;
     return (int)enip_core_adapter_feed(&adapter->kept, now, peer, bytes, length, buffer, size, fed);
 }
 
+/*
+ * Calls the owner. A reply that is longer than its data is misuse; enip_core_adapter_feed_prepared refuses all others
+ * that cannot be given.
+ */
+static int ask_owner(enip_adapter *adapter, int (*owner)(void *, const enip_asked *, enip_reply *), void *context,
+                     const struct asked *got, const uint8_t *data, enip_reply *reply) {
+    enip_asked asked = {data, got->length, got->reply_limit, got->instance, got->class_code, got->attribute,
+                        got->has_attribute, got->service};
+    int answer;
+    memset(reply, 0, sizeof *reply);
+    adapter->is_asking = 1;
+    answer = owner(context, &asked, reply);
+    adapter->is_asking = 0;
+    if (answer != 0)
+        return ENIP_STATE;
+    return reply->length <= sizeof reply->data ? ENIP_OK : ENIP_MISUSE;
+}
+
+int enip_adapter_serve(enip_adapter *adapter, uint64_t now, uint32_t peer, const void *bytes, size_t length,
+                       void *buffer, size_t size,
+                       int (*owner)(void *context, const enip_asked *asked, enip_reply *reply), void *context,
+                       enip_fed *fed) {
+    uint8_t data[ASKED_DATA];
+    struct asked asked;
+    enip_reply reply;
+    uint32_t status;
+    if (!is_free_adapter(adapter) || !is_call(bytes, length, buffer, size, fed, sizeof *fed))
+        return ENIP_MISUSE;
+    if (owner == NULL)
+        return (int)enip_core_adapter_feed(&adapter->kept, now, peer, bytes, length, buffer, size, fed);
+    if (size < ENIP_ANSWER_ROOM)
+        return ENIP_ROOM;
+    status = enip_core_adapter_asked(&adapter->kept, now, peer, bytes, length, data, sizeof data, &asked);
+    if (status == ENIP_ABSENT)
+        return (int)enip_core_adapter_feed(&adapter->kept, now, peer, bytes, length, buffer, size, fed);
+    if (status == ENIP_OK)
+        status = (uint32_t)ask_owner(adapter, owner, context, &asked, data, &reply);
+    if (status != ENIP_OK)
+        return (int)status;
+    return (int)enip_core_adapter_feed_prepared(&adapter->kept, now, peer, bytes, length, reply.status, reply.data,
+                                                reply.length, asked.reply_limit, buffer, size, fed);
+}
+
 int enip_adapter_tick(enip_adapter *adapter, uint64_t now) {
-    if (!is_adapter(adapter))
+    if (!is_free_adapter(adapter))
         return ENIP_MISUSE;
     enip_core_adapter_tick(&adapter->kept, now);
     return ENIP_OK;
@@ -212,7 +281,7 @@ int enip_adapter_deadline(const enip_adapter *adapter, uint64_t *deadline) {
 }
 
 int enip_adapter_end(enip_adapter *adapter, uint32_t peer) {
-    if (!is_adapter(adapter))
+    if (!is_free_adapter(adapter))
         return ENIP_MISUSE;
     enip_core_adapter_end(&adapter->kept, peer);
     return ENIP_OK;
@@ -249,10 +318,26 @@ int enip_adapter_write(enip_adapter *adapter, uint32_t instance, size_t offset, 
     return (int)enip_core_adapter_write(&adapter->kept, instance, offset, bytes, length);
 }
 
+int enip_adapter_write_attribute(enip_adapter *adapter, uint16_t class_code, uint32_t instance, uint16_t attribute,
+                                 size_t offset, const void *bytes, size_t length) {
+    if (!is_adapter(adapter) || !is_range(bytes, length) || offset > (size_t)PTRDIFF_MAX)
+        return ENIP_MISUSE;
+    return (int)enip_core_adapter_write_attribute(&adapter->kept, class_code, instance, attribute, offset, bytes,
+                                                  length);
+}
+
 int enip_adapter_changes(const enip_adapter *adapter, uint32_t instance, uint32_t *changes) {
     if (!is_adapter(adapter) || changes == NULL)
         return ENIP_MISUSE;
     return (int)enip_core_adapter_changes(kept_to_read(&adapter->kept), instance, changes);
+}
+
+int enip_adapter_attribute_changes(const enip_adapter *adapter, uint16_t class_code, uint32_t instance,
+                                   uint16_t attribute, uint32_t *changes) {
+    if (!is_adapter(adapter) || changes == NULL)
+        return ENIP_MISUSE;
+    return (int)enip_core_adapter_attribute_changes(kept_to_read(&adapter->kept), class_code, instance, attribute,
+                                                    changes);
 }
 
 int enip_adapter_set_status(enip_adapter *adapter, uint16_t status) {

@@ -39,6 +39,20 @@ public:
         answer = std::string_view(reinterpret_cast<const char *>(buffer_), fed.answer);
         return fed;
     }
+    // The same with the owner of the device, who executes the requests to it: owner(asked, reply) returns 0 if it has
+    // replied. If it has not, or the reply cannot be given, nothing is taken, and the peer is to be closed.
+    template <class Owner>
+    enip_fed serve(std::uint64_t now, std::uint32_t peer, std::string_view piece, Owner &owner) noexcept {
+        enip_fed fed = {0, 0, 0, 1};
+        enip_adapter_serve(
+            made_, now, peer, piece.data(), piece.size(), buffer_, sizeof buffer_,
+            [](void *context, const enip_asked *asked, enip_reply *reply) noexcept -> int {
+                return (*static_cast<Owner *>(context))(*asked, *reply);
+            },
+            &owner, &fed);
+        answer = std::string_view(reinterpret_cast<const char *>(buffer_), fed.answer);
+        return fed;
+    }
     void end(std::uint32_t peer) noexcept { enip_adapter_end(made_, peer); }
 
     std::string_view answer;

@@ -64,7 +64,10 @@ enum {
     ENIP_NUMBERS = 19       /* no command number is left for this originator */
 };
 
-/* The smallest buffer for the answer of enip_adapter_feed, in bytes. Any answer of enip_adapter_discover fits in it. */
+/*
+ * The smallest buffer for the answer of enip_adapter_feed and enip_adapter_serve, in bytes. Any answer of
+ * enip_adapter_discover fits in it.
+ */
 #define ENIP_ANSWER_ROOM 4046
 
 /* The smallest buffer for a frame of the client, in bytes. */
@@ -135,7 +138,7 @@ enum {
     ENIP_NO_REPLY_NOT_SERVED = 9     /* the peer is closed or unknown */
 };
 
-/* The result of enip_adapter_feed. */
+/* The result of enip_adapter_feed and enip_adapter_serve. */
 typedef struct enip_fed {
     size_t taken;      /* the number of bytes taken from the front of the piece */
     size_t answer;     /* the number of bytes in the buffer to send to the peer; 0 if there is no answer */
@@ -166,11 +169,52 @@ ENIP_API int enip_adapter_begin(enip_adapter *adapter, uint32_t *peer);
  * connections whose deadline is at or before it end first. The call then takes the bytes up to the end of one frame,
  * executes the frame, and writes its answer, if any, to buffer, whose size is at least ENIP_ANSWER_ROOM. Pass the rest
  * of the piece in the next call. Each call takes at least one byte, unless fed->close is 1. For a peer that is closed,
- * ended or unknown the call takes nothing, and fed->close is 1.
+ * ended or unknown the call takes nothing, and fed->close is 1. A request to the owner of the device (see
+ * enip_adapter_serve) is answered 0x10, "device state conflict", and changes nothing.
  * ENIP_OK, ENIP_ROOM, ENIP_MISUSE.
  */
 ENIP_API int enip_adapter_feed(enip_adapter *adapter, uint64_t now, uint32_t peer, const void *bytes, size_t length,
                                void *buffer, size_t size, enip_fed *fed);
+
+/* A request to the owner of the device: an own service of one of its objects, or the set of a checked attribute. */
+typedef struct enip_asked {
+    const uint8_t *data;    /* the data of the service, or the value to set; valid until the owner returns */
+    size_t length;          /* the number of bytes of data, 0 to 500 */
+    size_t reply_limit;     /* the most bytes of the reply's data, 0 to 480; 0 for a set */
+    uint32_t instance;      /* the object's instance */
+    uint16_t class_code;    /* the object's class */
+    uint16_t attribute;     /* the attribute that the path names, 0 if it names none. A set names one */
+    uint8_t has_attribute;  /* 1 if the path names an attribute, otherwise 0 */
+    uint8_t service;        /* 0x32 to 0x63; 0x10 for a set */
+} enip_asked;
+
+/* The owner's reply. */
+typedef struct enip_reply {
+    size_t length;     /* the number of bytes of data, 0 to asked->reply_limit */
+    uint8_t status;    /* the general status: 0 is success. Not 0x11 */
+    uint8_t data[480]; /* the data */
+} enip_reply;
+
+/*
+ * Does what enip_adapter_feed does, and lets the owner of the device execute the requests to it. If the frame that the
+ * piece completes is one, calls owner(context, &asked, &reply) once, then executes the frame with that reply. A set is
+ * stored if the reply's status is 0. The owner is called once for each delivered request: neither for a repeat of a
+ * request on its connection, nor for a command that the ledger has executed, nor for a request that is refused before
+ * (such as data of a wrong size, or a reply that might not fit the connection: 0x11).
+ * The reply is {0, 0, {0}} when the owner is called: success without data. owner may be NULL, then nobody is asked, as
+ * in enip_adapter_feed; context may be NULL.
+ * While the owner is called, it may pass the same adapter to enip_endings_update and to the calls that read and write:
+ * _deadline, _read, _discover, _places, _write, _write_attribute, _changes, _attribute_changes, _set_status and
+ * _set_state. Any other call with it returns ENIP_MISUSE and changes nothing.
+ * ENIP_OK; ENIP_STATE if the owner returned another value than 0; ENIP_MISUSE, also if the reply cannot be given: its
+ * length is over asked->reply_limit, or its status is 0x11; ENIP_ROOM. If the owner was called and the status is not
+ * ENIP_OK, the time is set and what the owner did is done, but no byte is taken: end the peer, as the same piece would
+ * ask again.
+ */
+ENIP_API int enip_adapter_serve(enip_adapter *adapter, uint64_t now, uint32_t peer, const void *bytes, size_t length,
+                                void *buffer, size_t size,
+                                int (*owner)(void *context, const enip_asked *asked, enip_reply *reply), void *context,
+                                enip_fed *fed);
 
 /* Sets the time: connections whose deadline is at or before the greatest time so far end. ENIP_OK, ENIP_MISUSE. */
 ENIP_API int enip_adapter_tick(enip_adapter *adapter, uint64_t now);
@@ -217,11 +261,28 @@ ENIP_API int enip_adapter_write(enip_adapter *adapter, uint32_t instance, size_t
                                 size_t length);
 
 /*
+ * Writes length bytes, 1 or more, to an attribute of an own object, or to the data of an assembly (class 4, attribute
+ * 3), from offset on, whether peers may set it or not. A SHORT_STRING is written as a whole, from offset 0. A checked
+ * attribute is written too, and its range does not count. Peers read the bytes from now on.
+ * ENIP_OK; ENIP_ABSENT if there is no such attribute, or its value cannot hold the bytes; ENIP_MISUSE.
+ */
+ENIP_API int enip_adapter_write_attribute(enip_adapter *adapter, uint16_t class_code, uint32_t instance,
+                                          uint16_t attribute, size_t offset, const void *bytes, size_t length);
+
+/*
  * Gives the number of times that peers have written data of an assembly, from 0 on, modulo 2^32. Each request that
  * was executed and wrote data counts once. A refused request, a repeat and enip_adapter_write do not count.
  * ENIP_OK; ENIP_ABSENT if there is no such assembly; ENIP_MISUSE.
  */
 ENIP_API int enip_adapter_changes(const enip_adapter *adapter, uint32_t instance, uint32_t *changes);
+
+/*
+ * Does the same for an attribute of an own object, or the data of an assembly (class 4, attribute 3). The set of a
+ * checked attribute counts if the owner accepted it.
+ * ENIP_OK; ENIP_ABSENT if there is no such attribute; ENIP_MISUSE.
+ */
+ENIP_API int enip_adapter_attribute_changes(const enip_adapter *adapter, uint16_t class_code, uint32_t instance,
+                                            uint16_t attribute, uint32_t *changes);
 
 /* Sets the device's status (Identity, attribute 5). ENIP_OK, ENIP_MISUSE. */
 ENIP_API int enip_adapter_set_status(enip_adapter *adapter, uint16_t status);
@@ -258,9 +319,9 @@ ENIP_API int enip_endings_free(enip_endings *endings);
 
 /*
  * Compares the open connections of the adapter with those of the last update, and lists each that has ended since for
- * enip_endings_at, until the next update. Always pass the same adapter. Update after each enip_adapter_feed, _tick and
- * _end. If you update less often, the list may give a later reason, and misses a connection that was opened and
- * ended between two updates.
+ * enip_endings_at, until the next update. Always pass the same adapter. Update after each enip_adapter_feed, _serve,
+ * _tick and _end. If you update less often, the list may give a later reason, and misses a connection that was opened
+ * and ended between two updates.
  * ENIP_OK, ENIP_MISUSE.
  */
 ENIP_API int enip_endings_update(enip_endings *endings, const enip_adapter *adapter);

@@ -39,7 +39,7 @@ static void is(const char *what, const char *how, int holds) {
 
 #define WORD(it) ((uint64_t)(uintptr_t)(it))
 
-enum { MOST_WORDS = 9, NOW = 5, LIFE = 6, ORIGINATOR = 7, NUMBER = 8 };
+enum { MOST_WORDS = 12, NOW = 5, LIFE = 6, ORIGINATOR = 7, NUMBER = 8 };
 #ifdef LAYER
 /* Arguments that can be told apart. */
 enum { CLASS = 11, INSTANCE = 12, ATTRIBUTE = 13 };
@@ -105,6 +105,25 @@ uint32_t enip_core_adapter_feed(struct kept *k, uint64_t now, uint32_t p, const 
                                 uint8_t *buffer, size_t size, enip_fed *fed) {
     return NOTE("adapter_feed", WORD(k), now, p, WORD(bytes), length, WORD(buffer), size, WORD(fed));
 }
+/* What the core says is asked, and the status of that call; the arguments of it. */
+static struct asked core_asked;
+static uint32_t asked_status = ENIP_ABSENT;
+static uint64_t asked_words[MOST_WORDS];
+
+uint32_t enip_core_adapter_asked(struct kept *k, uint64_t now, uint32_t p, const uint8_t *bytes, size_t length,
+                                 uint8_t *data, size_t size, struct asked *asked) {
+    const uint64_t its_words[] = {WORD(k), now, p, WORD(bytes), length, size};
+    memcpy(asked_words, its_words, sizeof its_words);
+    memset(data, 'd', size);
+    *asked = core_asked;
+    return asked_status;
+}
+uint32_t enip_core_adapter_feed_prepared(struct kept *k, uint64_t now, uint32_t p, const uint8_t *bytes, size_t length,
+                                         uint8_t status, const uint8_t *data, size_t data_length, uint16_t limit,
+                                         uint8_t *buffer, size_t size, enip_fed *fed) {
+    return NOTE("adapter_feed_prepared", WORD(k), now, p, WORD(bytes), length, status, data[0], data_length, limit,
+                WORD(buffer), size, WORD(fed));
+}
 void enip_core_adapter_tick(struct kept *k, uint64_t now) {
     NOTE("adapter_tick", WORD(k), now);
 }
@@ -123,6 +142,14 @@ void enip_core_adapter_places(struct kept *k, uint16_t *peers, uint16_t *connect
 }
 uint32_t enip_core_adapter_write(struct kept *k, uint32_t instance, size_t offset, const uint8_t *bytes, size_t length) {
     return NOTE("adapter_write", WORD(k), instance, offset, WORD(bytes), length);
+}
+uint32_t enip_core_adapter_write_attribute(struct kept *k, uint16_t class_code, uint32_t instance, uint16_t attribute,
+                                           size_t offset, const uint8_t *bytes, size_t length) {
+    return NOTE("adapter_write_attribute", WORD(k), class_code, instance, attribute, offset, WORD(bytes), length);
+}
+uint32_t enip_core_adapter_attribute_changes(struct kept *k, uint16_t class_code, uint32_t instance, uint16_t attribute,
+                                             uint32_t *changes) {
+    return NOTE("adapter_attribute_changes", WORD(k), class_code, instance, attribute, WORD(changes));
 }
 uint32_t enip_core_adapter_changes(struct kept *k, uint32_t instance, uint32_t *changes) {
     return NOTE("adapter_changes", WORD(k), instance, WORD(changes));
@@ -231,6 +258,13 @@ struct arguments {
     void *result;
 };
 
+/* An owner that is not to be asked. */
+static int never(void *context, const enip_asked *asked, enip_reply *reply) {
+    (void)context, (void)asked, (void)reply;
+    is("adapter_serve", "the owner is not asked", 0);
+    return 1;
+}
+
 typedef int made_call(const struct arguments *);
 
 /* A call: its name, its kind of object, its ranges (0 if it has none), and the arguments between. */
@@ -240,7 +274,7 @@ struct call {
     made_call *call;
     size_t length, size, result;
     size_t extra_count;
-    uint64_t extras[3];
+    uint64_t extras[4];
 };
 
 #define CALL(name, ...)                               \
@@ -249,13 +283,16 @@ struct call {
     }
 CALL(adapter_begin, a->result)
 CALL(adapter_feed, NOW, peer, a->bytes, a->length, a->buffer, a->size, a->result)
+CALL(adapter_serve, NOW, peer, a->bytes, a->length, a->buffer, a->size, never, NULL, a->result)
 CALL(adapter_tick, NOW)
 CALL(adapter_deadline, a->result)
 CALL(adapter_end, peer + 100)
 CALL(adapter_read, CLASS, INSTANCE, ATTRIBUTE, a->buffer, a->size, a->result)
 CALL(adapter_discover, a->bytes, a->length, a->buffer, a->size, a->result)
 CALL(adapter_write, 100, 1, a->bytes, a->length)
+CALL(adapter_write_attribute, CLASS, INSTANCE, ATTRIBUTE, 1, a->bytes, a->length)
 CALL(adapter_changes, 100, a->result)
+CALL(adapter_attribute_changes, CLASS, INSTANCE, ATTRIBUTE, a->result)
 CALL(adapter_set_status, 0x1234)
 CALL(adapter_set_state, 3)
 CALL(endings_at, 2, a->result)
@@ -283,13 +320,16 @@ static int once_abandon(const struct arguments *a) {
 static struct call calls[] = {
     {"adapter_begin", ADAPTER, adapter_begin, 0, 0, 4, 0, {0}},
     {"adapter_feed", ADAPTER, adapter_feed, 28, ENIP_ANSWER_ROOM, sizeof(enip_fed), 2, {NOW, 0}},
+    {"adapter_serve", ADAPTER, adapter_serve, 28, ENIP_ANSWER_ROOM, sizeof(enip_fed), 2, {NOW, 0}},
     {"adapter_tick", ADAPTER, adapter_tick, 0, 0, 0, 1, {NOW}},
     {"adapter_deadline", ADAPTER, adapter_deadline, 0, 0, 8, 0, {0}},
     {"adapter_end", ADAPTER, adapter_end, 0, 0, 0, 1, {0}},
     {"adapter_read", ADAPTER, adapter_read, 0, 2, 8, 3, {CLASS, INSTANCE, ATTRIBUTE}},
     {"adapter_discover", ADAPTER, adapter_discover, 24, ENIP_ANSWER_ROOM, 8, 0, {0}},
     {"adapter_write", ADAPTER, adapter_write, 3, 0, 0, 2, {100, 1}},
+    {"adapter_write_attribute", ADAPTER, adapter_write_attribute, 3, 0, 0, 4, {CLASS, INSTANCE, ATTRIBUTE, 1}},
     {"adapter_changes", ADAPTER, adapter_changes, 0, 0, 4, 1, {100}},
+    {"adapter_attribute_changes", ADAPTER, adapter_attribute_changes, 0, 0, 4, 3, {CLASS, INSTANCE, ATTRIBUTE}},
     {"adapter_set_status", ADAPTER, adapter_set_status, 0, 0, 0, 1, {0x1234}},
     {"adapter_set_state", ADAPTER, adapter_set_state, 0, 0, 0, 1, {3}},
     {"endings_at", ENDINGS, endings_at, 0, 0, sizeof(enip_ended), 1, {2}},
@@ -345,6 +385,11 @@ static void refused(const struct call *call, const char *how, struct arguments a
 }
 
 #ifdef LAYER
+/* The core's call: a serve that asks nothing is a feed. */
+static const char *core_name(const struct call *call) {
+    return strcmp(call->name, "adapter_serve") == 0 ? "adapter_feed" : call->name;
+}
+
 /* Whether the core was called once, with these arguments. */
 static int is_passed(const struct call *call, const struct arguments *a) {
     uint64_t wanted[MOST_WORDS] = {WORD(a->handle)};
@@ -361,8 +406,15 @@ static int is_passed(const struct call *call, const struct arguments *a) {
     }
     if (call->result != 0)
         wanted[count++] = WORD(a->result);
-    return call_count == 1 && strcmp(called, call->name) == 0 && word_count == count
+    return call_count == 1 && strcmp(called, core_name(call)) == 0 && word_count == count
         && memcmp(words, wanted, count * sizeof *wanted) == 0;
+}
+#endif
+
+#ifdef LAYER
+/* A serve in a small buffer ends in the layer, as the time is set before the frame is fed. */
+static int is_small(const struct call *call, const struct arguments *a) {
+    return strcmp(call->name, "adapter_serve") == 0 && a->size < ENIP_ANSWER_ROOM;
 }
 #endif
 
@@ -372,9 +424,10 @@ static void allowed(const struct call *call, const char *how, struct arguments a
     int returns = strcmp(call->name, "adapter_tick") != 0 && strcmp(call->name, "adapter_end") != 0
         && strncmp(call->name, "adapter_set", 11) != 0;
     for (core_status = 0; core_status < 20; core_status++) {
+        int status = is_small(call, &a) ? ENIP_ROOM : returns ? (int)core_status : ENIP_OK;
         call_count = 0;
-        is(call->name, how, call->call(&a) == (returns ? (int)core_status : ENIP_OK));
-        is(call->name, how, is_passed(call, &a));
+        is(call->name, how, call->call(&a) == status);
+        is(call->name, how, is_small(call, &a) ? call_count == 0 : is_passed(call, &a));
     }
     core_status = ENIP_OK;
     is(call->name, how, is_kept(&a, call, 0));
@@ -538,15 +591,24 @@ static void places(int with_freed) {
     }
 }
 
+static int write_at(size_t offset) {
+    return enip_adapter_write_attribute(valid[ADAPTER], 4, 100, 3, offset, registers, 1);
+}
+
 static void offsets(void) {
     void *handle = valid[ADAPTER];
     const size_t greatest = PTRDIFF_MAX;
+    is("write_attribute", "an offset of PTRDIFF_MAX + 1", write_at(greatest + 1) == ENIP_MISUSE);
+    is("write_attribute", "an offset of SIZE_MAX", write_at(SIZE_MAX) == ENIP_MISUSE);
+    is("write_attribute", "an offset of PTRDIFF_MAX", write_at(greatest) != ENIP_MISUSE);
     is("write", "an offset of PTRDIFF_MAX + 1", enip_adapter_write(handle, 100, greatest + 1, registers, 1) == ENIP_MISUSE);
     is("write", "an offset of SIZE_MAX", enip_adapter_write(handle, 100, SIZE_MAX, registers, 1) == ENIP_MISUSE);
     is("write", "an offset of PTRDIFF_MAX", enip_adapter_write(handle, 100, greatest, registers, 1) != ENIP_MISUSE);
 #ifndef LAYER
     is("write", "the last byte", enip_adapter_write(handle, 100, 3, registers, 1) == ENIP_OK);
     is("write", "one byte behind it", enip_adapter_write(handle, 100, 4, registers, 1) == ENIP_ABSENT);
+    is("write_attribute", "the last byte", write_at(3) == ENIP_OK);
+    is("write_attribute", "one byte behind it", write_at(4) == ENIP_ABSENT);
 #endif
 }
 
@@ -783,6 +845,89 @@ static void made_without_memory(void) {
     is("new", "the core is not called", call_count == 0);
 }
 
+/* What the owner gets, what it answers, and which calls of the same adapter it made. */
+static enip_reply given;
+static int answered, owner_count;
+static enip_adapter *another;
+
+/* The calls that are misuse while the owner is asked. */
+static void misuses(enip_adapter *adapter) {
+    static unsigned char room[ENIP_ANSWER_ROOM];
+    enip_fed fed;
+    uint32_t number;
+    int count = call_count;
+    is("within", "a feed", enip_adapter_feed(adapter, 1, 2, registers, 3, room, sizeof room, &fed) == ENIP_MISUSE);
+    is("within", "a serve",
+       enip_adapter_serve(adapter, 1, 2, registers, 3, room, sizeof room, never, NULL, &fed) == ENIP_MISUSE);
+    is("within", "a serve without an owner",
+       enip_adapter_serve(adapter, 1, 2, registers, 3, room, sizeof room, NULL, NULL, &fed) == ENIP_MISUSE);
+    is("within", "a begin", enip_adapter_begin(adapter, &number) == ENIP_MISUSE);
+    is("within", "a tick", enip_adapter_tick(adapter, 1) == ENIP_MISUSE);
+    is("within", "an end", enip_adapter_end(adapter, 1) == ENIP_MISUSE);
+    is("within", "a free", enip_adapter_free(adapter) == ENIP_MISUSE);
+    is("within", "the core is not called", call_count == count);
+    is("within", "a read", enip_adapter_changes(adapter, 1, &number) == (int)core_status && call_count == count + 1);
+    is("within", "another adapter", enip_adapter_tick(another, 1) == ENIP_OK && call_count == count + 2);
+}
+
+static int answering(void *context, const enip_asked *asked, enip_reply *reply) {
+    static const enip_reply empty;
+    size_t same = 0;
+    owner_count++;
+    is("owner", "its context", context == &owner_count);
+    is("owner", "its reply is empty", memcmp(reply, &empty, sizeof empty) == 0);
+    is("owner", "its request", asked->class_code == 1 && asked->instance == 2 && asked->service == 3
+           && asked->has_attribute == 1 && asked->attribute == 4 && asked->length == 500 && asked->reply_limit == 6);
+    while (same < asked->length && asked->data[same] == 'd')
+        same++;
+    is("owner", "its data", same == asked->length);
+    misuses(valid[ADAPTER]);
+    *reply = given;
+    return answered;
+}
+
+/* A frame that asks: the owner is called once, and its reply is fed, unless it fails or its length is no range. */
+static void serves(void) {
+    static const size_t lengths[] = {0, 1, 479, 480, 481, SIZE_MAX};
+    enip_adapter *adapter = valid[ADAPTER];
+    enip_fed *fed = (void *)(arena + LOW);
+    unsigned char *buffer = arena + MIDDLE, *bytes = arena + HIGH;
+    core_asked = (struct asked){500, 2, 1, 4, 6, 3, 1};
+    if (enip_adapter_new(configuration, sizeof configuration - 1, &another, NULL) != ENIP_OK)
+        exit(9);
+    for (size_t i = 0; i < sizeof lengths / sizeof *lengths * 3; i++) {
+        int status, is_given;
+        answered = i % 3 == 0 ? 0 : i % 3 == 1 ? 1 : -1;
+        given = (enip_reply){lengths[i / 3], (uint8_t)i, {'r'}};
+        is_given = answered == 0 && given.length <= 480;
+        for (core_status = 0; core_status < 20; core_status++) {
+            asked_status = ENIP_OK;
+            owner_count = 0;
+            status = enip_adapter_serve(adapter, NOW, 7, bytes, 9, buffer, 5000, answering, &owner_count, fed);
+            is("adapter_serve", "the owner is asked once", owner_count == 1);
+            is("adapter_serve", "its status",
+               status == (answered != 0 ? ENIP_STATE : is_given ? (int)core_status : ENIP_MISUSE));
+            is("adapter_serve", "what is asked",
+               memcmp(asked_words, (uint64_t[]){WORD(adapter), NOW, 7, WORD(bytes), 9, 500}, 6 * sizeof *words) == 0);
+            if (is_given)
+                is("adapter_serve", "what is fed", strcmp(called, "adapter_feed_prepared") == 0
+                       && memcmp(words, (uint64_t[]){WORD(adapter), NOW, 7, WORD(bytes), 9, i, 'r', given.length, 6,
+                                                     WORD(buffer), 5000, WORD(fed)}, 12 * sizeof *words) == 0);
+            else
+                is("adapter_serve", "nothing is fed", strcmp(called, "adapter_tick") == 0);
+        }
+    }
+    for (asked_status = 1; asked_status < 20; asked_status++) {
+        call_count = 0;
+        core_status = ENIP_OK;
+        is("adapter_serve", "not asked", enip_adapter_serve(adapter, NOW, 7, bytes, 9, buffer, 5000, never, NULL, fed)
+               == (asked_status == ENIP_ABSENT ? ENIP_OK : (int)asked_status));
+        is("adapter_serve", "fed, or not", call_count == (asked_status == ENIP_ABSENT));
+    }
+    asked_status = ENIP_ABSENT;
+    is("free", "another adapter", enip_adapter_free(another) == ENIP_OK);
+}
+
 /* The text of a number, in buffers of each size around its length, with a byte behind the buffer. */
 static void texts(void) {
     for (text_length = 0; text_length <= 257; text_length++) {
@@ -842,7 +987,7 @@ int main(int count, char **arguments) {
         return 9;
     for (size_t i = 0; i < sizeof calls / sizeof *calls; i++) {
         struct call *call = &calls[i];
-        if (strcmp(call->name, "adapter_feed") == 0)
+        if (strcmp(call->name, "adapter_feed") == 0 || strcmp(call->name, "adapter_serve") == 0)
             call->extras[1] = peer;
         if (strcmp(call->name, "adapter_end") == 0)
             call->extras[0] = peer + 100;
@@ -857,6 +1002,9 @@ int main(int count, char **arguments) {
     updates(with_freed);
     values(with_freed);
     makes();
+#ifdef LAYER
+    serves();
+#endif
     for (int kind = 0; kind < KINDS; kind++)
         is("free", "at the end", frees(kind, valid[kind]) == ENIP_OK);
     makes_next();

@@ -124,16 +124,24 @@ static void written(const char *what, writing *write, size_t room, size_t length
     memcpy(frame, buffer, frame_length);
 }
 
+/* The owner of the device, if it has one. */
+static int (*owner)(void *context, const enip_asked *asked, enip_reply *reply);
+
+static int feed(void *piece, size_t length, void *buffer, size_t size, enip_fed *got) {
+    return owner != NULL ? enip_adapter_serve(adapter, now, peer, piece, length, buffer, size, owner, &now, got)
+                         : enip_adapter_feed(adapter, now, peer, piece, length, buffer, size, got);
+}
+
 /* Feeds the adapter, and compares each field of the result. */
 static void fed(const char *what, const unsigned char *bytes, size_t length, enip_fed wanted) {
     unsigned char *buffer = in(BUFFER, ENIP_ANSWER_ROOM - 1);
     enip_fed *got = in(RESULT, sizeof *got);
     void *piece = memcpy(in(READ, length), bytes, length);
-    is(what, enip_adapter_feed(adapter, now, peer, piece, length, buffer, ENIP_ANSWER_ROOM - 1, got), ENIP_ROOM);
+    is(what, feed(piece, length, buffer, ENIP_ANSWER_ROOM - 1, got), ENIP_ROOM);
     is_kept(what, BUFFER);
     is_kept(what, RESULT);
     buffer = in(BUFFER, ENIP_ANSWER_ROOM);
-    is(what, enip_adapter_feed(adapter, now, peer, piece, length, buffer, ENIP_ANSWER_ROOM, got), ENIP_OK);
+    is(what, feed(piece, length, buffer, ENIP_ANSWER_ROOM, got), ENIP_OK);
     is(what, (long long)got->taken, (long long)wanted.taken);
     is(what, (long long)got->answer, (long long)wanted.answer);
     is(what, got->no_reply, wanted.no_reply);
@@ -409,6 +417,62 @@ static void commands(void) {
     is("free", enip_once_free(once), ENIP_OK);
 }
 
+/* Each field of what the owner gets, and each byte of its data. The reply fills its room, or has no data. */
+static int answers(void *context, const enip_asked *asked, enip_reply *its_reply) {
+    is("asked", asked->instance, 0x0304);
+    is("asked", asked->class_code, 0x0506);
+    is("asked", asked->attribute, asked->length == 0 ? 0x0708 : 0);
+    is("asked", asked->has_attribute, asked->length == 0);
+    is("asked", asked->service, 0x63);
+    is("asked", (long long)asked->reply_limit, 480);
+    is("asked", context == &now, 1);
+    for (size_t i = 0; i < asked->length; i++)
+        is("asked", asked->data[i], (unsigned char)i);
+    for (size_t i = 0; i < asked->length; i++)
+        its_reply->data[i] = (unsigned char)~i;
+    its_reply->length = asked->length;
+    its_reply->status = asked->length == 0 ? 0x77 : 0;
+    return 0;
+}
+
+/* The owner executes a service without data and with the longest data. */
+static void owned(void) {
+    static const char text[] =
+        "vendor = 1\ndevice_type = 43\nproduct_code = 7\nmajor = 2\nminor = 5\nserial = 1\nname = \"M\"\n"
+        "address = [127, 0, 0, 1]\n[counter]\nlimit = 1\n[[object]]\nclass = 1286\ninstance = 772\n"
+        "[[object.service]]\nnumber = 99\nsizes = [0, 480]\nreply = 480\n";
+    static const unsigned char path[] = {0x21, 0, 6, 5, 0x25, 0, 4, 3, 0x31, 0, 8, 7};
+    static const unsigned char registering[28] = {0x65, 0, 4, 0, [24] = 1};
+    enip_adapter *other = adapter;
+    uint32_t its_peer = peer;
+    is("an adapter with an owner", enip_adapter_new(text, sizeof text - 1, &adapter, NULL), ENIP_OK);
+    is("a peer", enip_adapter_begin(adapter, &peer), ENIP_OK);
+    owner = answers;
+    fed("a session", registering, 28, (enip_fed){28, 28, 0, 0});
+    for (size_t length = 0; length <= 480; length += 240) {
+        unsigned char asks[40 + 16 + 480] = {0x6f, 0, [4] = (unsigned char)peer, [30] = 2, [36] = 0xb2};
+        size_t path_size = length == 0 ? sizeof path : sizeof path - 4, request_size = 2 + path_size + length;
+        asks[2] = (unsigned char)(16 + request_size);
+        asks[3] = (unsigned char)((16 + request_size) >> 8);
+        asks[38] = (unsigned char)request_size;
+        asks[39] = (unsigned char)(request_size >> 8);
+        asks[40] = 0x63;
+        asks[41] = (unsigned char)(path_size / 2);
+        memcpy(asks + 42, path, path_size);
+        for (size_t i = 0; i < length; i++)
+            asks[42 + path_size + i] = (unsigned char)i;
+        fed("an own service", asks, 40 + request_size, (enip_fed){40 + request_size, 44 + length, 0, 0});
+        is_bytes("its reply", answer + 38, length == 0 ? "\4\0\xe3\0\x77\0" : length == 240 ? "\xf4\0\xe3\0\0\0"
+                     : "\xe4\1\xe3\0\0\0", 6);
+        for (size_t i = 0; i < length; i++)
+            is("its data", answer[44 + i], (unsigned char)~i);
+    }
+    owner = NULL;
+    is("free", enip_adapter_free(adapter), ENIP_OK);
+    adapter = other;
+    peer = its_peer;
+}
+
 /* A refusal whose text is a line of so many bytes, or empty if it does not fit. */
 static void refused(size_t length) {
     static char text[2000];
@@ -463,6 +527,7 @@ int main(void) {
         refused_opening();
         device_side(endings);
         commands();
+        owned();
         refused(100);
         refused(511);
         refused(512);

@@ -92,6 +92,49 @@ static int adapter(void) {
     return enip_adapter_free(made);
 }
 
+static const char owned[] = HEAD TAIL
+    "[[object]]\nclass = 768\ninstance = 1\n[[object.attribute]]\nnumber = 1\ntype = \"UINT[2]\"\nsettable = true\n"
+    "checked = true\n[[object.service]]\nnumber = 50\nsizes = [0, 480]\nreply = 480\n";
+
+static int answers(void *context, const enip_asked *asked, enip_reply *reply) {
+    size_t *sum = context;
+    *sum += asked->length;
+    reply->length = asked->reply_limit;
+    return 0;
+}
+
+static int serves(enip_adapter *made, uint32_t peer, const char *bytes, size_t size, size_t *sum, enip_fed *fed) {
+    unsigned char frame[64] = {0x6f, 0, 16, 0, [30] = 2, [36] = 0xb2};
+    frame[2] += (unsigned char)size;
+    frame[4] = (unsigned char)peer;
+    frame[38] = (unsigned char)size;
+    memcpy(frame + 40, bytes, size);
+    return enip_adapter_serve(made, 1, peer, frame, 40 + size, buffer, sizeof buffer, sum != NULL ? answers : NULL, sum,
+                              fed);
+}
+
+/* The owner executes a service and approves a set, and nobody executes a service. */
+static int owned_adapter(void) {
+    enip_adapter *made = UNCHANGED;
+    enip_fed fed;
+    uint32_t peer;
+    size_t sum = 0;
+    int status = enip_adapter_new(owned, sizeof owned - 1, &made, NULL);
+    if (status != ENIP_OK)
+        return made == UNCHANGED ? status : 99;
+    if (enip_adapter_begin(made, &peer) != ENIP_OK
+        || enip_adapter_serve(made, 1, peer, registers, 28, buffer, sizeof buffer, answers, &sum, &fed) != ENIP_OK)
+        return 98;
+    if (serves(made, peer, "\x32\3\x21\0\0\3\x24\1abcd", 12, &sum, &fed) != ENIP_OK || fed.answer != 524 || sum != 4)
+        return 97;
+    if (serves(made, peer, "\x10\4\x21\0\0\3\x24\1\x30\1abcd", 14, &sum, &fed) != ENIP_OK || fed.answer != 44
+        || sum != 8)
+        return 96;
+    if (serves(made, peer, "\x32\3\x21\0\0\3\x24\1abcd", 12, NULL, &fed) != ENIP_OK || fed.answer != 44)
+        return 95;
+    return enip_adapter_free(made);
+}
+
 static int refused_adapter(void) {
     enip_adapter *made = UNCHANGED;
     enip_refusal refusal = {77, "as before"};
@@ -173,6 +216,7 @@ static const struct {
     int status;
 } lives[] = {
     {"an adapter", adapter, ENIP_OK},
+    {"an adapter with an owner", owned_adapter, ENIP_OK},
     {"a refused adapter", refused_adapter, ENIP_CONFIGURATION},
     {"a refused adapter without a reason", unexplained_adapter, ENIP_CONFIGURATION},
     {"endings", endings, ENIP_OK},

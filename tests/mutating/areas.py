@@ -2,16 +2,22 @@
 import os
 import shutil
 import subprocess
+import sys
 import tempfile
 from pathlib import Path
 
-from mutating import layer, shell
+from mutating import layer, libraries, shell
+from mutating.building import TESTS
 from mutating.noticing import LONGEST, in_order, noticed, run, tests_of_check
-from mutating.program import Switched
+from mutating.program import PLACES, Switched
 from mutating.rules import errors_in, errors_in_value, returned_by
-from mutating.sources import TOP, Sources
+from mutating.sources import TOP, Sources, libraries_of
 
 SCRIPTS = "tests/scripts"
+# The tests of the libraries. Here each of them runs once, as a part of one program.
+TRIED = "tests/tried"
+# The seconds that the slowest of them take together.
+LONGEST_TESTS = 60
 # The file that lists what the compiler refused.
 REFUSED = "refused"
 NOTICED, UNNOTICED, EQUAL = "noticed", "UNNOTICED", "equal by construction"
@@ -93,6 +99,42 @@ class Program:
         numbers = {self.numbers[it]: it for it in errors}
         return {numbers[it] for it in self.switched.equal(numbers)} if numbers else set()
 
+    def tried(self, errors):
+        """Those of these errors that a test of the libraries notices, and what it prints."""
+        crates = libraries_of(TESTS)
+        errors = [it for it in errors if it.path.split("/")[1] in crates]
+        if not errors:
+            return {}
+        self.switched.build_tests()
+        tests, found = self.tests_that_reach(errors), {}
+        for error in errors:
+            program, plain = (self.tests_with(it) for it in (self.numbers[error], 0))
+            commands = [[sys.executable, libraries.__file__, it, *tests[error]] for it in (program, plain)]
+            if tests[error]:
+                found[error] = noticed([(TRIED, *commands)], {TRIED: LONGEST_TESTS})
+            program.unlink()
+        return {it: by for it, by in found.items() if by}
+
+    def tests_that_reach(self, errors):
+        """The tests of the libraries that pass without an error and reach each of these errors."""
+        reached, tests = self.folder / "reached-by-libraries", {it: [] for it in errors}
+        program = self.tests_with(0, reached)
+        for name in libraries.names():
+            reached.write_bytes(bytes(PLACES))
+            why = libraries.fails(program, name)
+            if why:
+                print("%s: left out, since it fails: %s" % (TRIED, why), flush=True)
+                continue
+            there = reached.read_bytes()
+            for error in errors:
+                if self.switched.is_reached(self.numbers[error], there):
+                    tests[error].append(name)
+        return tests
+
+    def tests_with(self, number, reached=None):
+        """The tests of the libraries with one error."""
+        return self.switched.program(number, self.folder / ("tests-%d" % number), reached, self.switched.tests)
+
 
 class Layer:
     """The C layer of the library."""
@@ -129,6 +171,10 @@ class Layer:
 
     def equal(self, errors):
         return self.same & set(errors)
+
+    def tried(self, errors):
+        """Each test has run."""
+        return {}
 
     def judge(self, error, seconds):
         if error in self.same:
@@ -191,6 +237,10 @@ class Scripts:
     def equal(self, errors):
         """No script is compiled."""
         return set()
+
+    def tried(self, errors):
+        """Each test has run."""
+        return {}
 
 
 def copied(folder, error):

@@ -21,6 +21,8 @@ LEFT_OUT = re.compile(r"\s*$|this machine|.*: skipped: |\d+ commands were skippe
 LIMITED = ("bash", "-c", 'ulimit -t 30; exec "$@"', "")
 # The seconds after which a test that has printed no result has failed, next to four times those that it usually takes.
 LONGEST = 120
+# No test is given more seconds than these.
+MOST = 10_000
 
 
 def tests_of_check(top=TOP):
@@ -82,13 +84,17 @@ def end(test):
 def noticed(tests, seconds):
     """The first of these tests that notices an error, with what it printed, or None. It must fail twice with the error:
     with the same text, or else it must pass without the error. A test is its name, its command, and the command without
-    the error. `seconds` are those that it takes then."""
+    the error. `seconds` are those that it takes then. On a busy machine a test may have no result without the error
+    either: then it is given more time."""
     for name, command, unchanged in tests:
-        limit = LONGEST + 4 * seconds[name]
-        line, took = run(command, limit)
-        again = line and run(command, limit)[0]
-        if again and (alike(line, again) or run(unchanged, limit)[0] is None):
-            return "%s, %.0f s: %s" % (name, took, line[:160])
+        limit, plain = LONGEST + 4 * seconds[name], NO_RESULT
+        while plain == NO_RESULT and limit < MOST:
+            line, took = run(command, limit)
+            again = line and run(command, limit)[0]
+            plain = again and not alike(line, again) and run(unchanged, limit)[0]
+            if again and not plain:
+                return "%s, %.0f s: %s" % (name, took, line[:160])
+            limit *= 4
     return None
 
 

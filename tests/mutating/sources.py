@@ -14,10 +14,20 @@ TOP = Path(__file__).resolve().parent.parent.parent
 PRODUCTS = ("enip_cmd",)
 
 
+def listed_crates(top=TOP):
+    """The crates of crates.txt in their order, each with the libraries that it depends on."""
+    lines = (it.partition(":") for it in (top / "crates.txt").read_text().splitlines() if not it.startswith("#"))
+    return {name.split()[0]: libraries.split() for name, _, libraries in lines if name}
+
+
+def libraries_of(crate, top=TOP):
+    """The libraries that a crate depends on."""
+    return listed_crates(top)[crate]
+
+
 def product_crates(top=TOP):
     """The crates of the product, in the order of crates.txt."""
-    lines = (it.partition(":") for it in (top / "crates.txt").read_text().splitlines() if not it.startswith("#"))
-    listed = {name.split()[0]: libraries.split() for name, _, libraries in lines if name}
+    listed = listed_crates(top)
     wanted = {it for name in PRODUCTS for it in (name, *listed[name])}
     return [name for name in listed if name in wanted]
 

@@ -1,4 +1,4 @@
-"""The second reading of the objects: Identity, the assemblies and the counter."""
+"""The second reading of the objects: Identity, the assemblies, the counter, and the application objects."""
 import struct
 
 from reading.protocol import (
@@ -6,6 +6,7 @@ from reading.protocol import (
     IDENTITY, LIST, MEMBER, NOT_SETTABLE, PARAMETER, SERVICE, SET, SET_MEMBER, SHORT, TOO_LARGE, VALUE, check,
     check_length, number, Refusal, request_of,
 )
+from reading.applications import Applications
 
 
 def listed(value_of, data):
@@ -24,10 +25,10 @@ def listed(value_of, data):
 
 
 class Objects:
-    """Identity, Assembly and the counter of a configuration."""
+    """Identity, Assembly, the counter and the application objects of a configuration."""
 
     def __init__(self, config):
-        self.config = config
+        self.config, self.applications = config, Applications(config)
         self.value, self.limit, self.additions = config["value"], config["limit"], 0
         self.assemblies = {one["instance"]: one for one in config["assemblies"]}
         self.contents = {one["instance"]: bytes(sum(one["members"])) for one in config["assemblies"]}
@@ -35,13 +36,21 @@ class Objects:
     def services(self, kind, instance):
         if kind == ASSEMBLY and instance in self.assemblies:
             return [GET_LIST, GET, SET, GET_MEMBER, SET_MEMBER]
-        return {
+        if kind == COUNTER and not self.config["has_counter"]:
+            return self.applications.services(kind, instance)
+        services = {
             (IDENTITY, 0): [GET], (ASSEMBLY, 0): [GET], (COUNTER, 0): [GET], (CONNECTION_MANAGER, 1): [],
             (IDENTITY, 1): [GET_ALL, GET_LIST, GET], (COUNTER, 1): [GET_LIST, GET, SET, ADD, CLEAR],
         }.get((kind, instance))
+        return services if services is not None else self.applications.services(kind, instance)
+
+    def is_application(self, kind, instance):
+        return self.applications.services(kind, instance) is not None
 
     def attribute(self, kind, instance, attribute):
         config = self.config
+        if self.is_application(kind, instance):
+            return self.applications.attribute(kind, instance, attribute)
         if instance == 0:
             revision = 2 if kind == ASSEMBLY else 1
             instances = list(self.assemblies) if kind == ASSEMBLY else [1]
@@ -62,24 +71,29 @@ class Objects:
 
     def execute(self, request, room):
         """The reply to a request. Its changes are kept only if the reply fits into `room` bytes."""
-        before = (self.value, self.limit, self.additions, dict(self.contents))
+        before = (self.value, self.limit, self.additions, dict(self.contents), dict(self.applications.values))
         try:
-            status, data = self.served(request)
+            status, data = self.served(request, room)
         except Refusal as refusal:
             status, data = refusal.args[0], b""
         if 4 + len(data) > room:
-            self.value, self.limit, self.additions, self.contents = before
+            self.value, self.limit, self.additions, self.contents, self.applications.values = before
             status, data = TOO_LARGE, b""
         return bytes([request[0] | 0x80, 0, status, 0]) + data
 
-    def served(self, request):
+    def served(self, request, room):
         service, path, data = request_of(request)
         kind, instance = path["class"], path["instance"]
         services = self.services(kind, instance)
         check(services is not None, DESTINATION)
         check(service in services, SERVICE)
+        own = self.applications.has(kind, instance) and self.is_application(kind, instance)
+        if own and service not in (GET_ALL, GET_LIST, GET, SET):
+            self.applications.own_service(kind, instance, service, data, room)
         if service == GET_ALL:
             check_length(data, 0)
+            if own:
+                return 0, self.applications.all_attributes(kind, instance)
             return 0, b"".join(self.attribute(kind, instance, place) for place in range(1, 8))
         if service == GET_LIST:
             return listed(lambda attribute: self.attribute(kind, instance, attribute), data)
@@ -96,6 +110,9 @@ class Objects:
         if service == GET:
             check_length(data, 0)
             return 0, value
+        if own:
+            self.applications.set(kind, instance, path["attribute"], data)
+            return 0, b""
         return 0, self.set(kind, instance, path["attribute"], len(value), data)
 
     def set(self, kind, instance, attribute, length, data):

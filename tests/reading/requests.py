@@ -5,6 +5,7 @@ from reading.protocol import (
     ADD, ASSEMBLY, CLEAR, CONNECTION_MANAGER, COUNTER, DEFAULTS, FORWARD_CLOSE, FORWARD_OPEN, GET, GET_ALL, GET_LIST,
     GET_MEMBER, IDENTITY, LARGE_FORWARD_OPEN, LARGEST_ASSEMBLY, LAST, LEDGER, ORDER, SEGMENTS, SET, SET_MEMBER, number,
 )
+from reading.applications import Describing
 
 
 class Chooser:
@@ -23,7 +24,7 @@ class Chooser:
         return self.random.randbytes(self.random.randrange(count))
 
 
-class Configurations(Chooser):
+class Configurations(Chooser, Describing):
     """Makes configurations."""
 
     def assembly(self, instance):
@@ -58,6 +59,8 @@ class Configurations(Chooser):
             "first_handle": self.first(), "first_id": self.first(), "limit": limit, "value": below(limit + 1),
             "assemblies": [self.assembly(instance) for instance in instances], "ledger": self.ledger(),
         }
+        config["has_counter"] = not self.seldom(0.1)
+        config["objects"] = self.own_objects(config["has_counter"])
         omitted = [key for key in DEFAULTS if self.seldom(0.15)]
         omitted += ["value"] if "limit" not in omitted and self.seldom(0.2) else []
         config.update({key: DEFAULTS[key] for key in omitted})
@@ -88,6 +91,9 @@ class Requests(Configurations):
         kinds = [IDENTITY, ASSEMBLY, ASSEMBLY, COUNTER, COUNTER] * 5
         kind = self.pick(*kinds, CONNECTION_MANAGER, LEDGER, 2, 0x104)
         ones = [one["instance"] for one in config["assemblies"]] * 3 if kind == ASSEMBLY else [1] * 9
+        if config["objects"] and self.seldom(0.3):
+            one = self.random.choice(config["objects"])
+            kind, ones = self.pick(*[one["class"]] * 9, one["class"] - 1), [one["instance"]] * 9
         text = self.right_path(kind, self.pick(*ones, 0, 77, 65537))
         attribute = self.pick(None, *range(1, 10), 3, 3, 3, 3, 259)
         member = self.pick(None, None, 0, 1, 1, 2, 3, 64, 65)
@@ -122,7 +128,9 @@ class Requests(Configurations):
 
     def right_request(self, config):
         """A request that is mostly executed."""
-        if config["assemblies"] and self.seldom(0.3):
+        if config["objects"] and self.seldom(0.3):
+            service, path, data = self.own_call(config)
+        elif config["assemblies"] and self.seldom(0.3):
             one = self.random.choice(config["assemblies"])
             member = self.random.randint(1, len(one["members"]))
             service = self.pick(GET, SET, GET_MEMBER, SET_MEMBER)

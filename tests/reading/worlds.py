@@ -92,7 +92,8 @@ class NumberedWorld:
 
     def ending(self):
         objects = self.run()[0].objects
-        yield "counter %d %d %d" % (objects.value, objects.limit, objects.additions)
+        if self.config["has_counter"]:
+            yield "counter %d %d %d" % (objects.value, objects.limit, objects.additions)
         for instance, content in sorted(objects.contents.items()):
             yield "assembly %d %s" % (instance, content.hex())
         waiting = "idle" if self.awaited is None else "waiting"

@@ -3,8 +3,8 @@ use Rattle.std.proofs.Common.{◌≡◌, ℕ, zero, suc, eqb, true, false, cond,
 use Rattle.cip_bytes.specs.Reading.{map_ok}
 use Rattle.cip_application.specs.declared.attribute.SetFault.{SetFault}
 use Rattle.cip_application.specs.Attributes.{AttributeValues, with_attribute, AreAllowed}
-use Rattle.cip_application.specs.Laws.{after_result, values_allowed_law}
-use Rattle.cip_application.specs.Objects.{ObjectValues, AllAllowed, object_set, object_in, objects_set}
+use Rattle.cip_application.specs.Laws.{values_allowed_law}
+use Rattle.cip_application.specs.Objects.{ObjectValues, AllAllowed, after_result, object_set, object_in, objects_set}
 use Rattle.cip_application.specs.Values.{check_value}
 use Rattle.cip_application.proofs.AfterSet.{was_set}
 

@@ -8,14 +8,15 @@ use Rattle.cip_application.specs.declared.attribute.SetFault.TheVariants.{NotEno
 use Rattle.cip_application.specs.declared.config.AttributeConfig.{AttributeConfig}
 use Rattle.cip_application.specs.declared.config.ObjectConfig.{ObjectConfig}
 use Rattle.cip_application.specs.declared.config.ObjectFault.{ObjectFault}
+use Rattle.cip_application.specs.declared.config.ServiceConfig.{ServiceConfig}
 use Rattle.cip_application.specs.declared.kind.AttributeKind.{AttributeKind}
 use Rattle.cip_application.specs.declared.kind.AttributeKind.TheVariants.{Fixed, ShortString}
 use Rattle.cip_application.specs.Check.{demand}
 use Rattle.cip_application.specs.Attributes.{AttributeValues, attribute_at, with_placed, in_order, AreAllowed}
 use Rattle.cip_application.specs.Objects.{position_of, AllAllowed}
 use Rattle.cip_application.specs.Values.{capacity, is_allowed, check_value}
-use Rattle.cip_application.specs.Configuration.{is_taken_class, has_invalid_name, is_invalid_object, has_object, are_invalid_objects, has_invalid_range, is_invalid_kind, is_invalid_attribute, are_invalid_attributes, has_invalid_attributes, total_capacity, fault_of, attribute_of_config, object_of_config, AreOwn, IsBefore, AreInOrder}
-use Rattle.cip_application.specs.Whole.{IsSound}
+use Rattle.cip_application.specs.Configuration.{is_taken_class, has_invalid_name, is_invalid_object, has_object, are_invalid_objects, has_invalid_range, is_invalid_kind, is_invalid_attribute, are_invalid_attributes, has_invalid_attributes, is_invalid_service, are_invalid_services, has_invalid_services, total_capacity, fault_of, attribute_of_config, object_of_config, AreOwn, IsBefore, AreInOrder}
+use Rattle.cip_application.specs.Whole.{IsShort, IsSound}
 
 none_cond : (b : Bool) (x : ObjectFault) (r : Option ObjectFault) → cond b (Some x) r ≡ None → (b ≡ false) × (r ≡ None)
 none_cond true x r e = absurd (cc)
@@ -83,13 +84,31 @@ attribute_fits a e =
     let q = or_false (eqb a.number 0) (is_invalid_kind a.kind) p.0 in
     (check_fits a.kind a.value.items p.1, kind_short a.kind q.1)
 
-object_sound : (o : ObjectConfig) → has_invalid_attributes o ≡ false → IsSound o
-object_sound o e =
+each_service : (xs : List ServiceConfig) → are_invalid_services xs ≡ false → (k : ℕ) (d : ServiceConfig) → k < length xs → IsShort (get_or xs k d)
+each_service [] e k d h = absurd (omega arith)
+each_service (x ∷ xs) e zero d h =
+    let a = or_false (is_invalid_service x || list_any (λ t. eqb t.number x.number) xs) (are_invalid_services xs) e in
+    let b = or_false (is_invalid_service x) (list_any (λ t. eqb t.number x.number) xs) a.0 in
+    let c = or_false (((nat_lt x.number 0x32 || nat_lt 0x63 x.number) || nat_lt x.most x.least) || nat_lt 480 x.most) (nat_lt 480 x.reply) b.0 in
+    let d = or_false ((nat_lt x.number 0x32 || nat_lt 0x63 x.number) || nat_lt x.most x.least) (nat_lt 480 x.most) c.0 in
+    record { asked = at_most 480 x.most d.1; answered = at_most 480 x.reply c.1 }
+each_service (x ∷ xs) e (suc k) d h =
+    let a = or_false (is_invalid_service x || list_any (λ t. eqb t.number x.number) xs) (are_invalid_services xs) e in
+    each_service xs a.1 k d (omega arith)
+
+services_short : (o : ObjectConfig) → has_invalid_services o ≡ false → All IsShort o.services.items
+services_short o e =
+    let p = or_false (nat_lt 16 (length o.services.items)) (are_invalid_services o.services.items) e in
+    λ k d h. each_service o.services.items p.1 k d h
+
+object_sound : (o : ObjectConfig) → has_invalid_attributes o ≡ false → has_invalid_services o ≡ false → IsSound o
+object_sound o e f =
     let p = or_false (nat_lt 32 (length o.attributes.items)) (are_invalid_attributes o.attributes.items) e in
     record {
       few = at_most 32 (length o.attributes.items) p.0;
       fit = λ k d h. (attribute_fits (get_or o.attributes.items k d) (each_attribute o.attributes.items p.1 k d h)).0;
       short = λ k d h. (attribute_fits (get_or o.attributes.items k d) (each_attribute o.attributes.items p.1 k d h)).1;
+      services = services_short o f;
     }
 
 own_object : (counter : Bool) (o : ObjectConfig) → is_invalid_object counter o ≡ false → (is_taken_class counter o.class ≡ false) × (0 < o.class) × (0 < o.instance)
@@ -215,11 +234,12 @@ unfolding fault_of
 sound counter xs e =
     let o = none_cond (nat_lt 32 (length xs) || are_invalid_objects counter xs) _ _ e in
     let a = none_cond (list_any has_invalid_attributes xs || nat_lt 16384 (total_capacity xs)) _ _ o.1 in
+    let s = none_cond (list_any has_invalid_services xs) _ _ a.1 in
     let p = or_false (nat_lt 32 (length xs)) (are_invalid_objects counter xs) o.0 in
     let q = or_false (list_any has_invalid_attributes xs) (nat_lt 16384 (total_capacity xs)) a.0 in
     record {
       few = at_most 32 (length xs) p.0;
-      sound = λ k d h. object_sound (get_or xs k d) (none_any has_invalid_attributes xs q.0 k d h);
+      sound = λ k d h. object_sound (get_or xs k d) (none_any has_invalid_attributes xs q.0 k d h) (none_any has_invalid_services xs s.0 k d h);
       own = own_objects counter xs p.1;
       allowed = objects_allowed xs q.0;
       in_order = each_in_order xs q.0;

@@ -1,11 +1,11 @@
 -- What a set by a peer and a write by the device change, by indices.
-use Rattle.std.proofs.Common.{◌≡◌, ℕ, zero, suc, ◌<◌, List, [], ◌∷◌, length, get_or, set, Option, Some, None, Result, Ok, Err, OnOk, IfErr, option_map, option_and_then, ok_or, unwrap_or, is_some, refl, sym, ap, ◌∙◌}
+use Rattle.std.proofs.Common.{◌≡◌, ℕ, zero, suc, ◌<◌, List, [], ◌∷◌, length, get_or, set, Option, Some, None, Result, Ok, Err, OnOk, OnErr, IfErr, true, false, cond, option_map, option_and_then, ok_or, unwrap_or, is_some, refl, sym, ap, ◌∙◌}
 use Rattle.cip_bytes.specs.Reading.{◌>>=◌, ◌>>◌, map_ok}
 use Rattle.cip_application.specs.declared.attribute.SetFault.{SetFault}
 use Rattle.cip_application.specs.declared.attribute.SetFault.TheVariants.{AttributeNotSettable, AttributeNotSupported}
-use Rattle.cip_application.specs.Attributes.{AttributeValues, attribute_at, attribute_set, attribute_write, one_more}
+use Rattle.cip_application.specs.Attributes.{AttributeValues, attribute_at, attribute_set, attribute_write, needs_approval, one_more}
 use Rattle.cip_application.specs.Check.{demand}
-use Rattle.cip_application.specs.Objects.{ObjectValues, IsAttributeAt, object_with, object_set, object_write, position_of, object_in, objects_set, objects_write}
+use Rattle.cip_application.specs.Objects.{ObjectValues, IsAttributeAt, object_with, object_set, object_write, position_of, object_in, objects_set, after_result, objects_approved, objects_write}
 use Rattle.cip_application.specs.Values.{check_value, written_value}
 use Rattle.cip_application.proofs.Lookup.{same_get}
 
@@ -83,7 +83,7 @@ some_mapped f None = refl
 some_mapped f (Some x) = refl
 
 -- the objects, by the index of one
-here : (objects : List ObjectValues) (k : ℕ) (o : ObjectValues) → k < length objects → o ≡ get_or objects k o → object_in objects k ≡ o
+pub here : (objects : List ObjectValues) (k : ℕ) (o : ObjectValues) → k < length objects → o ≡ get_or objects k o → object_in objects k ≡ o
 here objects k o lt is = same_get objects k _ o lt ∙ sym is
 
 pub objects_set_ok : (objects : List ObjectValues) (k n : ℕ) (content : List ℕ) (o p : ObjectValues) → k < length objects → o ≡ get_or objects k o → object_set o n content ≡ Ok p → objects_set objects k n content ≡ Ok (set objects k p)
@@ -95,6 +95,19 @@ pub objects_set_err : (objects : List ObjectValues) (k n : ℕ) (content : List 
 unfolding objects_set
 objects_set_err objects k n content o fault lt is e =
     ap (λ x. map_ok (set objects k) (object_set x n content)) (here objects k o lt is) ∙ ap (map_ok (set objects k)) e
+
+-- a set that the owner approved
+pub approved_set : (m new : List ObjectValues) (k n : ℕ) (content : List ℕ) (r : Result (Unit {0}) SetFault) → needs_approval (attribute_at n (object_in m k).attributes) ≡ true → OnOk r (objects_set m k n content ≡ Ok new) → IfErr r (λ fault. objects_set m k n content ≡ Err fault) → OnErr r (new ≡ m) → new ≡ objects_approved m k n content
+unfolding objects_approved
+approved_set m new k n content (Ok u) t ok err same =
+    sym (ap (λ b. cond b (after_result m (objects_set m k n content)) m) t ∙ ap (after_result m) ok)
+approved_set m new k n content (Err f) t ok err same =
+    same ∙ sym (ap (λ b. cond b (after_result m (objects_set m k n content)) m) t ∙ ap (after_result m) err)
+
+pub approved_nothing : (m : List ObjectValues) (k n : ℕ) (content : List ℕ) → needs_approval (attribute_at n (object_in m k).attributes) ≡ false → m ≡ objects_approved m k n content
+unfolding objects_approved
+approved_nothing m k n content f =
+    sym (ap (λ b. cond b (after_result m (objects_set m k n content)) m) f)
 
 pub write_nowhere : (objects : List ObjectValues) (class instance n offset : ℕ) (bytes : List ℕ) → position_of class instance objects ≡ None → objects_write objects class instance n offset bytes ≡ None
 unfolding objects_write

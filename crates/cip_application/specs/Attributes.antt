@@ -27,6 +27,16 @@ abbrev pub can_be_set : Option AttributeValues → Bool
 can_be_set None = false
 can_be_set (Some a) = a.settable && not a.checked
 
+-- Whether peers can set the attribute only if the owner of the device approves.
+abbrev pub needs_approval : Option AttributeValues → Bool
+needs_approval None = false
+needs_approval (Some a) = a.settable && a.checked
+
+-- The checks of such a set before the owner is asked. None if the attribute is not set in this way.
+abbrev pub check_before_asking : Option AttributeValues → List ℕ → Option (Result (Unit {0}) SetFault)
+check_before_asking None content = None
+check_before_asking (Some a) content = if a.settable && a.checked then Some (check_value a.kind content) else None
+
 -- The attributes with this one in place of the first with its number.
 abbrev pub with_attribute : AttributeValues → List AttributeValues → List AttributeValues
 with_attribute a [] = []

@@ -1,7 +1,6 @@
 -- What holds of every set, in terms of objects, attributes and values.
-use Rattle.std.specs.Prelude.{◌≡◌, ◌<◌, ℕ, List, [], ◌∷◌, length, Some, Result, Ok, Err}
-use Rattle.cip_application.specs.declared.attribute.SetFault.{SetFault}
-use Rattle.cip_application.specs.Objects.{ObjectValues, AllAllowed, value_in, object_in, objects_set}
+use Rattle.std.specs.Prelude.{◌≡◌, ◌<◌, ℕ, List, [], ◌∷◌, length, Some, Ok}
+use Rattle.cip_application.specs.Objects.{ObjectValues, AllAllowed, value_in, object_in, objects_set, after_result}
 
 -- After a set that is executed, the attribute has the value that was set.
 abbrev pub get_after_set_law : Type 0
@@ -23,10 +22,6 @@ pub record Setting : Type 0 where
   pub position : ℕ
   pub number : ℕ
   pub content : List ℕ
-
-abbrev pub after_result : List ObjectValues → Result (List ObjectValues) SetFault → List ObjectValues
-after_result objects (Ok after) = after
-after_result objects (Err fault) = objects
 
 -- The objects after these sets, one after another. A refused set changes nothing.
 abbrev pub after_sets : List ObjectValues → List Setting → List ObjectValues

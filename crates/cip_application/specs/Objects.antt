@@ -2,14 +2,14 @@
 -- model). The first object of a class and an instance number serves, and the first attribute of a number.
 use Rattle.std.specs.Prelude.{◌≡◌, ◌<◌, ℕ, ◌+◌, Bool, ◌==◌, ◌&&◌, if◌then◌else◌, List, [], ◌∷◌, length, max}
 use Rattle.std.specs.Prelude.{slice_index_or, slice_set, Option, Some, None, option_map, option_and_then, ok_or}
-use Rattle.std.specs.Prelude.{Result, Ok}
+use Rattle.std.specs.Prelude.{Result, Ok, Err}
 use Rattle.cip_bytes.specs.Reading.{◌>>=◌, map_ok}
 use Rattle.cip_application.specs.declared.application.ClassSummary.{ClassSummary}
 use Rattle.cip_application.specs.declared.attribute.SetFault.{SetFault}
 use Rattle.cip_application.specs.declared.attribute.SetFault.TheVariants.{AttributeNotSupported}
 use Rattle.cip_application.specs.declared.config.ServiceConfig.{ServiceConfig}
 use Rattle.cip_application.specs.Attributes.{AttributeValues, attribute_at, with_attribute, attribute_set}
-use Rattle.cip_application.specs.Attributes.{attribute_write, AreAllowed}
+use Rattle.cip_application.specs.Attributes.{attribute_write, needs_approval, AreAllowed}
 
 pub record ObjectValues : Type 0 where
   pub class : ℕ
@@ -73,6 +73,19 @@ changes_of objects class instance number =
 unfoldable pub objects_set : List ObjectValues → ℕ → ℕ → List ℕ → Result (List ObjectValues) SetFault
 objects_set objects position number content =
     map_ok (slice_set objects position) (object_set (object_in objects position) number content)
+
+-- The objects after a set that may be refused. A refused set changes nothing.
+abbrev pub after_result : List ObjectValues → Result (List ObjectValues) SetFault → List ObjectValues
+after_result objects (Ok after) = after
+after_result objects (Err fault) = objects
+
+-- The objects after the owner of the device approved a set. Only an attribute whose sets need that is set so, and only
+-- to a value that it may have.
+unfoldable pub objects_approved : List ObjectValues → ℕ → ℕ → List ℕ → List ObjectValues
+objects_approved objects position number content =
+    if needs_approval (attribute_at number (object_in objects position).attributes) then
+    after_result objects (objects_set objects position number content)
+    else objects
 
 -- The objects after the device itself wrote these bytes into an attribute, from an offset on. None if there is no such
 -- attribute, or if its value cannot hold them.

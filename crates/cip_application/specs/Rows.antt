@@ -8,10 +8,11 @@ use Rattle.cip_application.specs.declared.kind.AttributeKind.TheVariants.{Fixed,
 use Rattle.cip_application.specs.declared.number.NumberRange.{NumberRange}
 use Rattle.cip_application.specs.declared.number.NumberType.{NumberType}
 use Rattle.cip_application.specs.declared.number.NumberType.TheVariants.{Uint, Sint, Int, Lint, Real, Lreal}
-use Rattle.cip_application.specs.Attributes.{AttributeValues, in_order}
+use Rattle.cip_application.specs.Attributes.{AttributeValues, check_before_asking, in_order}
 use Rattle.cip_application.specs.Configuration.{is_taken_class, is_invalid_name, is_invalid_kind, is_invalid_service}
 use Rattle.cip_application.specs.Numbers.{is_at_most, is_within, are_within, numbers_of}
-use Rattle.cip_application.specs.Objects.{ObjectValues, object_set, object_write, position_of, class_of}
+use Rattle.cip_application.specs.Objects.{ObjectValues, object_set, object_write, objects_set, objects_approved}
+use Rattle.cip_application.specs.Objects.{position_of, class_of}
 use Rattle.cip_application.specs.Values.{check_value, written_value}
 
 abbrev pub range : NumberType → ℕ → ℕ → NumberRange
@@ -188,6 +189,76 @@ set_of_three = refl
 pub write_of_seven : object_write conveyor 7 1 (3 ∷ []) ≡
     Some (record conveyor { attributes = setpoint ∷ record limit { value = 1 ∷ 3 ∷ [] } ∷ [] })
 write_of_seven = refl
+
+-- A checked setpoint: the data must have its size and a value in its range before the owner is asked.
+abbrev pub approved : AttributeValues
+approved = record setpoint { checked = true }
+
+pub asked_short : check_before_asking (Some approved) (0xff ∷ []) ≡ Some (Err NotEnoughData)
+asked_short = refl
+
+pub asked_long : check_before_asking (Some approved) (0xff ∷ 0xff ∷ 0xff ∷ []) ≡ Some (Err TooMuchData)
+asked_long = refl
+
+pub asked_above : check_before_asking (Some approved) (0xb9 ∷ 0x0b ∷ []) ≡ Some (Err InvalidAttributeValue)
+unfolding numbers_of is_at_most
+asked_above = refl
+
+pub asked_greatest : check_before_asking (Some approved) (0xb8 ∷ 0x0b ∷ []) ≡ Some (Ok tt)
+unfolding numbers_of is_at_most
+asked_greatest = refl
+
+-- Of a checked UINT[2], the last element counts. Of a checked SHORT_STRING, the size comes before the room.
+abbrev pub approved_two : AttributeValues
+approved_two = record approved { kind = Fixed 4 (Some (range Uint 0 3000)) }
+
+abbrev pub approved_text : AttributeValues
+approved_text = record approved { kind = ShortString 2 }
+
+pub asked_array : check_before_asking (Some approved_two) (0 ∷ 0 ∷ 0xb9 ∷ 0x0b ∷ []) ≡
+    Some (Err InvalidAttributeValue)
+unfolding numbers_of is_at_most
+asked_array = refl
+
+pub asked_text_over_its_room : check_before_asking (Some approved_text) (3 ∷ 0x61 ∷ 0x62 ∷ 0x63 ∷ []) ≡
+    Some (Err InvalidAttributeValue)
+asked_text_over_its_room = refl
+
+pub asked_text_too_short : check_before_asking (Some approved_text) (3 ∷ 0x61 ∷ 0x62 ∷ []) ≡
+    Some (Err NotEnoughData)
+asked_text_too_short = refl
+
+-- Nobody is asked about an attribute that is not checked, not settable, or not there.
+pub asked_unchecked : check_before_asking (Some setpoint) (0 ∷ 0 ∷ []) ≡ None
+asked_unchecked = refl
+
+pub asked_unsettable : check_before_asking (Some (record approved { settable = false })) (0 ∷ 0 ∷ []) ≡ None
+asked_unsettable = refl
+
+pub asked_nowhere : check_before_asking None (0 ∷ 0 ∷ []) ≡ None
+asked_nowhere = refl
+
+-- An approved set changes one attribute, and counts. It stores no value that the attribute may not have, and none in an
+-- attribute that needs no approval.
+abbrev pub line : ObjectValues
+line = record conveyor { attributes = approved ∷ limit ∷ [] }
+
+pub approved_set : objects_approved (line ∷ []) 0 2 (5 ∷ 0 ∷ []) ≡
+    record line { attributes = record approved { value = 5 ∷ 0 ∷ []; changes = 5 } ∷ limit ∷ [] } ∷ []
+unfolding objects_approved objects_set numbers_of is_at_most
+approved_set = refl
+
+pub approved_above : objects_approved (line ∷ []) 0 2 (0xb9 ∷ 0x0b ∷ []) ≡ line ∷ []
+unfolding objects_approved objects_set numbers_of is_at_most
+approved_above = refl
+
+pub approved_unchecked : objects_approved (conveyor ∷ []) 0 2 (5 ∷ 0 ∷ []) ≡ conveyor ∷ []
+unfolding objects_approved
+approved_unchecked = refl
+
+pub approved_unsettable : objects_approved (line ∷ []) 0 7 (5 ∷ 0 ∷ []) ≡ line ∷ []
+unfolding objects_approved
+approved_unsettable = refl
 
 -- Objects of two classes.
 abbrev pub second : ObjectValues

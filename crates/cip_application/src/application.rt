@@ -5,14 +5,16 @@ ghost use Rattle.std.specs.Prelude.{option_copied, unwrap_or, is_some, slice_ind
 ghost use Rattle.std.specs.List.{All};
 ghost use Rattle.std.specs.Box.{boxed_slice_items};
 ghost use Rattle.cip_application.specs.Attributes.{AttributeValues, attribute_at, can_be_set};
+ghost use Rattle.cip_application.specs.Attributes.{check_before_asking};
 ghost use Rattle.cip_application.specs.Configuration.{fault_of, objects_of_config, object_of_config, AreOwn};
 ghost use Rattle.cip_application.specs.Configuration.{AreInOrder};
 ghost use Rattle.cip_application.specs.Objects.{position_of, object_in, value_in, value_of, service_in, objects_set};
-ghost use Rattle.cip_application.specs.Objects.{objects_write, changes_of, class_of, AllAllowed};
+ghost use Rattle.cip_application.specs.Objects.{objects_write, objects_approved, changes_of, class_of};
+ghost use Rattle.cip_application.specs.Objects.{AllAllowed};
 ghost use Rattle.cip_application.specs.Whole.{IsSound};
 
 use crate::attribute::SetFault;
-use crate::config::{ObjectConfig, ObjectFault, ServiceConfig, fault};
+use crate::config::{ObjectConfig, ObjectFault, SERVICE_DATA_LIMIT, ServiceConfig, fault};
 use crate::kind::VALUE_LIMIT;
 use crate::object::Object;
 use std::alloc::{AllocError, Global};
@@ -152,10 +154,46 @@ impl ApplicationObjects {
         self.objects[position].set(number, data)
     }
 
-    /// The own service of the object at an index that has this number.
+    /// The checks of a set of an attribute of the object at an index before the owner of the device is asked: the size
+    /// of the data, then the value. `None` if the object has no such attribute, or if a set of it does not need the
+    /// owner's approval. Nothing is stored.
+    ///
+    /// ```
+    /// // the speed is a UINT up to 3,000, settable and checked
+    /// let refused = objects.check_before_asking(0, 1, &[0xff, 0xff]); // Some(Err(SetFault::InvalidAttributeValue))
+    /// ```
+    pub fn check_before_asking(
+        &self,
+        position: usize,
+        number: u16,
+        data: &[u8],
+    ) -> Option<Result<(), SetFault>>
+        requires { position < length self.now }
+        ensures checks { result
+            ≡ check_before_asking (attribute_at number (object_in self.now position).attributes) data.now }
+        ensures short { IfSome result (λ r. OnOk r (length data.now ≤ VALUE_LIMIT)) }
+    {
+        self.objects[position].check_before_asking(number, data)
+    }
+
+    /// Stores a set that the owner of the device approved, and counts it. Nothing changes if the object at the index
+    /// has no such attribute, if a set of it does not need approval, or if it may not have this value.
+    pub fn store_checked(&mut self, position: usize, number: u16, data: &[u8])
+        requires { position < length self.old }
+        ensures { self.new ≡ objects_approved self.old position number data.now }
+    {
+        if self.objects[position].needs_approval(number) {
+            let _ = self.set(position, number, data);
+        }
+    }
+
+    /// The own service of the object at an index that has this number. Its data, and those of its reply, have at most
+    /// 480 bytes.
     pub fn service(&self, position: usize, number: u8) -> Option<ServiceConfig>
         requires { position < length self.now }
-        ensures { result ≡ service_in number (object_in self.now position).services }
+        ensures service { result ≡ service_in number (object_in self.now position).services }
+        ensures short { IfSome result (λ s. s.most ≤ SERVICE_DATA_LIMIT) }
+        ensures answered { IfSome result (λ s. s.reply ≤ SERVICE_DATA_LIMIT) }
     {
         self.objects[position].service(number)
     }

@@ -1,9 +1,10 @@
 //! An attribute of an application object: its value in memory of a fixed size, and how often peers set it.
 //! Text: docs/PROTOCOL.md, "Objects".
-ghost use Rattle.std.specs.Prelude.{◌≡◌, ◌≤◌, ◌+◌, IfOk, IfErr, OnErr, OnOk, Ok, Err, length, unwrap_or, is_some};
+ghost use Rattle.std.specs.Prelude.{◌≡◌, ◌≤◌, ◌+◌, IfOk, IfErr, IfSome, OnErr, OnOk, Ok, Err, length, unwrap_or};
+ghost use Rattle.std.specs.Prelude.{is_some, Some};
 ghost use Rattle.std.specs.Prelude.{◌&&◌, nat_le, not};
 ghost use Rattle.cip_application.specs.Values.{capacity, with_bytes_at};
-ghost use Rattle.cip_application.specs.Attributes.{attribute_set, attribute_write};
+ghost use Rattle.cip_application.specs.Attributes.{attribute_set, attribute_write, check_before_asking};
 
 use crate::kind::{AttributeKind, VALUE_LIMIT};
 use std::alloc::{AllocError, Global};
@@ -126,6 +127,24 @@ impl Attribute {
         ensures { result ≡ self.now.settable && not self.now.checked }
     {
         self.settable && !self.checked
+    }
+
+    /// Whether peers can set it only if the owner of the device approves.
+    pub(crate) fn needs_approval(&self) -> bool
+        ensures { result ≡ self.now.settable && self.now.checked }
+    {
+        self.settable && self.checked
+    }
+
+    /// The checks of a set before the owner is asked, or `None` if a set does not need the owner's approval.
+    pub(crate) fn check_before_asking(&self, data: &[u8]) -> Option<Result<(), SetFault>>
+        ensures checks { result ≡ check_before_asking (Some self.now) data.now }
+        ensures short { IfSome result (λ r. OnOk r (length data.now ≤ VALUE_LIMIT)) }
+    {
+        if !self.needs_approval() {
+            return None;
+        }
+        Some(self.kind.check(data))
     }
 
     /// How often peers set it, modulo 2^32.

@@ -30,8 +30,8 @@ const NAME_LIMIT: usize = 32;
 /// The most bytes of all values together (our choice).
 const CAPACITY_LIMIT: usize = 16_384;
 
-/// The most bytes of a service's data, and of its reply's (our choice).
-const SERVICE_DATA_LIMIT: u16 = 480;
+/// The most bytes of an own service's data, and of its reply's (our choice).
+pub const SERVICE_DATA_LIMIT: usize = 480;
 
 /// The class of the command ledger (our choice).
 const LEDGER: u16 = 0x65;
@@ -339,8 +339,8 @@ fn is_invalid_service(service: &ServiceConfig) -> bool
     service.number < 0x32
         || service.number > 0x63
         || service.most < service.least
-        || service.most > SERVICE_DATA_LIMIT
-        || service.reply > SERVICE_DATA_LIMIT
+        || usize::from(service.most) > SERVICE_DATA_LIMIT
+        || usize::from(service.reply) > SERVICE_DATA_LIMIT
 }
 
 /// Whether a service is invalid, or has the number of another.

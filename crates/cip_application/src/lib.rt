@@ -23,6 +23,8 @@ mod object;
 
 pub use application::{ApplicationObjects, ClassSummary};
 pub use attribute::SetFault;
-pub use config::{AttributeConfig, ObjectConfig, ObjectFault, ServiceConfig, fault};
+pub use config::{
+    AttributeConfig, ObjectConfig, ObjectFault, SERVICE_DATA_LIMIT, ServiceConfig, fault,
+};
 pub use kind::{AttributeKind, VALUE_LIMIT};
 pub use number::{NumberRange, NumberType};

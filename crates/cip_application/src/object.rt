@@ -6,12 +6,16 @@ ghost use Rattle.std.specs.Prelude.{slice_index_or};
 ghost use Rattle.std.specs.List.{All};
 ghost use Rattle.std.specs.Box.{boxed_slice_items};
 ghost use Rattle.cip_application.specs.Attributes.{AttributeValues, attribute_at, can_be_set, with_placed, in_order};
+ghost use Rattle.cip_application.specs.Attributes.{needs_approval, check_before_asking};
 ghost use Rattle.cip_application.specs.Configuration.{attribute_of_config, object_of_config};
 ghost use Rattle.cip_application.specs.Objects.{value_in, service_in, object_set, object_write, IsAttributeAt};
 ghost use Rattle.cip_application.specs.Values.{capacity};
+ghost use Rattle.cip_application.specs.Whole.{IsShort};
 
 use crate::attribute::{Attribute, SetFault};
-use crate::config::{ATTRIBUTE_LIMIT, AttributeConfig, ObjectConfig, ServiceConfig};
+use crate::config::{
+    ATTRIBUTE_LIMIT, AttributeConfig, ObjectConfig, SERVICE_DATA_LIMIT, ServiceConfig,
+};
 use crate::kind::VALUE_LIMIT;
 use std::alloc::{AllocError, Global};
 use std::boxed::BoxedSlice;
@@ -42,6 +46,11 @@ impl Model for Object {
       attributes = boxed_slice_items o.attributes;
       services = boxed_slice_items o.services;
     } };
+
+    ghost use Rattle.std.specs.List.{All};
+    ghost use Rattle.cip_application.specs.Whole.{IsShort};
+
+    ghost invariant = { λ o. All IsShort (boxed_slice_items o.services) };
 }
 
 impl Object {
@@ -50,6 +59,7 @@ impl Object {
         requires few { length config.now.attributes.items ≤ ATTRIBUTE_LIMIT }
         requires fit { All (λ a. length a.value.items ≤ capacity a.kind) config.now.attributes.items }
         requires short { All (λ a. capacity a.kind ≤ VALUE_LIMIT) config.now.attributes.items }
+        requires services { All IsShort config.now.services.items }
         ensures { IfOk result (λ o. o ≡ object_of_config config.now) }
     {
         Ok(Object {
@@ -109,6 +119,30 @@ impl Object {
         }
     }
 
+    /// Whether peers can set the attribute with this number only if the owner of the device approves.
+    pub(crate) fn needs_approval(&self, number: u16) -> bool
+        ensures { result ≡ needs_approval (attribute_at number self.now.attributes) }
+    {
+        match attribute_index(&self.attributes, number) {
+            Some(index) => self.attributes[index].needs_approval(),
+            None => false,
+        }
+    }
+
+    /// The checks of a set of the attribute with this number before the owner is asked, or `None` if a set does not
+    /// need the owner's approval.
+    pub(crate) fn check_before_asking(
+        &self,
+        number: u16,
+        data: &[u8],
+    ) -> Option<Result<(), SetFault>>
+        ensures checks { result ≡ check_before_asking (attribute_at number self.now.attributes) data.now }
+        ensures short { IfSome result (λ r. OnOk r (length data.now ≤ VALUE_LIMIT)) }
+    {
+        let index = attribute_index(&self.attributes, number)?;
+        self.attributes[index].check_before_asking(data)
+    }
+
     /// How often peers set the attribute with this number, modulo 2^32.
     pub(crate) fn changes(&self, number: u16) -> Option<u32>
         ensures { result ≡ option_map (λ a. a.changes) (attribute_at number self.now.attributes) }
@@ -147,7 +181,9 @@ impl Object {
 
     /// The own service with this number.
     pub(crate) fn service(&self, number: u8) -> Option<ServiceConfig>
-        ensures { result ≡ service_in number self.now.services }
+        ensures service { result ≡ service_in number self.now.services }
+        ensures short { IfSome result (λ s. s.most ≤ SERVICE_DATA_LIMIT) }
+        ensures answered { IfSome result (λ s. s.reply ≤ SERVICE_DATA_LIMIT) }
     {
         for service in self.services.iter() {
             if service.number == number {

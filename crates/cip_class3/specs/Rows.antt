@@ -1,7 +1,7 @@
 -- Worked examples of the two rules.
 use Rattle.std.specs.Prelude.{◌≡◌, ℕ, true, false, Some, None, List, [], ◌∷◌, replicate, refl}
 use Rattle.cip_class3.specs.Item.{item, sequence_count_of}
-use Rattle.cip_class3.specs.TargetRule.{is_held}
+use Rattle.cip_class3.specs.TargetRule.{TargetState, target_at_opening, is_held, execution_limit}
 use Rattle.cip_class3.specs.OriginatorRule.{OriginatorState, Waiting, originator_at_opening, submit_refusal}
 use Rattle.cip_class3.specs.OriginatorRule.{with_next_request, is_reply, after_give_up, after_item}
 use Rattle.cip_class3.specs.declared.originator.Refused.TheVariants.{Busy, TooLong, NoRequest, TooManyAbandoned}
@@ -23,6 +23,23 @@ is_held-nothing = refl
 
 pub is_held-zero : (reply : List ℕ) → is_held (Some (record { sequence_count = 0; reply = reply })) 0 ≡ true
 is_held-zero reply = refl
+
+abbrev pub after_count_one : TargetState
+after_count_one = record (target_at_opening 12 500) { held = Some (record { sequence_count = 1; reply = [] }) }
+
+-- A request with another count would be executed, with up to 498 bytes of reply.
+pub execution_limit-another : execution_limit after_count_one (item 2 add_five) ≡ Some 498
+execution_limit-another = refl
+
+pub execution_limit-repeat : execution_limit after_count_one (item 1 add_five) ≡ None
+execution_limit-repeat = refl
+
+-- The item has 12 bytes, which fit the O->T size. With 13 it is dropped, and with 3.
+pub execution_limit-long : execution_limit after_count_one (item 2 (5 ∷ add_five)) ≡ None
+execution_limit-long = refl
+
+pub execution_limit-short : execution_limit after_count_one (item 2 (5 ∷ [])) ≡ None
+execution_limit-short = refl
 
 abbrev pub idle : OriginatorState
 idle = originator_at_opening 65535 500 500

@@ -38,6 +38,14 @@ is_held (Some kept) sequence_count = kept.sequence_count == sequence_count
 abbrev pub has_accepted_size : TargetState → List ℕ → Bool
 has_accepted_size target bytes = nat_le 4 (length bytes) && nat_le (length bytes) target.o_to_t_size
 
+-- The limit on the reply with which an item's request would be executed. None if the item would be dropped or is a
+-- repeat.
+abbrev pub execution_limit : TargetState → List ℕ → Option ℕ
+execution_limit target bytes =
+    if has_accepted_size target bytes then
+    (if is_held target.held (sequence_count_of bytes) then None else Some (max_reply_size target))
+    else None
+
 -- What a target did with an item, and the target and the router after it.
 pub record TargetStep (M : Type 0) : Type 0 where
   pub received : Received

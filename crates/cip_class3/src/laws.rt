@@ -2,9 +2,10 @@
 //!
 //! The functions do nothing: their clauses are the laws.
 
-ghost use Rattle.std.specs.Prelude.{◌≡◌, ℕ, ◌+◌, ◌%◌, ◌<◌, ◌≤◌, ◌^◌, List, length, slice_index};
-ghost use Rattle.cip_class3.specs.Item.{NeighboursDiffer};
-ghost use Rattle.cip_class3.specs.TargetRule.{TargetState, max_reply_size};
+ghost use Rattle.std.specs.Prelude.{◌≡◌, ℕ, ◌+◌, ◌%◌, ◌<◌, ◌≤◌, ◌^◌, List, length, slice_index, IfSome, IfNone};
+ghost use Rattle.cip_class3.specs.Item.{message_of, NeighboursDiffer};
+ghost use Rattle.cip_class3.specs.TargetRule.{TargetState, max_reply_size, execution_limit, target_step};
+ghost use Rattle.cip_class3.specs.declared.target.Received.TheVariants.{Executed};
 ghost use Rattle.cip_class3.specs.Deliveries.{Delivery, AreDelivered, items_of, requests_of, router_after, answers_to};
 ghost use Rattle.cip_class3.specs.Deliveries.{router_after_requests, answers_once};
 ghost use Rattle.cip_class3.specs.OriginatorRule.{originator_at_opening, MOST_UNACCEPTED};
@@ -28,6 +29,19 @@ pub fn each_request_once<R: Router>()
         AreDelivered target deliveries →
         answers_to R.after R.answer target router (items_of deliveries)
         ≡ answers_once R.after R.answer (max_reply_size target) router deliveries }
+{}
+
+/// `Target::would_execute` says what `Target::receive` does with the item: it executes the request with this limit, or
+/// executes nothing and leaves the router as it is.
+pub fn execution_foreseen<R: Router>()
+    ensures executed { (target : TargetState) (router : R) (bytes : List ℕ) →
+        IfSome (execution_limit target bytes) (λ max_size.
+        ((target_step R.after R.answer target router bytes).received ≡ Executed)
+        × ((target_step R.after R.answer target router bytes).router ≡ R.after router max_size (message_of bytes))) }
+    ensures not_executed { (target : TargetState) (router : R) (bytes : List ℕ) →
+        IfNone (execution_limit target bytes)
+        (((target_step R.after R.answer target router bytes).received ≡ Executed → ⊥)
+        × ((target_step R.after R.answer target router bytes).router ≡ router)) }
 {}
 
 /// The originator's requests have consecutive sequence counts, whatever the calls: the n-th request, from 0, has

@@ -10,8 +10,8 @@ ghost use Rattle.cip_class3.specs.Item.{message_of};
 use arrayvec::ArrayVec;
 use byteorder::{ByteOrder, LittleEndian};
 use cip_bytes::protocol::{
-    LARGEST_CONNECTION_SIZE, SEQUENCE_COUNT_SIZE, SMALLEST_O_TO_T_SIZE, SMALLEST_REQUEST,
-    SMALLEST_T_TO_O_SIZE,
+    LARGEST_CONNECTION_SIZE, REPLY_LIMIT, SEQUENCE_COUNT_SIZE, SMALLEST_O_TO_T_SIZE,
+    SMALLEST_REQUEST, SMALLEST_T_TO_O_SIZE,
 };
 use cip_objects::{ReplyBuf, Router};
 use std::marker::Model;
@@ -68,7 +68,7 @@ impl Model for Target {
 
 impl Target {
     ghost use Rattle.cip_class3.specs.TargetRule.{target_at_opening, step_of, target_step, IsAccepted, IsRepeat};
-    ghost use Rattle.cip_class3.specs.TargetRule.{HasNewCount};
+    ghost use Rattle.cip_class3.specs.TargetRule.{HasNewCount, execution_limit};
 
     /// The target's end of a connection that was just opened. It holds nothing.
     ///
@@ -118,6 +118,37 @@ impl Target {
         router.execute(&item[SEQUENCE_COUNT_SIZE..], max_size, &mut self.reply);
         self.held = Some(sequence_count);
         Received::Executed
+    }
+
+    /// The limit on the reply with which `receive` would execute this item's request, in bytes: the `max_size` of the
+    /// router's `execute`. `None` if `receive` would drop the item, or answer it as a repeat.
+    ///
+    /// ```
+    /// if let Some(max_size) = target.would_execute(item) {
+    ///     prepare(&item[2..], max_size); // the request, which `receive` executes next
+    /// }
+    /// assert_eq!(rt; target.receive(objects, item), Received::Executed);
+    /// assert!(rt; target.would_execute(item).is_none()); // it is a repeat now
+    /// ```
+    pub fn would_execute(&self, item: &[u8]) -> Option<usize>
+        ensures limit { result ≡ execution_limit self.now item.now }
+        // Only an item that is accepted and has a new count, and every such item.
+        ensures only { IfSome result (λ max_size. IsAccepted self.now item.now × HasNewCount self.now item.now) }
+        ensures every { IsAccepted self.now item.now → HasNewCount self.now item.now →
+            result ≡ Some (self.now.t_to_o_size - 2) }
+        // What `Router::execute` requires.
+        ensures from { IfSome result (λ max_size. 8 ≤ max_size) }
+        ensures to { IfSome result (λ max_size. max_size ≤ REPLY_LIMIT) }
+    {
+        let smallest = SEQUENCE_COUNT_SIZE + SMALLEST_REQUEST;
+        let largest = usize::from(self.o_to_t_size);
+        if item.len() < smallest || item.len() > largest {
+            return None;
+        }
+        if self.held == Some(LittleEndian::read_u16(item)) {
+            return None;
+        }
+        Some(usize::from(self.t_to_o_size) - SEQUENCE_COUNT_SIZE)
     }
 
     /// The held sequence count and reply, which answer the last request. `None` before the first execution.

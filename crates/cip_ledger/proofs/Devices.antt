@@ -1,10 +1,9 @@
 -- The objects with a ledger before them: every reply is well-formed, and which requests change nothing.
 use Rattle.std.proofs.Common.{◌≡◌, ℕ, ◌≤◌, ◌==◌, Bool, true, false, if◌then◌else◌, None, Option, Some, inr, List, [], ◌∷◌, ◌++◌, length, slice_index, Ok, refl, ap, ◌∙◌, arith}
 use Rattle.std.proofs.lemmas.Bool.{eqb-true}
-use Rattle.cip_objects.specs.Contents.{Contents}
-use Rattle.cip_objects.specs.Execution.{exec}
-use Rattle.cip_objects.specs.ExecutionLaws.{exec_begins, exec_within}
 use Rattle.cip_objects.specs.Router.{IsReplyTo, RepliesWellFormed}
+use Rattle.cip_owner.specs.Owned.{OwnedState, exec_owned}
+use Rattle.cip_owner.specs.OwnedLaws.{exec_owned_begins, exec_owned_within}
 use Rattle.cip_message.specs.declared.path.Path.{Path}
 use Rattle.cip_message.specs.PathReading.{path_of}
 use Rattle.cip_message.specs.Request.{Request as Spelled, request_of}
@@ -18,16 +17,16 @@ use Rattle.cip_ledger.specs.Device.{Device, exec_device, run}
 use Rattle.cip_ledger.proofs.Fates.{Means, fate-means}
 use Rattle.cip_ledger.proofs.Forms.{in-form, passes}
 
-abbrev pub after : Contents → ℕ → List ℕ → Contents
-after objects max_size request = (exec objects max_size request).after
+abbrev pub after : OwnedState → ℕ → List ℕ → OwnedState
+after objects max_size request = (exec_owned objects max_size request).after
 
-abbrev pub answer : Contents → ℕ → List ℕ → List ℕ
-answer objects max_size request = (exec objects max_size request).answer
+abbrev pub answer : OwnedState → ℕ → List ℕ → List ℕ
+answer objects max_size request = (exec_owned objects max_size request).answer
 
 form : RepliesWellFormed answer
 form = record {
-  begins = λ objects max_size request least enough. exec_begins objects max_size request;
-  within = λ objects max_size request least enough. exec_within objects max_size request least;
+  begins = λ objects max_size request least enough. exec_owned_begins objects max_size request;
+  within = λ objects max_size request least enough. exec_owned_within objects max_size request least;
 }
 
 pub exec_device-begins : (device : Device) (max_size : ℕ) (request : List ℕ) → 8 ≤ max_size → 2 ≤ length request →
@@ -36,7 +35,7 @@ exec_device-begins device max_size request least enough = (in-form after answer 
 
 within-by : (f : Fate) (device : Device) (request : Request) → Means device.ledger request f → 8 ≤ request.0 →
     length (turn_by after answer f device.ledger device.router request.0 request.1).answer ≤ request.0
-within-by Passed device request means least = exec_within device.router request.0 request.1 least
+within-by Passed device request means least = exec_owned_within device.router request.0 request.1 least
 within-by (Served service (Replies reply)) device request means least =
     let fits = means.means.fits least in omega (arith, fits)
 within-by (Served service (Executes command)) device request means least =
@@ -47,7 +46,7 @@ within-by (Served service (Executes command)) device request means least =
     embedded : (barred : Bool) →
         length (if barred then reply_to (slice_index command.request 0) (refusal statuses.ServiceNotSupported) else answer device.router KEPT_LIMIT command.request) ≤ KEPT_LIMIT
     embedded true = omega arith
-    embedded false = exec_within device.router KEPT_LIMIT command.request (omega arith)
+    embedded false = exec_owned_within device.router KEPT_LIMIT command.request (omega arith)
 within-by (Served service (Frees freed)) device request means least = omega (arith, least)
 
 pub exec_device-within : (device : Device) (max_size : ℕ) (request : List ℕ) → 8 ≤ max_size →
@@ -57,10 +56,10 @@ exec_device-within device max_size request least =
 
 -- a request that is not to the ledger and leaves the objects as they are leaves the device as it is
 pub exec_device-passed : (device : Device) (max_size : ℕ) (request : List ℕ) → ledger_request request ≡ None →
-    (exec device.router max_size request).after ≡ device.router → (exec_device device max_size request).after ≡ device
+    (exec_owned device.router max_size request).after ≡ device.router → (exec_device device max_size request).after ≡ device
 exec_device-passed device max_size request other same =
-    ap (λ (done : Turn Contents). node_of done) (passes after answer device (max_size, request) (inr other))
-    ∙ ap (λ (objects : Contents). (let d : Device = record { ledger = device.ledger; router = objects } in d)) same
+    ap (λ (done : Turn OwnedState). node_of done) (passes after answer device (max_size, request) (inr other))
+    ∙ ap (λ (objects : OwnedState). (let d : Device = record { ledger = device.ledger; router = objects } in d)) same
 
 -- a request to another class is not to the ledger
 pub other_class : (text : List ℕ) (request : Spelled) (path : Path) → request_of text ≡ Ok request →

@@ -9,3 +9,4 @@ pub mod Forms
 pub mod Words
 pub mod Turns
 pub mod Devices
+pub mod ReachingLemmas

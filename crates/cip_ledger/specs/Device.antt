@@ -1,22 +1,23 @@
--- The objects with a ledger before them, if there is one, as one router.
-use Rattle.std.specs.Prelude.{ℕ, Option, List, [], ◌∷◌}
+-- The objects of a device and its owner, with a ledger before them if there is one, as one router.
+use Rattle.std.specs.Prelude.{ℕ, Option, None, List, [], ◌∷◌}
 use Rattle.cip_objects.specs.Contents.{Contents}
-use Rattle.cip_objects.specs.Execution.{exec}
+use Rattle.cip_owner.specs.Owned.{OwnedState, exec_owned}
 use Rattle.cip_ledger.specs.declared.router.LedgerRouter.{LedgerRouter}
 use Rattle.cip_ledger.specs.Ledger.{LedgerState}
 use Rattle.cip_ledger.specs.Runs.{Request}
 use Rattle.cip_ledger.specs.Turn.{Turn, turn}
 
 abbrev pub Device : Type 0
-Device = LedgerRouter Contents
+Device = LedgerRouter OwnedState
 
+-- A device with these objects, and no reply prepared.
 abbrev pub device_of : Option LedgerState → Contents → Device
-device_of ledger objects = record { ledger = ledger; router = objects }
+device_of ledger objects = record { ledger = ledger; router = record { objects = objects; prepared = None } }
 
-abbrev pub device_turn : Device → ℕ → List ℕ → Turn Contents
+abbrev pub device_turn : Device → ℕ → List ℕ → Turn OwnedState
 device_turn device max_size request =
-    turn (λ objects max_size request. (exec objects max_size request).after)
-    (λ objects max_size request. (exec objects max_size request).answer) device.ledger device.router max_size request
+    turn (λ owned max_size request. (exec_owned owned max_size request).after)
+    (λ owned max_size request. (exec_owned owned max_size request).answer) device.ledger device.router max_size request
 
 -- the device after a request, and its reply
 pub record Executed : Type 0 where

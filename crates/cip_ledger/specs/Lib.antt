@@ -11,4 +11,5 @@ pub mod Views
 pub mod TooLarge
 pub mod Laws
 pub mod Runs
+pub mod Reaching
 pub mod Device

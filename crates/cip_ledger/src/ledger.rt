@@ -1,6 +1,7 @@
 //! The ledger: what it does with each request.
-ghost use Rattle.std.specs.Prelude.{◌≡◌, ◌<◌, ◌≤◌, ◌∷◌, ◌++◌, ◌+◌, length, Some, None, IfOk};
+ghost use Rattle.std.specs.Prelude.{◌≡◌, ◌<◌, ◌≤◌, ◌∷◌, ◌++◌, ◌+◌, length, Some, None, IfOk, option_map};
 ghost use Rattle.cip_ledger.specs.Ledger.{empty_ledger, slot_of};
+ghost use Rattle.cip_ledger.specs.Reaching.{embedded_by};
 ghost use Rattle.cip_ledger.specs.Requests as requests;
 ghost use Rattle.cip_ledger.specs.Services.{do_command, Executes, KEPT_LIMIT};
 ghost use Rattle.cip_ledger.specs.Services as services;
@@ -167,6 +168,38 @@ impl Ledger {
         execute_embedded(router, request, reply);
         let index = self.slots.keep(index, command.originator, command.number, reply.as_slice());
         write_done(self.slots.reply(index), reply);
+    }
+
+    /// The embedded request of a request to the ledger, if it would be executed and passed on to the router now.
+    #[tactic(auto, unfolding(crate::specs::Services::do_once))]
+    pub(crate) fn embedded_in<'a>(
+        &self,
+        request: LedgerRequest<'a>,
+        max_size: usize,
+    ) -> Option<&'a [u8]>
+        ensures { option_map (λ embedded. embedded.now) result
+            ≡ embedded_by (services.action_of self.now max_size (request_in request.entry)) }
+    {
+        if request.instance != 1 || request.service != DO_ONCE {
+            return None;
+        }
+        if request.data.len() < Command::SMALLEST {
+            return None;
+        }
+        self.passed_on(Command::read(request.data), max_size)
+    }
+
+    /// The embedded request of a command, if it would be executed and passed on to the router now.
+    fn passed_on<'a>(&self, command: Command<'a>, max_size: usize) -> Option<&'a [u8]>
+        ensures { option_map (λ embedded. embedded.now) result
+            ≡ embedded_by (do_command self.now max_size (command_in command.entry)) }
+    {
+        let index = self.position(command.originator);
+        match self.verdict(command, index, max_size) {
+            Verdict::Refuses(_) | Verdict::Repeats(_) => None,
+            Verdict::Executes if is_barred(command.request) => None,
+            Verdict::Executes => Some(command.request),
+        }
     }
 
     /// Get_Last: the number of an originator's last command, and the reply to it.

@@ -1,9 +1,12 @@
 //! A router with a ledger before it.
-ghost use Rattle.std.specs.Prelude.{◌≡◌, ◌≤◌, length};
+ghost use Rattle.std.specs.Prelude.{◌≡◌, ◌≤◌, length, [], ◌∷◌, option_map};
+ghost use Rattle.cip_ledger.specs.Reaching.{listed};
+ghost use Rattle.cip_ledger.specs.Runs.{reached};
 ghost use Rattle.cip_ledger.specs.Turn.{turn, turn_of};
 
 use crate::ledger::{Ledger, execute_by};
-use crate::request::may_be_to_ledger;
+use crate::request::{LedgerRequest, may_be_to_ledger};
+use crate::slot::KEPT_LIMIT;
 use cip_objects::{REPLY_LIMIT, ReplyBuf, Router};
 
 /// A router with a ledger before it, if it has one: requests to the ledger's class are the ledger's, and every other
@@ -14,6 +17,39 @@ pub struct LedgerRouter<R> {
     pub ledger: Option<Ledger>,
     /// The router behind it.
     pub router: R,
+}
+
+impl<R: Router> LedgerRouter<R> {
+    /// The request that would reach the router if a request were executed now, and the most bytes of its reply. `None`
+    /// if none would.
+    ///
+    /// A request that is not to the ledger reaches the router as it is, and a command that would be executed by its
+    /// embedded request, unless that is barred.
+    ///
+    /// ```
+    /// if let Some((reaching, max_size)) = device.reaching(request, 504) {
+    ///     // `device.execute(request, 504, &mut reply)` would execute `reaching` at `device.router`
+    /// }
+    /// ```
+    pub fn reaching<'a>(&self, request: &'a [u8], max_size: usize) -> Option<(&'a [u8], usize)>
+        ensures { listed (option_map (λ passed. (passed.1, passed.0.now)) result)
+            ≡ reached R.after R.answer self.now ((max_size, request.now) ∷ []) }
+    {
+        let Some(ledger) = &self.ledger else {
+            return Some((request, max_size));
+        };
+        let passes = !may_be_to_ledger(request);
+        if passes {
+            return Some((request, max_size));
+        }
+        let Some(own) = LedgerRequest::read(request) else {
+            return Some((request, max_size));
+        };
+        match ledger.embedded_in(own, max_size) {
+            Some(embedded) => Some((embedded, KEPT_LIMIT)),
+            None => None,
+        }
+    }
 }
 
 impl<R: Router> Router for LedgerRouter<R> {

@@ -1,12 +1,12 @@
 -- The effect of an item, if it is answered and if it is not.
 use Rattle.std.proofs.Common.{◌≡◌, ℕ, List, [], ◌∷◌, Bool, true, false, cond, Option, Some, None, refl, ap, sym, ◌∙◌}
-use Rattle.std.specs.Prelude.{find, is_some}
+use Rattle.std.specs.Prelude.{find, is_some, IfSome, IfNone}
 use Rattle.cip_class3.specs.declared.target.Received.TheVariants.{Dropped, Repeated}
-use Rattle.cip_class3.specs.Item.{sequence_count_of}
-use Rattle.cip_class3.specs.TargetRule.{TargetState, TargetStep, step_of, target_step, after_execution, has_accepted_size, is_held}
+use Rattle.cip_class3.specs.Item.{sequence_count_of, message_of}
+use Rattle.cip_class3.specs.TargetRule.{TargetState, TargetStep, step_of, target_step, after_execution, has_accepted_size, is_held, max_reply_size, execution_limit}
 use Rattle.cip_manager.specs.declared.connection.Connection.{Connection}
 use Rattle.cip_manager.specs.Connection.{is_named, is_answered, after_item, deadline_at_item}
-use Rattle.cip_manager.specs.Items.{with_first, Reply, turn_of_found, item_turn, is_taken_by, is_taken}
+use Rattle.cip_manager.specs.Items.{with_first, Reply, turn_of_found, item_turn, is_taken_by, is_taken, execution_limit_by, item_execution_limit}
 
 with_first-same : {X : Type 0} → (test : X → Bool) (x : X) (xs : List X) → find test xs ≡ Some x → with_first test x xs ≡ xs
 with_first-same test x [] e = refl
@@ -77,3 +77,32 @@ module _ {M : Type 0} (after : M → ℕ → List ℕ → M) (answer : M → ℕ
           let not_answered : is_answered step.received ≡ false = dropped (is_answered step.received) _ e in
           let not_of_size : has_accepted_size c.target bytes ≡ false = sym says.answered ∙ not_answered in
           (ap (λ x. with_first (is_named session id) x cs) (same c step not_answered (says.same not_of_size)) ∙ with_first-same (is_named session id) c cs f, says.still not_of_size)
+
+  -- what an item does to the router, by the limit on the reply
+  abbrev pub Executes : Option ℕ → M → List ℕ → M → Type 0
+  Executes limit router bytes left = IfSome limit (λ max_size. left ≡ after router max_size (message_of bytes)) × IfNone limit (left ≡ router)
+
+  target_step-executes : (target : TargetState) (router : M) (bytes : List ℕ)
+      → Executes (execution_limit target bytes) router bytes (target_step after answer target router bytes).router
+  target_step-executes target router bytes =
+      elim (has_accepted_size target bytes) as (
+      λ b. Executes (cond b (cond (is_held target.held (sequence_count_of bytes)) None (Some (max_reply_size target))) None) router bytes
+      (cond b (cond (is_held target.held (sequence_count_of bytes)) (step_of Repeated target router) (after_execution after answer target router bytes)) (step_of Dropped target router)).router
+      ) [
+        | true ↦ elim (is_held target.held (sequence_count_of bytes)) as (
+            λ h. Executes (cond h None (Some (max_reply_size target))) router bytes
+            (cond h (step_of Repeated target router) (after_execution after answer target router bytes)).router
+            ) [
+              | true ↦ (tt, refl)
+              | false ↦ (refl, tt)
+            ]
+        | false ↦ (tt, refl)
+      ]
+
+  pub item_turn-executes : (cs : List Connection) (now session id : ℕ) (bytes : List ℕ) (router : M)
+      → Executes (item_execution_limit cs session id bytes) router bytes (item_turn after answer cs now session id bytes router).router
+  item_turn-executes cs now session id bytes router = go (find (is_named session id) cs)
+    where
+      go : (o : Option Connection) → Executes (execution_limit_by o bytes) router bytes (turn_of_found after answer cs now session id bytes router o).router
+      go None = (tt, refl)
+      go (Some c) = target_step-executes c.target router bytes

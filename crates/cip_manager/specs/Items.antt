@@ -3,7 +3,7 @@ use Rattle.std.specs.Prelude.{ℕ, Bool, false, if◌then◌else◌, List, [], �
 use Rattle.std.specs.Option.{option_map}
 use Rattle.cip_class3.specs.declared.target.Received.{Received}
 use Rattle.cip_class3.specs.Item.{item}
-use Rattle.cip_class3.specs.TargetRule.{KeptReply, target_step, has_accepted_size, kept_bytes}
+use Rattle.cip_class3.specs.TargetRule.{KeptReply, target_step, has_accepted_size, execution_limit, kept_bytes}
 use Rattle.cip_manager.specs.declared.connection.Connection.{Connection}
 use Rattle.cip_manager.specs.declared.manager.KeptAnswer.{KeptAnswer}
 use Rattle.cip_manager.specs.Connection.{is_named, is_answered, deadline_at_item, until_after_item}
@@ -80,6 +80,16 @@ module _ {M : Type 0} (after : M → ℕ → List ℕ → M) (answer : M → ℕ
   abbrev pub item_turn : List Connection → ℕ → ℕ → ℕ → List ℕ → M → ItemTurn M
   item_turn connections now session id bytes router =
       turn_of_found connections now session id bytes router (find (is_named session id) connections)
+
+-- The limit on the reply with which an item's request would be executed. None if the session has no connection with
+-- this ID, or if its target would not execute the request.
+abbrev pub execution_limit_by : Option Connection → List ℕ → Option ℕ
+execution_limit_by None bytes = None
+execution_limit_by (Some connection) bytes = execution_limit connection.target bytes
+
+abbrev pub item_execution_limit : List Connection → ℕ → ℕ → List ℕ → Option ℕ
+item_execution_limit connections session id bytes =
+    execution_limit_by (find (is_named session id) connections) bytes
 
 -- Whether the item has a connection, and a size that its target accepts.
 abbrev pub is_taken_by : Option Connection → List ℕ → Bool

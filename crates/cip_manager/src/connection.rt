@@ -24,6 +24,7 @@ ghost use Rattle.std.specs.Prelude.{◌≡◌, ◌+◌, ◌≤◌, length, IfSom
 ghost use Rattle.std.specs.Option.{option_map};
 ghost use Rattle.std.specs.Borrow.{sem};
 ghost use Rattle.std.specs.Io.BufRead.{Rests};
+ghost use Rattle.cip_class3.specs.TargetRule.{execution_limit};
 ghost use Rattle.cip_manager.specs.ConnectionInfo.{connection_info};
 ghost use Rattle.cip_manager.specs.Opening.{CanBeOpened, new_connection};
 ghost use Rattle.cip_manager.specs.Items.{view as reply_in, held_reply, connection_turn, turn_until, answer_of};
@@ -31,7 +32,7 @@ ghost use Rattle.cip_manager.specs.Connection.{timeout_of, moment_after, is_of_s
 
 use crate::manager::KeptAnswer;
 use crate::opening::Opening;
-use cip_bytes::protocol::{LARGEST_CONNECTION_SIZE, SEQUENCE_COUNT_SIZE};
+use cip_bytes::protocol::{LARGEST_CONNECTION_SIZE, REPLY_LIMIT, SEQUENCE_COUNT_SIZE};
 use cip_class3::{Received, Target};
 use cip_message::CloseRequest;
 use cip_objects::Router;
@@ -137,6 +138,16 @@ impl Connection {
         ensures { result ≡ is_of_session_with session triad self.now }
     {
         self.session == session && self.triad == triad
+    }
+
+    /// The limit on the reply with which `receive` would execute this item's request. `None` if it would not.
+    pub fn would_execute(&self, item: &[u8]) -> Option<usize>
+        ensures limit { result ≡ execution_limit self.now.target item.now }
+        ensures request { IfSome result (λ max_size. 4 ≤ length item.now) }
+        ensures from { IfSome result (λ max_size. 8 ≤ max_size) }
+        ensures to { IfSome result (λ max_size. max_size ≤ REPLY_LIMIT) }
+    {
+        self.target.would_execute(item)
     }
 
     /// Passes an item to the target. An item that is not dropped moves the deadline to this one.

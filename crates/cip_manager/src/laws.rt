@@ -1,12 +1,14 @@
 //! What follows for every list of calls of the manager, with any router.
 //!
 //! The functions do nothing: their clauses are the laws.
-ghost use Rattle.std.specs.Prelude.{◌≡◌, ℕ, ◌≤◌, ◌^◌, true, List, [], Some, filter, find, AllPairs};
+ghost use Rattle.std.specs.Prelude.{◌≡◌, ℕ, ◌≤◌, ◌^◌, true, List, [], Some, filter, find, AllPairs, IfSome, IfNone};
 ghost use Rattle.std.specs.List.{list_all, AllByRecursion, Any};
 ghost use Rattle.std.specs.Option.{MatchOption};
 ghost use Rattle.cip_message.specs.declared.key.Device.{Device};
 ghost use Rattle.cip_manager.specs.declared.connection.Connection.{Connection};
 ghost use Rattle.cip_manager.specs.Connection.{is_named, earliest_deadline};
+ghost use Rattle.cip_class3.specs.Item.{message_of};
+ghost use Rattle.cip_manager.specs.Items.{item_turn, item_execution_limit};
 ghost use Rattle.cip_manager.specs.Manager.{no_connection};
 ghost use Rattle.cip_manager.specs.Table.{AreOpenUntil};
 ghost use Rattle.cip_manager.specs.Runs.{ManagerCall, State, state_after, ids_drawn, CountsFrom, IsOfOther, of_session};
@@ -29,6 +31,18 @@ pub fn connections_apart<R: Router>()
         find (is_named session id) state.manager.connections ≡ Some connection →
         list_all (is_spared connection) calls ≡ true →
         find (is_named session id) (state_after R.after R.answer state calls).manager.connections ≡ Some connection }
+{}
+
+/// `Manager::would_execute` says what `Manager::connected` does with the item: the router executes the request with
+/// this limit, or stays as it is.
+pub fn execution_foreseen<R: Router>()
+    ensures executed { (connections : List Connection) (now session id : ℕ) (bytes : List ℕ) (router : R) →
+        IfSome (item_execution_limit connections session id bytes) (λ max_size.
+        (item_turn R.after R.answer connections now session id bytes router).router
+        ≡ R.after router max_size (message_of bytes)) }
+    ensures not_executed { (connections : List Connection) (now session id : ℕ) (bytes : List ℕ) (router : R) →
+        IfNone (item_execution_limit connections session id bytes)
+        ((item_turn R.after R.answer connections now session id bytes router).router ≡ router) }
 {}
 
 /// The IDs of connections count up by one from the next ID. So none is used twice.

@@ -5,7 +5,7 @@ ghost use Rattle.std.specs.List.{list_any};
 ghost use Rattle.std.specs.Option.{option_map};
 ghost use Rattle.std.specs.Borrow.{sem};
 ghost use Rattle.std.specs.Io.BufRead.{Rests};
-ghost use Rattle.cip_manager.specs.Items.{view as reply_in, item_turn, is_taken};
+ghost use Rattle.cip_manager.specs.Items.{view as reply_in, item_turn, is_taken, item_execution_limit};
 ghost use Rattle.cip_manager.specs.Check.{first_failure};
 ghost use Rattle.cip_manager.specs.Connection.{has_id, earliest_deadline};
 ghost use Rattle.cip_manager.specs.Index.{binary_digits};
@@ -20,7 +20,7 @@ use crate::opening::Opening;
 use crate::reply::{write_close_success, write_failure, write_length_fault, write_open_success};
 use crate::table::Table;
 use cip_bytes::protocol::{
-    ExtendedStatus, LARGEST_CONNECTION_SIZE, ManagerService, SEQUENCE_COUNT_SIZE,
+    ExtendedStatus, LARGEST_CONNECTION_SIZE, ManagerService, REPLY_LIMIT, SEQUENCE_COUNT_SIZE,
 };
 use cip_message::{CloseRequest, Device, OpenRequest};
 use cip_objects::{ReplyBuf, Router};
@@ -207,6 +207,29 @@ impl Manager {
         ensures fits { IfSome result (λ answer. length answer.reply.now + SEQUENCE_COUNT_SIZE ≤ LARGEST_CONNECTION_SIZE) }
     {
         self.table.receive(now, session, id, item, router)
+    }
+
+    /// The limit on the reply with which `connected` would execute this item's request, in bytes: the `max_size` of the
+    /// router's `execute`. `None` if the session has no connection with this O->T ID, or if `connected` would drop
+    /// the item or answer it as a repeat.
+    ///
+    /// It ends no connection: call `expire` with the moment of `connected` first.
+    ///
+    /// ```
+    /// manager.expire(now);
+    /// if let Some(max_size) = manager.would_execute(session, id, item) {
+    ///     prepare(&item[2..], max_size); // the request, which `connected` executes next
+    /// }
+    /// let answer = manager.connected(now, session, id, item, objects);
+    /// ```
+    pub fn would_execute(&self, session: u32, id: u32, item: &[u8]) -> Option<usize>
+        ensures limit { result ≡ item_execution_limit self.now.connections session id item.now }
+        // What `Router::execute` requires of the request behind the item's sequence count, and of the limit.
+        ensures request { IfSome result (λ max_size. 4 ≤ length item.now) }
+        ensures from { IfSome result (λ max_size. 8 ≤ max_size) }
+        ensures to { IfSome result (λ max_size. max_size ≤ REPLY_LIMIT) }
+    {
+        self.table.would_execute(session, id, item)
     }
 
     /// Whether a connection with this O->T ID is open, in any session. Each comparison of IDs adds 1 to `steps`.

@@ -10,7 +10,7 @@ ghost use Rattle.cip_manager.specs.declared.connection.Connection.{Connection as
 ghost use Rattle.cip_manager.specs.Connection.{has_id, is_open_at, earliest_deadline};
 ghost use Rattle.cip_manager.specs.Index.{binary_digits};
 ghost use Rattle.cip_manager.specs.ConnectionInfo.{connection_info};
-ghost use Rattle.cip_manager.specs.Items.{view as reply_in, item_turn};
+ghost use Rattle.cip_manager.specs.Items.{view as reply_in, item_turn, item_execution_limit};
 ghost use Rattle.cip_manager.specs.Table.{is_in, no_entry, AreBelow};
 
 use crate::connection::{Connection, ConnectionInfo};
@@ -19,7 +19,7 @@ use crate::index::{Index, Steps};
 use crate::manager::KeptAnswer;
 use crate::search::position_of;
 use crate::slots::Slots;
-use cip_bytes::protocol::{LARGEST_CONNECTION_SIZE, SEQUENCE_COUNT_SIZE};
+use cip_bytes::protocol::{LARGEST_CONNECTION_SIZE, REPLY_LIMIT, SEQUENCE_COUNT_SIZE};
 use cip_objects::Router;
 use std::alloc::{AllocError, Global};
 use std::marker::Model;
@@ -199,6 +199,25 @@ impl Table {
         let deadline = connection.deadline_from(now);
         self.earliest = self.earliest.min(deadline);
         self.connections.serve(key, deadline, item, router)
+    }
+
+    /// The limit on the reply with which `receive` would execute this item's request. `None` if it would not.
+    pub fn would_execute(&self, session: u32, id: u32, item: &[u8]) -> Option<usize>
+        ensures limit { result ≡ item_execution_limit self.now.connections session id item.now }
+        ensures request { IfSome result (λ max_size. 4 ≤ length item.now) }
+        ensures from { IfSome result (λ max_size. 8 ≤ max_size) }
+        ensures to { IfSome result (λ max_size. max_size ≤ REPLY_LIMIT) }
+    {
+        let Some(position) = position_of(&self.index, id, &mut Steps::default()) else {
+            return None;
+        };
+        let key = self.index.key(position);
+        let connection = self.connections.at(key);
+        if connection.session == session {
+            connection.would_execute(item)
+        } else {
+            None
+        }
     }
 
     /// The connection at this position.

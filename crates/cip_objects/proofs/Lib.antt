@@ -29,3 +29,5 @@ pub mod Counting
 pub mod ChangeCounts
 pub mod ObjectWrites
 pub mod ObjectLemmas
+pub mod OwnRequests
+pub mod Approved

@@ -52,7 +52,7 @@ or_false false b e = (refl, e)
 eqb-same : (a : ℕ) → eqb a a ≡ true
 eqb-same a = grind (arith, nat_tests)
 
-below_zero : (n : ℕ) → 0 < n → eqb n 0 ≡ false
+pub below_zero : (n : ℕ) → 0 < n → eqb n 0 ≡ false
 below_zero n h = grind (arith, nat_tests)
 
 -- an attribute is read in the flat map xs in its object
@@ -134,11 +134,11 @@ at_position class instance k (o ∷ os) e =
     step_position class instance k o os (position_of class instance os) (eqb o.class class && eqb o.instance instance) refl e (λ j f. at_position class instance j os f)
 
 -- a class that no object has, of those that the device has itself
-not_taken : (t : Bool) (counter : Bool) (n class : ℕ) → eqb class n ≡ t → is_taken_class counter n ≡ true → is_taken_class counter class ≡ false → t ≡ false
+pub not_taken : (t : Bool) (counter : Bool) (n class : ℕ) → eqb class n ≡ t → is_taken_class counter n ≡ true → is_taken_class counter class ≡ false → t ≡ false
 not_taken true counter n class e taken free = absurd (let f = ap (is_taken_class counter) (eqb-true class n e) in cc)
 not_taken false counter n class e taken free = refl
 
-not_counter : (t n : Bool) (class : ℕ) → eqb class 100 ≡ t → is_taken_class n class ≡ false → t && n ≡ false
+pub not_counter : (t n : Bool) (class : ℕ) → eqb class 100 ≡ t → is_taken_class n class ≡ false → t && n ≡ false
 not_counter true true class e free = absurd (let f = ap (is_taken_class true) (eqb-true class 100 e) in cc)
 not_counter true false class e free = refl
 not_counter false n class e free = refl
@@ -150,12 +150,12 @@ pub record IsFound (c : CounterValues) (os : List ObjectValues) (k : ℕ) : Type
   pub within : k < length os
   pub distinct : AreDistinct (map (λ a. a.number) (object_shape_of (object_in os k)).attributes)
 
-record OfList (counter : Bool) (o : ObjectValues) : Type 0 where
-  free : is_taken_class counter o.class ≡ false
-  above : 0 < o.instance
-  distinct : AreDistinct (map (λ a. a.number) (object_shape_of o).attributes)
+pub record OfList (counter : Bool) (o : ObjectValues) : Type 0 where
+  pub free : is_taken_class counter o.class ≡ false
+  pub above : 0 < o.instance
+  pub distinct : AreDistinct (map (λ a. a.number) (object_shape_of o).attributes)
 
-of_list : (counter : Bool) (k : ℕ) (os : List ObjectValues) → AreApart counter (map object_shape_of os) → k < length os → OfList counter (object_in os k)
+pub of_list : (counter : Bool) (k : ℕ) (os : List ObjectValues) → AreApart counter (map object_shape_of os) → k < length os → OfList counter (object_in os k)
 of_list counter k [] h w = absurd (omega arith)
 of_list counter zero (o ∷ os) h w = record { free = h.0; above = h.1; distinct = h.3 }
 of_list counter (suc k) (o ∷ os) h w = of_list counter k os h.4 (omega arith)
@@ -367,7 +367,7 @@ can_be_set_here d bs c os m k n is =
     can_kind (attribute_at n (object_in os k).attributes) ∙ sym (ap is_some (kind_here d bs c os m k n is))
 
 -- the checks of a set, in the words of the object and in those of the service
-abbrev checked : {A : Type 0} → Bool → Bool → Bool → A → Result A SetFault
+abbrev pub checked : {A : Type 0} → Bool → Bool → Bool → A → Result A SetFault
 checked short long allowed x =
     cond short (Err faults.NotEnoughData) (cond long (Err faults.TooMuchData) (cond allowed (Ok x) (Err faults.InvalidAttributeValue)))
 
@@ -375,7 +375,7 @@ abbrev answered : {A : Type 0} → Bool → Bool → Bool → A → Result A Ref
 answered short long allowed x =
     cond short (Err refusals.NotEnoughData) (cond long (Err refusals.TooMuchData) (cond allowed (Ok x) (Err refusals.InvalidAttributeValue)))
 
-abbrev set_to : AttributeValues → List ℕ → AttributeValues
+abbrev pub set_to : AttributeValues → List ℕ → AttributeValues
 set_to a content = record a { value = content; changes = one_more a.changes }
 
 by_object : (l g w : Bool) (k : ℕ) (o : ObjectValues) (os : List ObjectValues) (a : AttributeValues)
@@ -385,7 +385,7 @@ by_object false true w k o os a = refl
 by_object false false true k o os a = refl
 by_object false false false k o os a = refl
 
-object_checks : (k n : ℕ) (os : List ObjectValues) (a : AttributeValues) (content : List ℕ) → attribute_at n (object_in os k).attributes ≡ Some a → a.settable ≡ true
+pub object_checks : (k n : ℕ) (os : List ObjectValues) (a : AttributeValues) (content : List ℕ) → attribute_at n (object_in os k).attributes ≡ Some a → a.settable ≡ true
     → objects_set os k n content ≡ checked (nat_lt (length content) (size_for a.kind content)) (nat_lt (size_for a.kind content) (length content)) (is_allowed_value a.kind content) (set os k (object_with (object_in os k) (set_to a content)))
 unfolding objects_set
 object_checks k n os a content e s =
@@ -466,43 +466,53 @@ written_object k n os a new e number shape place =
       shape = ap (λ l. record { class = o.class; instance = o.instance; attributes = l; services = o.services }) (same_parts attribute_shape_of a new o.attributes there shape);
     }
 
+-- the contents with another value of an attribute, which is counted
+pub set_contents : (d : IdentityValues) (bs : List AssemblyValues) (c : CounterValues) (os : List ObjectValues) (k n : ℕ) (content : List ℕ) (a : AttributeValues) → IsFound c os k → attribute_at n (object_in os k).attributes ≡ Some a
+    → contents_of d bs c (set os k (object_with (object_in os k) (set_to a content))) ≡ with_change (contents_of d bs c os) (object_in os k).class (object_in os k).instance n content
+set_contents d bs c os k n content a f found =
+    let o = object_in os k in
+    let after = set_to a content in
+    let number = number_found n o.attributes a found in
+    let there : attribute_at after.number o.attributes ≡ Some a = ap (λ x. attribute_at x o.attributes) number ∙ found in
+    let counted : object_tallies (object_with o after) ≡ counted_in (key o.class o.instance n) (object_tallies o) =
+    attribute_counted o.class o.instance a after o.attributes there refl
+    ∙ ap (λ x. counted_in (key o.class o.instance x) (object_tallies o)) number in
+    let count : changes_at (key o.class o.instance n) (object_tallies o) ≡ Some a.changes =
+    in_object o.class o.instance o.class o.instance n o.attributes
+    ∙ ap (λ t. cond (t && eqb o.instance o.instance) (option_map (λ v. v.changes) (attribute_at n o.attributes)) None) (eqb-same o.class)
+    ∙ ap (λ t. cond t (option_map (λ v. v.changes) (attribute_at n o.attributes)) None) (eqb-same o.instance)
+    ∙ ap (option_map (λ v. v.changes)) found in
+    object_changed d bs c os o.class o.instance n k a.changes content (object_with o after) f.own
+    (written_object k n os a after found number refl f.place) counted count
+
 -- the contents after a set that the object accepts
 pub set_done : (d : IdentityValues) (bs : List AssemblyValues) (c : CounterValues) (os : List ObjectValues) (m : Contents) (k n : ℕ) (content : List ℕ) (new : List ObjectValues) → contents_of d bs c os ≡ m → AreApart c.enabled (map object_shape_of os) → IsObjectIndex m.shapes k → IsSettable m (settables.Attribute k n) → objects_set os k n content ≡ Ok new
     → after_set m (settables.Attribute k n) content ≡ change (contents_of d bs c new) []
 set_done d bs c os m k n content new is own p h e =
     let s = settable_here d bs c os m k n is h in
     let o = object_in os k in
-    let f = found_index d bs c os m k is own p in
-    let after = set_to s.attribute content in
-    let number = number_found n o.attributes s.attribute s.found in
-    let there : attribute_at after.number o.attributes ≡ Some s.attribute = ap (λ x. attribute_at x o.attributes) number ∙ s.found in
-    let pair = done_alike _ _ _ (set os k (object_with o after)) new (record { after = with_change m o.class o.instance n content; content = [] })
+    let pair = done_alike _ _ _ (set os k (object_with o (set_to s.attribute content))) new (record { after = with_change m o.class o.instance n content; content = [] })
     (sym (object_checks k n os s.attribute content s.found s.settable) ∙ e) in
-    let counted : object_tallies (object_with o after) ≡ counted_in (key o.class o.instance n) (object_tallies o) =
-    attribute_counted o.class o.instance s.attribute after o.attributes there refl
-    ∙ ap (λ x. counted_in (key o.class o.instance x) (object_tallies o)) number in
-    let count : changes_at (key o.class o.instance n) (object_tallies o) ≡ Some s.attribute.changes =
-    in_object o.class o.instance o.class o.instance n o.attributes
-    ∙ ap (λ t. cond (t && eqb o.instance o.instance) (option_map (λ v. v.changes) (attribute_at n o.attributes)) None) (eqb-same o.class)
-    ∙ ap (λ t. cond t (option_map (λ v. v.changes) (attribute_at n o.attributes)) None) (eqb-same o.instance)
-    ∙ ap (option_map (λ v. v.changes)) s.found in
-    let contents = object_changed d bs c os o.class o.instance n k s.attribute.changes content (object_with o after) f.own
-    (written_object k n os s.attribute after s.found number refl f.place) counted count in
+    let contents = set_contents d bs c os k n content s.attribute (found_index d bs c os m k is own p) s.found in
     service_checks d bs c os m k n content s is p ∙ pair.1
     ∙ ap (λ x. change (with_change x o.class o.instance n content) []) (sym is)
     ∙ ap (λ x. change x []) (sym contents)
     ∙ ap (λ l. change (contents_of d bs c l) []) pair.0
 
 -- the shapes stay the same
-pub set_apart : (counter : Bool) (k n : ℕ) (os new : List ObjectValues) (a : AttributeValues) (content : List ℕ) → attribute_at n (object_in os k).attributes ≡ Some a → a.settable ≡ true → objects_set os k n content ≡ Ok new → AreApart counter (map object_shape_of os) → AreApart counter (map object_shape_of new)
-set_apart counter k n os new a content found settable e h =
+pub apart_after : (counter : Bool) (k n : ℕ) (os : List ObjectValues) (a : AttributeValues) (content : List ℕ) → attribute_at n (object_in os k).attributes ≡ Some a → AreApart counter (map object_shape_of os) → AreApart counter (map object_shape_of (set os k (object_with (object_in os k) (set_to a content))))
+apart_after counter k n os a content found h =
     let o = object_in os k in
     let after = set_to a content in
     let number = number_found n o.attributes a found in
     let there : attribute_at after.number o.attributes ≡ Some a = ap (λ x. attribute_at x o.attributes) number ∙ found in
-    let pair = done_alike _ _ _ (set os k (object_with o after)) new zero (sym (object_checks k n os a content found settable) ∙ e) in
     let shape = ap (λ l. record { class = o.class; instance = o.instance; attributes = l; services = o.services }) (same_parts attribute_shape_of a after o.attributes there refl) in
-    subst (AreApart counter) (sym (map_set object_shape_of k os (object_with o after) shape) ∙ ap (map object_shape_of) pair.0) h
+    subst (AreApart counter) (sym (map_set object_shape_of k os (object_with o after) shape)) h
+
+pub set_apart : (counter : Bool) (k n : ℕ) (os new : List ObjectValues) (a : AttributeValues) (content : List ℕ) → attribute_at n (object_in os k).attributes ≡ Some a → a.settable ≡ true → objects_set os k n content ≡ Ok new → AreApart counter (map object_shape_of os) → AreApart counter (map object_shape_of new)
+set_apart counter k n os new a content found settable e h =
+    let pair = done_alike _ _ _ (set os k (object_with (object_in os k) (set_to a content))) new zero (sym (object_checks k n os a content found settable) ∙ e) in
+    subst (λ l. AreApart counter (map object_shape_of l)) pair.0 (apart_after counter k n os a content found h)
 
 -- what the device writes
 pub record IsDeviceWrite (d : IdentityValues) (bs : List AssemblyValues) (c : CounterValues) (os : List ObjectValues) (m : Contents) (written : Option Contents) (new : Option (List ObjectValues)) : Type 0 where

@@ -27,4 +27,6 @@ pub mod Assembly
 pub mod Lists
 pub mod Members
 pub mod DeviceWrites
+pub mod OwnRequests
+pub mod OwnRows
 pub mod ChangesRun

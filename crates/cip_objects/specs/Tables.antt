@@ -114,7 +114,7 @@ abbrev pub kind_if_settable : Option Shape → Option AttributeKind
 kind_if_settable None = None
 kind_if_settable (Some s) = if s.settable then Some (Fixed (sum s.members) None) else None
 
--- A checked attribute cannot be set, as there is no owner to ask.
+-- The objects themselves do not set a checked attribute: the owner of the device is asked.
 abbrev pub kind_of_settable : Option AttributeShape → Option AttributeKind
 kind_of_settable None = None
 kind_of_settable (Some a) = if a.settable && not a.checked then Some a.kind else None

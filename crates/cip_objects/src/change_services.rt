@@ -1,14 +1,14 @@
 //! The services that change objects (Volume 1, common services; Add and Clear are the counter's own).
 //! Text: docs/PROTOCOL.md, "Objects".
-ghost use Rattle.std.specs.Prelude.{◌≡◌, length, [], OnErr};
+ghost use Rattle.std.specs.Prelude.{◌≡◌, length, [], OnErr, Some, None};
 ghost use Rattle.cip_bytes.specs.Numbers.{le};
 ghost use Rattle.cip_objects.specs.ChangeServices.{change_result, set_attribute_single, set_member, add, clear};
 ghost use Rattle.cip_objects.specs.ChangeServices.{limit_change};
 ghost use Rattle.cip_objects.specs.ObjectRef.{Exists, IsAssembly, HasCounter, IsSettable, path_to};
-ghost use Rattle.cip_objects.specs.ObjectRef.{object_of, after_set};
+ghost use Rattle.cip_objects.specs.ObjectRef.{object_of, after_set, class_at, instance_at};
 
 use crate::check::check_size;
-use crate::object_ref::{ResolvedPath, Settable};
+use crate::object_ref::{ObjectRef, ResolvedPath, Settable};
 use crate::objects::Objects;
 use crate::status::Refusal;
 use byteorder::{ByteOrder, LittleEndian};
@@ -29,11 +29,38 @@ impl Objects {
     {
         // There is no such attribute: 0x14.
         let attribute = resolved.attribute.ok_or(Refusal::AttributeNotSupported)?;
-        self.value(resolved.object, attribute)
+        // The data of an assembly have a call of their own. It is compiled for them alone, without a look-up.
+        if let (ObjectRef::Assembly(assembly_index), 3) = (resolved.object, attribute) {
+            return self.set_attribute(ObjectRef::Assembly(assembly_index), 3, data);
+        }
+        self.set_attribute(resolved.object, attribute, data)
+    }
+
+    /// Sets the attribute of an object that has this number.
+    #[inline(always)]
+    #[tactic(auto, unfolding(crate::specs::ChangeServices::set_attribute_single))]
+    fn set_attribute(
+        &mut self,
+        object: ObjectRef,
+        attribute: u16,
+        data: &[u8],
+    ) -> Result<(), Refusal>
+        requires { Exists self.old.shapes object }
+        ensures change_result { change_result (λ _. []) self.new result
+            ≡ set_attribute_single self.old (record {
+              class = class_at self.old.shapes object;
+              instance = instance_at self.old.shapes object;
+              attribute = Some attribute;
+              member = None;
+            }) «data».now }
+        ensures err { OnErr result (self.new ≡ self.old) }
+    {
+        // There is no such attribute: 0x14.
+        self.value(object, attribute)
             .ok_or(Refusal::AttributeNotSupported)?;
         // The attribute cannot be set: 0x0e. This is checked before the length of the data.
         let settable = self
-            .settable(resolved.object, attribute)
+            .settable(object, attribute)
             .ok_or(Refusal::AttributeNotSettable)?;
         self.set(settable, data)
     }
@@ -80,6 +107,7 @@ impl Objects {
     }
 
     /// Set_Member: sets the member.
+    #[inline(always)]
     #[tactic(auto, unfolding(crate::specs::ChangeServices::set_member))]
     pub(crate) fn set_member(&mut self, resolved: ResolvedPath, data: &[u8]) -> Result<(), Refusal>
         requires there { Exists self.old.shapes resolved.object }

@@ -18,6 +18,9 @@ use cip_message::{RequestView, read_path, reply_service};
 
 impl Objects {
     /// Performs a service that the object has, and appends the data of its reply.
+    ///
+    /// All services are inlined, so that the resolved path stays in registers. If one of them took a pointer to it, it
+    /// would be written to memory for each request, whatever the service.
     #[inline(always)]
     fn perform(
         &mut self,

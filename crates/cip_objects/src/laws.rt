@@ -9,6 +9,7 @@ ghost use Rattle.cip_objects.specs.Contents.{Contents};
 ghost use Rattle.cip_objects.specs.Execution.{exec};
 ghost use Rattle.cip_objects.specs.Run.{counter_law};
 ghost use Rattle.cip_objects.specs.ChangesRun.{changes_law};
+ghost use Rattle.cip_objects.specs.OwnRequests.{own_is_refused_law, approved_is_stored_law, approved_leaves_others_law};
 
 /// If a reply is too large, the object map is unchanged.
 pub fn too_large_changes_nothing()
@@ -82,4 +83,20 @@ pub fn changes_count_writes()
 /// last Clear, and never over its limit. Its additions count those that were accepted, modulo 2^32.
 pub fn counter_counts()
     ensures { counter_law }
+{}
+
+/// The objects themselves refuse each request that the owner of the device executes: an own service is not supported
+/// (0x08), and a checked attribute is not settable (0x0e). Nothing changes.
+pub fn own_is_refused()
+    ensures { own_is_refused_law }
+{}
+
+/// A set that the owner was asked about and approved stores the value, and is counted.
+pub fn approved_is_stored()
+    ensures { approved_is_stored_law }
+{}
+
+/// A set that the owner approved does not change any other attribute.
+pub fn approved_leaves_others()
+    ensures { approved_leaves_others_law }
 {}

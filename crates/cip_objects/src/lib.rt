@@ -5,6 +5,10 @@
 //! configuration fixed. `exec` in `specs/Execution.antt` defines the object map after a request, and its reply. In
 //! memory the objects are typed structs.
 //!
+//! The owner of the device executes own services of application objects, and sets of checked attributes. `execute`
+//! refuses them. `Objects::own_request` says what such a request asks, and `Objects::store_checked` stores a set that
+//! the owner approved. `own_request` in `specs/OwnRequests.antt` defines which requests these are.
+//!
 //! Only `Objects::new` allocates. Left out are dynamic assemblies, Set_Attributes_All, Set_Attribute_List,
 //! Multiple_Service_Packet, and Identity Reset. All of these are answered "service not supported". The services of
 //! the Connection Manager belong to `cip_manager`.
@@ -28,6 +32,7 @@ mod identity;
 pub mod laws;
 mod object_ref;
 mod objects;
+mod own_request;
 mod read_services;
 mod reply;
 mod router;
@@ -38,4 +43,6 @@ mod value;
 pub use cip_bytes::protocol::{GeneralStatus, REPLY_LIMIT};
 pub use config::{AssemblyConfig, Config, ConfigFault, CounterConfig};
 pub use objects::Objects;
+pub use own_request::OwnRequest;
 pub use router::{ReplyBuf, Router};
+pub use status::Refusal;

@@ -1,6 +1,6 @@
 //! The objects of a device: one object map to a caller, typed structs in memory.
 //! Text: docs/PROTOCOL.md, "Objects".
-ghost use Rattle.std.specs.Prelude.{◌≡◌, ◌≤◌, ◌<◌, ◌+◌, [], length, slice_index, OnErr, option_map, is_some, sum, map, true, Some, IfSome};
+ghost use Rattle.std.specs.Prelude.{◌≡◌, ◌≤◌, ◌<◌, ◌+◌, length, option_map, is_some, sum, map, true, Some, IfSome};
 ghost use Rattle.std.specs.Prelude.{IfOk, IfErr, MatchOption, unwrap_or, nat_le};
 ghost use Rattle.std.specs.Box.{boxed_slice_items};
 ghost use Rattle.std.specs.List.{All};
@@ -8,19 +8,19 @@ ghost use Rattle.cip_objects.specs.Configuration.{fault_of, contents_of_config, 
 ghost use Rattle.byteorder.specs.Endian.{little_bytes};
 ghost use Rattle.cip_objects.specs.Contents.{value_at, bytes_at, udint_at, with_value, with_change, counted};
 ghost use Rattle.cip_objects.specs.Changes.{changes_of, changes_at};
-ghost use Rattle.cip_objects.specs.ChangeServices.{with_bytes_at, change_result};
-ghost use Rattle.cip_objects.specs.ObjectRef.{ClassExists, class_number, Resolves, HasNoValue, Exists, IsAssemblyIndex, CanBeSet, IsFree};
-ghost use Rattle.cip_objects.specs.ObjectRef.{object_in, bytes_to, IsSettable, after_set};
+ghost use Rattle.cip_objects.specs.ChangeServices.{with_bytes_at};
+ghost use Rattle.cip_objects.specs.ObjectRef.{ClassExists, class_number, Resolves, HasNoValue, Exists, IsAssemblyIndex};
 ghost use Rattle.cip_objects.specs.ObjectRef.{services_at, class_at, instance_at, number_at, value_to, data_at};
-ghost use Rattle.cip_objects.specs.ObjectRef.{kind_to_set, IsAssemblyAt, HasCounter, IsObjectIndex, IsObjectClass};
-ghost use Rattle.cip_objects.specs.DeviceWrites.{device_write, object_write, with_device_status, with_device_state};
+ghost use Rattle.cip_objects.specs.ObjectRef.{CanBeSet, kind_to_set, IsAssemblyAt, HasCounter};
+ghost use Rattle.cip_objects.specs.DeviceWrites.{device_write, with_device_status, with_device_state};
 ghost use Rattle.cip_objects.specs.Members.{AreWhole};
 ghost use Rattle.cip_objects.specs.Run.{IsCounter};
 ghost use Rattle.cip_objects.specs.Entries.{shape_of};
-ghost use Rattle.cip_objects.specs.Tables.{services_of, application_services, shape_at, settable_kind};
-ghost use Rattle.cip_objects.specs.ReadServices.{numbers_of};
+ghost use Rattle.cip_objects.specs.Tables.{services_of, shape_at, settable_kind};
 ghost use Rattle.cip_objects.specs.ObjectMap.{key};
 ghost use Rattle.cip_objects.specs.AttributeValue.{value_bytes, IsShort};
+
+mod application;
 
 use crate::assembly::{Assembly, DATA_LIMIT, MEMBER_LIMIT, greatest, position};
 use crate::class::{Class, class_attribute};
@@ -29,7 +29,6 @@ use crate::counter::Counter;
 use crate::identity::{Identity, NAME_LIMIT};
 use crate::object_ref::{ObjectRef, Settable};
 use crate::router::ReplyBuf;
-use crate::status::Refusal;
 use crate::value::AttributeValue;
 use arrayvec::ArrayVec;
 use cip_application::ApplicationObjects;
@@ -151,23 +150,6 @@ impl Objects {
         None
     }
 
-    /// The application object that a class and an instance lead to, if there is one. The class is none that the device
-    /// has itself.
-    fn application_object(&self, class: u16, instance: u32) -> Option<ObjectRef>
-        requires { IsFree self.now.shapes class }
-        ensures services { option_map services_at result
-            ≡ application_services class instance self.now.shapes.objects }
-        ensures resolves { MatchOption result (HasNoValue self.now class instance)
-            (Resolves self.now.shapes class instance) }
-    {
-        // Instance 0 is the class itself.
-        if instance == 0 {
-            self.application.class(class)?;
-            return Some(ObjectRef::ApplicationClass(class));
-        }
-        Some(ObjectRef::Application(self.application.position(class, instance)?))
-    }
-
     /// The value of an attribute of an object, if it has an attribute with this number.
     #[inline(always)]
     #[tactic(auto, using(crate::proofs::Lookup::reads))]
@@ -215,48 +197,6 @@ impl Objects {
         }
     }
 
-    /// The value of an attribute of a class of application objects.
-    fn application_class_value(&self, class: u16, attribute: u16) -> Option<AttributeValue<'_>>
-        requires { IsObjectClass self.now.shapes class }
-        ensures value { option_map value_bytes result ≡ value_at self.now class 0 attribute }
-        ensures short { IfSome result IsShort }
-    {
-        let summary = self.application.class(class)?;
-        class_attribute(1, summary.greatest, summary.instances, attribute)
-    }
-
-    /// The value of an attribute of the application object at an index.
-    fn object_value(&self, object_index: usize, attribute: u16) -> Option<AttributeValue<'_>>
-        requires { IsObjectIndex self.now.shapes object_index }
-        ensures value { option_map value_bytes result
-            ≡ value_to self.now (ObjectRef.Application object_index) attribute }
-        ensures short { IfSome result IsShort }
-    {
-        match self.application.attribute(object_index, attribute) {
-            Some(bytes) => Some(AttributeValue::Bytes(bytes)),
-            None => None,
-        }
-    }
-
-    /// The number of attributes of the application object at an index.
-    pub(crate) fn attribute_count(&self, object_index: usize) -> usize
-        requires { IsObjectIndex self.now.shapes object_index }
-        ensures { result ≡ length (object_in self.now.shapes object_index).attributes }
-    {
-        self.application.attribute_count(object_index)
-    }
-
-    /// The value of an attribute of the application object at an index, by the attribute's index in the order of the
-    /// numbers.
-    pub(crate) fn value_by_index(&self, object_index: usize, index: usize) -> &[u8]
-        requires there { IsObjectIndex self.now.shapes object_index }
-        requires within { index < length (object_in self.now.shapes object_index).attributes }
-        ensures { result.now ≡ bytes_to self.now (ObjectRef.Application object_index)
-            (slice_index (numbers_of (Some (object_in self.now.shapes object_index))) index) }
-    {
-        self.application.value_at(object_index, index)
-    }
-
     /// The five numbers that an electronic key is compared with. Allocates nothing.
     #[tactic(auto, unfolding(crate::specs::Entries::contents_of))]
     pub fn device(&self) -> Device
@@ -269,6 +209,14 @@ impl Objects {
             major: self.identity.major,
             minor: self.identity.minor,
         }
+    }
+
+    /// Whether the device has the counter.
+    #[tactic(auto, unfolding(crate::specs::Entries::contents_of))]
+    pub fn has_counter(&self) -> bool
+        ensures { result ≡ self.now.shapes.has_counter }
+    {
+        self.counter.enabled
     }
 
     /// The bytes of an attribute that can be read, or `None` if there is no such attribute. Allocates nothing.
@@ -328,25 +276,6 @@ impl Objects {
         }
         self.write_content(assembly_index, offset, bytes);
         true
-    }
-
-    /// Writes bytes into an attribute of an application object, from `offset` on, even if peers cannot set it. Returns
-    /// whether it did. The bytes must end within the value; a SHORT_STRING is written as a whole. Otherwise, or if there
-    /// is no such attribute, it returns `false` and changes nothing. It is not counted as a change. Allocates nothing.
-    pub fn write_attribute(
-        &mut self,
-        class: u16,
-        instance: u32,
-        attribute: u16,
-        offset: usize,
-        bytes: &[u8],
-    ) -> bool
-        ensures written { self.new
-            ≡ unwrap_or (object_write self.old class instance attribute offset bytes.now) self.old }
-        ensures reported { result ≡ is_some (object_write self.old class instance attribute offset bytes.now) }
-    {
-        self.application
-            .write(class, instance, attribute, offset, bytes)
     }
 
     /// Sets the device's status: attribute 5 of the Identity object, a WORD (Volume 1, Identity object). Allocates
@@ -476,23 +405,6 @@ impl Objects {
         ensures { self.new ≡ counted self.old ASSEMBLY (number_at self.old.shapes assembly_index) 3 }
     {
         self.assemblies[assembly_index].count_change();
-    }
-
-    /// Sets a settable attribute of an application object for a peer, which is counted.
-    pub(crate) fn set_object(
-        &mut self,
-        object_index: usize,
-        number: u16,
-        data: &[u8],
-    ) -> Result<(), Refusal>
-        requires there { IsObjectIndex self.old.shapes object_index }
-        requires settable { IsSettable self.old (Settable.Attribute object_index number) }
-        ensures change_result { change_result (λ _. []) self.new result
-            ≡ after_set self.old (Settable.Attribute object_index number) «data».now }
-        ensures err { OnErr result (self.new ≡ self.old) }
-    {
-        self.application.set(object_index, number, data)?;
-        Ok(())
     }
 
     /// Sets the counter's value.

@@ -25,6 +25,7 @@ use cip_bytes::protocol::{GeneralStatus, REPLY_LIMIT};
 
 impl Objects {
     /// Get_Attribute_Single: the value of the attribute.
+    #[inline(always)]
     #[tactic(auto, unfolding(crate::specs::ReadServices::get_attribute_single))]
     pub(crate) fn get_attribute_single(
         &self,
@@ -45,6 +46,7 @@ impl Objects {
     }
 
     /// Get_Attributes_All: the values of the attributes that it reads.
+    #[inline(always)]
     #[tactic(auto, unfolding(crate::specs::ReadServices::get_attributes_all))]
     pub(crate) fn get_attributes_all(
         &self,
@@ -90,7 +92,9 @@ impl Objects {
         }
     }
 
-    /// Appends the values of attributes 1 to 7 of the Identity object.
+    /// Appends the values of attributes 1 to 7 of the Identity object. A call costs fewer
+    /// instructions than the same code inlined.
+    #[inline(never)]
     fn append_identity(&self, max_size: usize, reply: &mut ReplyBuf) -> Result<(), Refusal>
         requires max_size { max_size ≤ REPLY_LIMIT }
         requires fits { length reply.old.items ≤ max_size }
@@ -152,6 +156,7 @@ impl Objects {
     }
 
     /// Get_Attribute_List: each attribute with its status.
+    #[inline(always)]
     #[tactic(auto, unfolding(crate::specs::ReadServices::get_attribute_list))]
     pub(crate) fn get_attribute_list(
         &self,
@@ -270,6 +275,7 @@ impl Objects {
     }
 
     /// Get_Member: the bytes of the member.
+    #[inline(always)]
     #[tactic(auto, unfolding(crate::specs::ReadServices::get_member))]
     pub(crate) fn get_member(&self, resolved: ResolvedPath, data: &[u8]) -> Result<&[u8], Refusal>
         requires there { Exists self.now.shapes resolved.object }

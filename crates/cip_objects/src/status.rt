@@ -27,32 +27,33 @@ impl Completion {
     }
 }
 
-/// Why a request is refused. Nothing is changed, and the reply has this status and no data.
-#[derive(Clone, Copy)]
-pub(crate) enum Refusal {
-    /// The path is malformed.
+/// Why a request is refused: nothing changes, and the reply has this general status and no data (Volume 1, general
+/// status codes).
+#[derive(Clone, Copy, Debug, PartialEq, Eq)]
+pub enum Refusal {
+    /// The path is malformed: 0x04.
     PathSegmentError,
-    /// There is no such class or instance.
+    /// There is no such class or instance: 0x05.
     PathDestinationUnknown,
-    /// The object does not have this service.
+    /// The object does not have this service: 0x08.
     ServiceNotSupported,
-    /// The attribute cannot have this value.
+    /// The attribute cannot have this value: 0x09.
     InvalidAttributeValue,
-    /// The attribute cannot be set.
+    /// The attribute cannot be set: 0x0e.
     AttributeNotSettable,
-    /// The reply would be longer than its limit.
+    /// The reply would be longer than its limit: 0x11.
     ReplyDataTooLarge,
-    /// The request has too little data for the service.
+    /// The request has too little data for the service: 0x13.
     NotEnoughData,
-    /// There is no such attribute.
+    /// There is no such attribute: 0x14.
     AttributeNotSupported,
-    /// The request has too much data for the service.
+    /// The request has too much data for the service: 0x15.
     TooMuchData,
-    /// The service cannot take this parameter.
+    /// The service cannot take this parameter: 0x20.
     InvalidParameter,
-    /// The path goes past the end of the request.
+    /// The path goes past the end of the request: 0x26.
     PathSizeInvalid,
-    /// There is no such member.
+    /// There is no such member: 0x28.
     InvalidMemberId,
 }
 
@@ -76,7 +77,7 @@ impl Refusal {
     ghost use Rattle.cip_objects.specs.Status.{refusal_status};
 
     /// The general status of the reply.
-    pub(crate) fn status(self) -> GeneralStatus
+    pub fn status(self) -> GeneralStatus
         ensures { result ≡ refusal_status self }
     {
         match self {

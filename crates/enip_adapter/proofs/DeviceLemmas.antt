@@ -18,7 +18,7 @@ use Rattle.cip_ledger.specs.Turn.{Fate, Passed, Served as ServedByLedger, fate, 
 use Rattle.cip_ledger.proofs.Answered.{rises-apart}
 use Rattle.cip_ledger.proofs.Fates.{Means, fate-means}
 use Rattle.cip_ledger.proofs.Settled.{Settled, next_by, settled-run, settled-command, journal-above, router-reached}
-use Rattle.cip_objects.specs.Contents.{Contents}
+use Rattle.cip_owner.specs.Owned.{OwnedState}
 use Rattle.cip_manager.specs.declared.connection.Connection.{Connection}
 use Rattle.cip_manager.specs.Connection.{is_named}
 use Rattle.cip_manager.specs.Items.{turn_of_found}
@@ -53,7 +53,7 @@ abbrev Ends : Device → Device → List Request → Type 0
 Ends old new requests = new ≡ (run old requests).after
 
 -- What holds of both alternatives of two choices by the same test holds of the choices.
-choose : {X Y : Type 0} → (P : X → Y → Type 0) (b : Bool) (x y : X) (u v : Y) → P x u → P y v → P (cond b x y) (cond b u v)
+pub choose : {X Y : Type 0} → (P : X → Y → Type 0) (b : Bool) (x y : X) (u v : Y) → P x u → P y v → P (cond b x y) (cond b u v)
 choose P true x y u v p q = p
 choose P false x y u v p q = q
 
@@ -163,12 +163,12 @@ step-ends s (Long peer header) =
     same-ends s peer (λ session. leaving s.shared (long_refused session header)) (session_of s peer) (λ session. refl)
 step-ends s (Written write) = refl
 
-after-two : (device : Device) (first second : List DeviceStep)
+pub after-two : (device : Device) (first second : List DeviceStep)
     → device_after device (first ++ second) ≡ device_after (device_after device first) second
 after-two device [] second = refl
 after-two device (step ∷ first) second = after-two (device_after_step device step) first second
 
-events-end : (s : State) (events : List Event)
+pub events-end : (s : State) (events : List Event)
     → (after s events).shared.objects ≡ device_after s.shared.objects (device_steps s events)
 events-end s [] = refl
 events-end s (event ∷ events) =
@@ -248,18 +248,18 @@ calls-run a calls all =
 
 -- ---- the objects alone
 
-objects-requests : (objects : Contents) (requests : List Request)
+objects-requests : (objects : OwnedState) (requests : List Request)
     → objects_after_steps objects (map Requested requests) ≡ router_after objects_after objects_answer objects requests
 objects-requests objects [] = refl
 objects-requests objects (request ∷ requests) =
     objects-requests (objects_after objects request.0 request.1) requests
 
-objects-two : (objects : Contents) (first second : List DeviceStep)
+objects-two : (objects : OwnedState) (first second : List DeviceStep)
     → objects_after_steps objects (first ++ second) ≡ objects_after_steps (objects_after_steps objects first) second
 objects-two objects [] second = refl
 objects-two objects (step ∷ first) second = objects-two (objects_after_step objects step) first second
 
-step-reached : (device : Device) (step : DeviceStep)
+pub step-reached : (device : Device) (step : DeviceStep)
     → (device_after_step device step).router ≡ objects_after_steps device.router (reached_by_step device step)
 step-reached device (Requested request) =
     router-reached objects_after objects_answer (request ∷ []) device
@@ -286,7 +286,7 @@ objects-end a calls =
 -- ---- the numbers of commands
 
 -- What holds of a first part until a slot is freed, and of a second part if the first frees it not, holds of both.
-above-append : (originator : ℕ) (IsSo : LedgerCommand → Type 0) (events later : List LedgerEvent)
+pub above-append : (originator : ℕ) (IsSo : LedgerCommand → Type 0) (events later : List LedgerEvent)
     → UntilFreed originator IsSo events → (IsNotFreed originator events → UntilFreed originator IsSo later)
     → UntilFreed originator IsSo (events ++ later)
 above-append originator IsSo [] later is more = more tt

@@ -8,20 +8,17 @@ use Rattle.enip_wire.specs.Stream.Parsed.{Incomplete, WholeFrame, TooLongHeader}
 use Rattle.enip_adapter.specs.declared.peer.PeerSlot.{PeerSlot}
 use Rattle.enip_adapter.specs.declared.peer.Session.{Session}
 use Rattle.enip_adapter.specs.declared.reply.Reaction.{Reaction}
-use Rattle.enip_adapter.specs.declared.reply.Reply.{Reply}
 use Rattle.enip_adapter.specs.declared.reply.Reply.TheVariants as replies
 use Rattle.enip_adapter.specs.declared.shared.Shared.{Shared}
-use Rattle.enip_adapter.specs.declared.no_reply_reason.NoReplyReason.{NoReplyReason}
 use Rattle.enip_adapter.specs.declared.no_reply_reason.NoReplyReason.TheVariants.{NoFrame, NotServed}
-use Rattle.std.specs.Borrow.{Bor}
-use Rattle.enip_adapter.specs.Adapter.{adapter_in, state_in, session_in, held_in, feed_output}
+use Rattle.enip_adapter.specs.Adapter.{adapter_in, state_in, session_in, held_in}
 use Rattle.enip_adapter.specs.Calls.{AdapterState, Held, Meaning, piece_to, piece_meaning, dropped_piece, events_of_parsed, bytes_held, bytes_found, last_from, after_call, call_meaning, call_answer}
 use Rattle.enip_adapter.specs.Calls.Call.{Feeds}
 use Rattle.enip_adapter.specs.Commands.{command_served, long_refused, parsed_served}
 use Rattle.enip_adapter.specs.Lookup.{first_with, with_first, IsFirstWith}
 use Rattle.enip_adapter.specs.PeerSlots.{PeerSlotsState, peer_slots_in, IsFed, piece_at, handle_of}
 use Rattle.enip_adapter.specs.Replies.{Served, leaving, no_reply, written}
-use Rattle.enip_adapter.specs.Turn.{State, Output, Answer, turned, after, answers, session_of, serve_found, session_after, shared_after, sent, at_moment}
+use Rattle.enip_adapter.specs.Turn.{State, Answer, turned, after, answers, session_of, serve_found, session_after, shared_after, sent, at_moment}
 use Rattle.enip_adapter.specs.Turn.Output.{NoReply}
 use Rattle.enip_adapter.proofs.LookupLemmas.{first-Some, first-None, slice_get-past, slice_get-within}
 use Rattle.enip_adapter.proofs.MapLemmas.{map-first_with, map-with_first}
@@ -253,12 +250,3 @@ feeds old new next_handle shared first left now handle peer piece bytes outcome 
     (feeds_now old.limit next_handle shared left old.taken new.taken now peer piece bytes outcome
     (subst (λ h. IsFed old.limit next_handle (at_moment shared now) old.taken (piece_at old.limit next_handle (at_moment shared now) old.taken h piece) left new.taken outcome bytes) who
     (subst (λ s. IsFed old.limit next_handle s old.taken (piece_at old.limit next_handle s old.taken handle piece) left new.taken outcome bytes) moment fed))))
-
--- What was lent is what was written, or there is a reason.
-pub said_written : (reply : Reply) (bytes : List ℕ) (slice : Bor (List ℕ)) → reply ≡ replies.Written → slice.now ≡ bytes
-    → feed_output (Some slice) None ≡ sent (written reply bytes)
-said_written reply bytes slice is same = rw (is, same) refl
-
-pub output_no_reply : (reply : Reply) (bytes : List ℕ) (why : NoReplyReason) (output : Output) → reply ≡ replies.NoReply why
-    → sent (written reply bytes) ≡ output → NoReply why ≡ output
-output_no_reply reply bytes why output is same = ap (λ r. sent (written r bytes)) (sym is) ∙ same

@@ -23,4 +23,8 @@ pub mod SessionEndLemmas
 pub mod RootLemmas
 pub mod CauseLemmas
 pub mod DeviceLemmas
+pub mod AskLemmas
+pub mod OwnerLemmas
+pub mod AskedLemmas
+pub mod WrittenLemmas
 pub mod RouteLemmas

@@ -44,7 +44,7 @@ abbrev pub new_shared : Device → Listen → Limits → Shared
 new_shared device listen limits = record {
   listen = listen;
   moment = 0;
-  manager = no_connection limits.connections limits.first_id device.router.device;
+  manager = no_connection limits.connections limits.first_id device.router.objects.device;
   objects = device;
 }
 

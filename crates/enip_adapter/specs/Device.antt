@@ -1,12 +1,24 @@
 -- What the device itself does with its adapter, apart from its peers' frames.
+use Rattle.std.specs.Prelude.{Option}
 use Rattle.cip_objects.specs.Contents.{Contents}
+use Rattle.cip_owner.specs.Owned.{OwnedState}
+use Rattle.cip_owner.specs.Replies.{Reply}
 use Rattle.enip_adapter.specs.Calls.{AdapterState}
+use Rattle.enip_adapter.specs.OwnWrites.{with_contents}
 
--- The adapter with other objects, and all else unchanged, the ledger too.
-abbrev pub with_objects : AdapterState → Contents → AdapterState
-with_objects a objects =
+-- The adapter with another router behind the ledger, and all else unchanged, the ledger too.
+abbrev pub with_router : AdapterState → OwnedState → AdapterState
+with_router a owned =
     record a {
       state = record a.state {
-        shared = record a.state.shared { objects = record a.state.shared.objects { router = objects } };
+        shared = record a.state.shared { objects = record a.state.shared.objects { router = owned } };
       };
     }
+
+-- The adapter with other objects.
+abbrev pub with_objects : AdapterState → Contents → AdapterState
+with_objects a objects = with_router a (with_contents a.state.shared.objects.router objects)
+
+-- The adapter with another reply of the owner prepared, or none.
+abbrev pub with_prepared : AdapterState → Option Reply → AdapterState
+with_prepared a reply = with_router a (record a.state.shared.objects.router { prepared = reply })

@@ -13,8 +13,7 @@ use Rattle.cip_ledger.specs.Runs.{Request, journal, reached}
 use Rattle.cip_ledger.specs.Runs.{Event as LedgerEvent}
 use Rattle.cip_manager.specs.declared.connection.Connection.{Connection}
 use Rattle.cip_manager.specs.Connection.{is_named}
-use Rattle.cip_objects.specs.Contents.{Contents}
-use Rattle.cip_objects.specs.Execution.{exec}
+use Rattle.cip_owner.specs.Owned.{OwnedState, exec_owned}
 use Rattle.enip_wire.specs.Bodies.{rr_body_of, unit_body_of}
 use Rattle.enip_wire.specs.Frames.{Frame}
 use Rattle.enip_wire.specs.declared.item_list.CpfFault.{CpfFault}
@@ -92,13 +91,13 @@ device_requests s (event ∷ events) = requests_by_event s event ++ device_reque
 abbrev pub requests_of_calls : AdapterState → List Call → List Request
 requests_of_calls a calls = device_requests a.state (events_of_calls a calls)
 
--- ---- the objects
+-- ---- the objects and the prepared reply, without the ledger
 
-abbrev pub objects_after : Contents → ℕ → List ℕ → Contents
-objects_after objects max_size request = (exec objects max_size request).after
+abbrev pub objects_after : OwnedState → ℕ → List ℕ → OwnedState
+objects_after owned max_size request = (exec_owned owned max_size request).after
 
-abbrev pub objects_answer : Contents → ℕ → List ℕ → List ℕ
-objects_answer objects max_size request = (exec objects max_size request).answer
+abbrev pub objects_answer : OwnedState → ℕ → List ℕ → List ℕ
+objects_answer owned max_size request = (exec_owned owned max_size request).answer
 
 -- ---- the device's own writes among them
 
@@ -133,14 +132,14 @@ abbrev pub device_after : Device → List DeviceStep → Device
 device_after device [] = device
 device_after device (step ∷ steps) = device_after (device_after_step device step) steps
 
--- The objects alone after these steps.
-abbrev pub objects_after_step : Contents → DeviceStep → Contents
-objects_after_step objects (Requested request) = objects_after objects request.0 request.1
-objects_after_step objects (WrittenBy write) = objects_written write objects
+-- The objects and the prepared reply alone after these steps.
+abbrev pub objects_after_step : OwnedState → DeviceStep → OwnedState
+objects_after_step owned (Requested request) = objects_after owned request.0 request.1
+objects_after_step owned (WrittenBy write) = objects_written write owned
 
-abbrev pub objects_after_steps : Contents → List DeviceStep → Contents
-objects_after_steps objects [] = objects
-objects_after_steps objects (step ∷ steps) = objects_after_steps (objects_after_step objects step) steps
+abbrev pub objects_after_steps : OwnedState → List DeviceStep → OwnedState
+objects_after_steps owned [] = owned
+objects_after_steps owned (step ∷ steps) = objects_after_steps (objects_after_step owned step) steps
 
 -- What reaches the objects: of each request what the ledger lets through, and each write.
 abbrev pub reached_by_step : Device → DeviceStep → List DeviceStep
@@ -178,8 +177,8 @@ abbrev pub run_law : Type 0
 run_law = (a : AdapterState) (calls : List Call) → AllByRecursion IsNoWrite calls →
     (after_calls a calls).state.shared.objects ≡ (run a.state.shared.objects (requests_of_calls a calls)).after
 
--- The objects are as if they alone had executed what reached them: each request that is not to the ledger, the embedded
--- request of each command once, and each write of the device.
+-- The objects and the prepared reply are as if they alone had executed what reached them: each request that is not to
+-- the ledger, the embedded request of each command once, and each write of the device.
 abbrev pub objects_law : Type 0
 objects_law = (a : AdapterState) (calls : List Call) → (after_calls a calls).state.shared.objects.router
     ≡ objects_after_steps a.state.shared.objects.router

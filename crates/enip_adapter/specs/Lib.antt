@@ -24,3 +24,5 @@ pub mod Device
 pub mod Endings
 pub mod EndCauses
 pub mod DeviceRuns
+pub mod Asks
+pub mod OwnerLaws

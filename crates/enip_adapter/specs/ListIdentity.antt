@@ -36,4 +36,4 @@ identity_text listen objects = text_of_item (identity_item listen objects)
 
 -- Answered with or without a session, and whatever its data.
 abbrev pub list_identity : Shared → Session → Frame → Reaction
-list_identity shared session f = replied session f.header (identity_text shared.listen shared.objects.router)
+list_identity shared session f = replied session f.header (identity_text shared.listen shared.objects.router.objects)

@@ -1,21 +1,43 @@
--- What the device itself writes into its objects, apart from the frames of its peers.
-use Rattle.std.specs.Prelude.{ℕ, List, unwrap_or}
+-- What the device itself writes, apart from the frames of its peers: values of its objects, and the next reply of its
+-- owner.
+use Rattle.std.specs.Prelude.{ℕ, ◌==◌, ◌&&◌, if◌then◌else◌, List, Option, unwrap_or}
+use Rattle.cip_bytes.specs.declared.protocol.TheConstants.{ASSEMBLY}
 use Rattle.cip_ledger.specs.Device.{Device}
 use Rattle.cip_objects.specs.Contents.{Contents}
-use Rattle.cip_objects.specs.DeviceWrites.{device_write, with_device_status, with_device_state}
+use Rattle.cip_objects.specs.DeviceWrites.{device_write, object_write, with_device_status, with_device_state}
+use Rattle.cip_owner.specs.Owned.{OwnedState}
+use Rattle.cip_owner.specs.Replies.{Reply}
 
--- Bytes of an assembly's data from an offset on, the device's status, or its state.
+-- Bytes of an assembly's data or of an attribute, from an offset on; the device's status, or its state; or the reply
+-- that the next request to the owner takes.
 pub data OwnWrite : Type 0 where
   WritesData : (instance offset : ℕ) → (bytes : List ℕ) → OwnWrite
+  WritesAttribute : (class instance attribute offset : ℕ) → (bytes : List ℕ) → OwnWrite
   SetsStatus : (status : ℕ) → OwnWrite
   SetsState : (state : ℕ) → OwnWrite
+  Prepares : (reply : Option Reply) → OwnWrite
 
--- The objects after it. Data that is refused changes nothing.
-abbrev pub objects_written : OwnWrite → Contents → Contents
-objects_written (WritesData instance offset bytes) objects =
-    unwrap_or (device_write objects instance offset bytes) objects
-objects_written (SetsStatus status) objects = with_device_status objects status
-objects_written (SetsState state) objects = with_device_state objects state
+-- The objects after the device wrote bytes into an attribute, from an offset on. The attribute is the data of an
+-- assembly or an attribute of an application object. None if it is neither, or if its value cannot hold the bytes.
+abbrev pub attribute_write : Contents → ℕ → ℕ → ℕ → ℕ → List ℕ → Option Contents
+attribute_write objects class instance attribute offset bytes =
+    if (class == ASSEMBLY) && (attribute == 3) then device_write objects instance offset bytes
+    else object_write objects class instance attribute offset bytes
+
+-- With other objects. The reply that is prepared stays.
+abbrev pub with_contents : OwnedState → Contents → OwnedState
+with_contents owned objects = record owned { objects = objects }
+
+-- The objects and the prepared reply after it. Bytes that are refused change nothing.
+abbrev pub objects_written : OwnWrite → OwnedState → OwnedState
+objects_written (WritesData instance offset bytes) owned =
+    with_contents owned (unwrap_or (device_write owned.objects instance offset bytes) owned.objects)
+objects_written (WritesAttribute class instance attribute offset bytes) owned =
+    with_contents owned
+    (unwrap_or (attribute_write owned.objects class instance attribute offset bytes) owned.objects)
+objects_written (SetsStatus status) owned = with_contents owned (with_device_status owned.objects status)
+objects_written (SetsState state) owned = with_contents owned (with_device_state owned.objects state)
+objects_written (Prepares reply) owned = record owned { prepared = reply }
 
 -- The device after it. A ledger does not change.
 abbrev pub device_written : OwnWrite → Device → Device

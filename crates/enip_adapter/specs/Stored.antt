@@ -9,6 +9,8 @@ use Rattle.cip_ledger.specs.Ledger.{LedgerState, SlotState}
 use Rattle.cip_manager.specs.declared.connection.Connection.{Connection}
 use Rattle.cip_manager.specs.declared.connection.Triad.{Triad}
 use Rattle.cip_manager.specs.Manager.{ManagerState}
+use Rattle.cip_owner.specs.Owned.{OwnedState}
+use Rattle.cip_owner.specs.Replies.{Reply}
 use Rattle.enip_adapter.specs.declared.peer.Session.{Session}
 use Rattle.enip_adapter.specs.declared.shared.Listen.{Listen}
 use Rattle.enip_adapter.specs.declared.shared.Shared.{Shared}
@@ -104,9 +106,19 @@ ledger_code =
     (λ l. (l.slots, (l.life, l.taken)))
     ledger_from (λ _. refl)
 
+abbrev pub reply_code : Coded Reply
+reply_code =
+    code_by (ℕ × List ℕ) (coded× coded_ℕ (coded_list coded_ℕ)) (λ r. (r.status, r.content))
+    (λ p. record { status = p.0; content = p.1 }) (λ _. refl)
+
+abbrev pub owned_code : Coded OwnedState
+owned_code =
+    code_by (Contents × Option Reply) (coded× contents_code (coded_option reply_code)) (λ o. (o.objects, o.prepared))
+    (λ p. record { objects = p.0; prepared = p.1 }) (λ _. refl)
+
 abbrev pub served_code : Coded Device
 served_code =
-    code_by (Option LedgerState × Contents) (coded× (coded_option ledger_code) contents_code)
+    code_by (Option LedgerState × OwnedState) (coded× (coded_option ledger_code) owned_code)
     (λ d. (d.ledger, d.router))
     (λ p. record { ledger = p.0; router = p.1 }) (λ _. refl)
 

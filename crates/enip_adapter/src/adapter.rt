@@ -10,14 +10,18 @@ ghost use Rattle.std.specs.List.{list_any};
 ghost use Rattle.cip_manager.specs.declared.connection.Connection.{Connection};
 ghost use Rattle.cip_manager.specs.Connection.{earliest_deadline, has_id};
 ghost use Rattle.cip_manager.specs.ConnectionInfo.{connection_info};
-ghost use Rattle.enip_adapter.specs.Turn.{session_of};
+ghost use Rattle.enip_adapter.specs.Turn.{session_of, sent};
 ghost use Rattle.cip_ledger.specs.Device.{device_of};
-ghost use Rattle.cip_objects.specs.Changes.{changes_of};
+ghost use Rattle.cip_objects.specs.Changes.{changes_of, changes_at};
 ghost use Rattle.cip_objects.specs.DeviceWrites.{device_write, with_device_status, with_device_state};
-ghost use Rattle.enip_adapter.specs.Adapter.{full_number};
-ghost use Rattle.enip_adapter.specs.Device.{with_objects};
-ghost use Rattle.enip_adapter.specs.OwnWrites.{OwnWrite};
+ghost use Rattle.cip_objects.specs.ObjectMap.{key};
+ghost use Rattle.enip_adapter.specs.Adapter.{full_number, feed_output};
+ghost use Rattle.enip_adapter.specs.Device.{with_objects, with_prepared};
+ghost use Rattle.enip_adapter.specs.OwnWrites.{OwnWrite, attribute_write};
+ghost use Rattle.enip_adapter.specs.Replies.{written};
 ghost use Rattle.enip_adapter.specs.Discovery.{discovered};
+
+mod asking;
 
 use crate::commands::DiscoveryBuffer;
 use crate::no_reply_reason::NoReplyReason;
@@ -25,9 +29,11 @@ use crate::peer::{Peer, Session};
 use crate::peer_slots::PeerSlots;
 use crate::reply::{AnswerFrame, LONGEST_ANSWER, Reaction, Reply};
 use crate::shared::{Listen, Shared};
+use cip_bytes::protocol::ASSEMBLY;
 use cip_ledger::{Ledger, LedgerRouter};
 use cip_manager::{ConnectionInfo, Manager, Steps};
 use cip_objects::{Objects, ReplyBuf};
+use cip_owner::{OwnedObjects, OwnerReply};
 use std::alloc::{AllocError, Global};
 use std::marker::Model;
 use thiserror::Error;
@@ -127,7 +133,7 @@ impl Model for Adapter {
 }
 
 impl Adapter {
-    ghost use Rattle.enip_adapter.specs.Adapter.{new_adapter, begin_output, feed_output};
+    ghost use Rattle.enip_adapter.specs.Adapter.{new_adapter, begin_output};
     ghost use Rattle.enip_adapter.specs.Calls.{Call, call_meaning, call_answer, after_call};
     ghost use Rattle.enip_adapter.specs.Serving.{is_peer_served};
     ghost use Rattle.enip_adapter.specs.contracts.adapter.Adapter.{the_row};
@@ -154,7 +160,7 @@ impl Adapter {
     {
         let device = LedgerRouter {
             ledger: None,
-            router: objects,
+            router: OwnedObjects::new(objects),
         };
         Adapter::of_device(alloc, device, listen, limits)
     }
@@ -182,7 +188,7 @@ impl Adapter {
     {
         let device = LedgerRouter {
             ledger: Some(ledger),
-            router: objects,
+            router: OwnedObjects::new(objects),
         };
         Adapter::of_device(alloc, device, listen, limits)
     }
@@ -190,7 +196,7 @@ impl Adapter {
     /// Makes an adapter of the objects, with the ledger before them if there is one.
     fn of_device(
         alloc: Global,
-        device: LedgerRouter<Objects>,
+        device: LedgerRouter<OwnedObjects>,
         listen: Listen,
         limits: Limits,
     ) -> Result<Adapter, AllocError>
@@ -203,7 +209,7 @@ impl Adapter {
         ensures { IfOk result (λ a. a ≡ new_adapter device listen limits) }
     {
         let places = PeerSlots::new(alloc, limits.peers)?;
-        let key = device.router.device();
+        let key = device.router.objects.device();
         let manager = Manager::new(alloc, limits.connections, limits.first_id, key)?;
         Ok(Adapter {
             next_handle: u64::from(limits.first_handle),
@@ -269,20 +275,7 @@ impl Adapter {
             &mut self.reply,
             &mut self.answer,
         );
-        match reaction.reply {
-            Reply::Written => Fed {
-                taken,
-                answer: Some(self.answer.as_slice()),
-                no_reply_reason: None,
-                close: reaction.close,
-            },
-            Reply::NoReply(why) => Fed {
-                taken,
-                answer: None,
-                no_reply_reason: Some(why),
-                close: reaction.close,
-            },
-        }
+        lend(&self.answer, taken, reaction)
     }
 
     /// Ends a peer and its connections, and frees its slot. Nothing changes if the peer is not held.
@@ -329,9 +322,9 @@ impl Adapter {
 
     /// The current objects.
     pub fn objects(&self) -> &Objects
-        ensures { result.now ≡ self.now.state.shared.objects.router }
+        ensures { result.now ≡ self.now.state.shared.objects.router.objects }
     {
-        &self.shared.objects.router
+        &self.shared.objects.router.objects
     }
 
     /// The current command ledger. `None` if the adapter has none.
@@ -348,42 +341,109 @@ impl Adapter {
     /// write is not counted in `changes`, and nothing else of the adapter changes.
     pub fn write_data(&mut self, instance: u32, offset: usize, bytes: &[u8]) -> bool
         ensures written { self.new ≡ with_objects self.old (unwrap_or
-            (device_write self.old.state.shared.objects.router instance offset bytes.now) self.old.state.shared.objects.router) }
-        ensures told { result ≡ is_some (device_write self.old.state.shared.objects.router instance offset bytes.now) }
+            (device_write self.old.state.shared.objects.router.objects instance offset bytes.now)
+            self.old.state.shared.objects.router.objects) }
+        ensures told { result
+            ≡ is_some (device_write self.old.state.shared.objects.router.objects instance offset bytes.now) }
         ensures call { self.new ≡ after_call self.old (Call.Writes (OwnWrite.WritesData instance offset bytes.now)) }
     {
         self.shared
             .objects
             .router
+            .objects
             .write_data(instance, offset, bytes)
+    }
+
+    /// Writes bytes into an attribute, from `offset` on, on behalf of the device itself: the data of an assembly (class
+    /// 0x04, attribute 3) or an attribute of an application object. Whether peers may set it does not matter.
+    ///
+    /// Returns `false`, and changes nothing, if it is neither or its value cannot hold the bytes: they must end within
+    /// it, and a SHORT_STRING is written as a whole. The write is not counted in `attribute_changes`, and nothing else
+    /// of the adapter changes.
+    ///
+    /// ```
+    /// adapter.write_attribute(0x64, 1, 3, 0, &[0x10, 0x27]); // the INT at attribute 3 is 10,000 now
+    /// ```
+    pub fn write_attribute(
+        &mut self,
+        class: u16,
+        instance: u32,
+        attribute: u16,
+        offset: usize,
+        bytes: &[u8],
+    ) -> bool
+        ensures written { self.new ≡ with_objects self.old (unwrap_or
+            (attribute_write self.old.state.shared.objects.router.objects class instance attribute offset bytes.now)
+            self.old.state.shared.objects.router.objects) }
+        ensures told { result ≡ is_some
+            (attribute_write self.old.state.shared.objects.router.objects class instance attribute offset bytes.now) }
+        ensures call { self.new ≡ after_call self.old
+            (Call.Writes (OwnWrite.WritesAttribute class instance attribute offset bytes.now)) }
+    {
+        let objects = &mut self.shared.objects.router.objects;
+        if class == ASSEMBLY && attribute == 3 {
+            return objects.write_data(instance, offset, bytes);
+        }
+        objects.write_attribute(class, instance, attribute, offset, bytes)
     }
 
     /// Sets the device's status, a WORD: attribute 5 of the Identity object, which ListIdentity shows too. Nothing else
     /// changes.
     pub fn set_device_status(&mut self, status: u16)
         ensures written { self.new
-            ≡ with_objects self.old (with_device_status self.old.state.shared.objects.router status) }
+            ≡ with_objects self.old (with_device_status self.old.state.shared.objects.router.objects status) }
         ensures call { self.new ≡ after_call self.old (Call.Writes (OwnWrite.SetsStatus status)) }
     {
-        self.shared.objects.router.set_device_status(status);
+        self.shared.objects.router.objects.set_device_status(status);
     }
 
     /// Sets the device's state, a USINT: attribute 8 of the Identity object, which ListIdentity shows too. Nothing else
     /// changes.
     pub fn set_device_state(&mut self, state: u8)
         ensures written { self.new
-            ≡ with_objects self.old (with_device_state self.old.state.shared.objects.router state) }
+            ≡ with_objects self.old (with_device_state self.old.state.shared.objects.router.objects state) }
         ensures call { self.new ≡ after_call self.old (Call.Writes (OwnWrite.SetsState state)) }
     {
-        self.shared.objects.router.set_device_state(state);
+        self.shared.objects.router.objects.set_device_state(state);
+    }
+
+    /// Sets the reply that the next request to the owner takes, or `None`. Nothing else changes.
+    ///
+    /// A program that serves peers calls `feed_prepared` instead, which withdraws a reply that is not taken.
+    pub fn prepare(&mut self, reply: Option<OwnerReply>)
+        ensures written { self.new ≡ with_prepared self.old reply }
+        ensures call { self.new ≡ after_call self.old (Call.Writes (OwnWrite.Prepares reply)) }
+    {
+        self.shared.objects.router.prepared = reply;
+    }
+
+    /// The reply that the next request to the owner takes, if one is prepared.
+    pub fn prepared(&self) -> Option<&OwnerReply>
+        ensures { option_map (λ reply. reply.now) result ≡ self.now.state.shared.objects.router.prepared }
+    {
+        self.shared.objects.router.prepared.as_ref()
     }
 
     /// How often peers have written data of this assembly, modulo 2^32. `None` if there is no such assembly. See
     /// `Objects::changes` for what counts.
     pub fn changes(&self, instance: u32) -> Option<u32>
-        ensures { result ≡ changes_of instance self.now.state.shared.objects.router.changes }
+        ensures { result ≡ changes_of instance self.now.state.shared.objects.router.objects.changes }
     {
-        self.shared.objects.router.changes(instance)
+        self.shared.objects.router.objects.changes(instance)
+    }
+
+    /// How often peers have set this attribute of an application object, or the data of an assembly (class 0x04,
+    /// attribute 3), modulo 2^32. `None` if there is no such attribute. See `Objects::attribute_changes` for what
+    /// counts.
+    pub fn attribute_changes(&self, class: u16, instance: u32, attribute: u16) -> Option<u32>
+        ensures { result
+            ≡ changes_at (key class instance attribute) self.now.state.shared.objects.router.objects.changes }
+    {
+        self.shared
+            .objects
+            .router
+            .objects
+            .attribute_changes(class, instance, attribute)
     }
 
     /// The number of open connections.
@@ -438,5 +498,30 @@ impl Adapter {
             ≡ self.now.state.shared.manager.places - length self.now.state.shared.manager.connections }
     {
         (self.places.free(), self.shared.manager.free())
+    }
+}
+
+/// The outcome of a feed, which lends the answer if there is one.
+#[inline(always)]
+fn lend(answer: &AnswerFrame, taken: usize, reaction: Reaction) -> Fed<'_>
+    ensures taken { result.taken ≡ taken }
+    ensures answer { feed_output result.answer result.no_reply_reason ≡ sent (written reaction.reply answer.now.items) }
+    ensures no_reply_reason { is_some result.no_reply_reason ≡ is_none result.answer }
+    ensures close { result.close ≡ reaction.close }
+    ensures fits { IfSome result.answer (λ frame. length frame.now ≤ LONGEST_ANSWER) }
+{
+    match reaction.reply {
+        Reply::Written => Fed {
+            taken,
+            answer: Some(answer.as_slice()),
+            no_reply_reason: None,
+            close: reaction.close,
+        },
+        Reply::NoReply(why) => Fed {
+            taken,
+            answer: None,
+            no_reply_reason: Some(why),
+            close: reaction.close,
+        },
     }
 }

@@ -1,6 +1,7 @@
 //! What a whole frame does. (Volume 2, encapsulation commands.)
 //! Text: docs/PROTOCOL.md, "A peer".
 
+mod asking;
 mod discovery;
 mod items;
 mod lists;
@@ -17,6 +18,7 @@ use crate::no_reply_reason::NoReplyReason;
 use crate::peer::Session;
 use crate::reply::{AnswerFrame, Reaction, Reply, refuse};
 use crate::shared::Shared;
+pub(crate) use asking::asked;
 use cip_bytes::protocol::{Command, EncapsulationStatus};
 use cip_objects::ReplyBuf;
 pub use discovery::DiscoveryBuffer;

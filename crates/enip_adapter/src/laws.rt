@@ -13,6 +13,8 @@ ghost use Rattle.enip_adapter.specs.declared.shared.Listen.{Listen};
 ghost use Rattle.enip_adapter.specs.Adapter.{new_adapter};
 ghost use Rattle.enip_adapter.specs.DeviceRuns.{device_law, run_law, objects_law, commands_once_law, numbers_rise_law};
 ghost use Rattle.enip_adapter.specs.Discovery.{discovered};
+ghost use Rattle.enip_adapter.specs.OwnerLaws.{one_asked_law, asked_alike_law, repeat_law, given_law, unasked_law};
+ghost use Rattle.enip_adapter.specs.OwnerLaws.{answered_law, nobody_law, calls_law, asked_once_law};
 ghost use Rattle.enip_adapter.specs.EndCauses.{endings_in_calls, IsReportedClosed, IsForwardClosed};
 ghost use Rattle.enip_adapter.specs.Endings.{EndingsState, updated};
 ghost use Rattle.enip_adapter.specs.Turn.{Event, Answer, answers, after, session_of};
@@ -206,4 +208,22 @@ pub fn discovery_is_as_over_tcp()
     ensures adapter { (a : AdapterState) (now peer : ℕ) (datagram bytes : List ℕ) → is_peer_served a peer ≡ true →
         bytes_held a.held peer ≡ [] → discovered a.state.shared datagram ≡ Some bytes →
         after_call a (Feeds now peer datagram) ≡ after_call a (Ticks now) }
+{}
+
+/// The owner of the device is asked each of its own requests that reaches the objects. A feed asks at most one. Neither
+/// what is prepared nor what the device writes changes what is asked, and a repeat on a connection asks nothing. A
+/// prepared reply goes to the request that is asked: it is the device's reply, then nothing is prepared, and only a set
+/// that the owner accepts has changed the objects. A feed that asks nothing leaves what is prepared. If nothing is
+/// prepared, a feed that asks `NoOwner` is a feed. What calls ask is what each of them asks, in order. Of the commands
+/// that the ledger executes, none asks twice, unless the originator's slot is freed in between.
+pub fn owner_is_asked()
+    ensures one { one_asked_law }
+    ensures alike { asked_alike_law }
+    ensures repeat { repeat_law }
+    ensures given { given_law }
+    ensures answered { answered_law }
+    ensures unasked { unasked_law }
+    ensures nobody { nobody_law }
+    ensures calls { calls_law }
+    ensures once { asked_once_law }
 {}

@@ -44,6 +44,7 @@
 #![tactic(auto)]
 
 mod adapter;
+mod asked_request;
 mod commands;
 mod endings;
 pub mod laws;
@@ -55,6 +56,7 @@ mod serving;
 mod shared;
 
 pub use adapter::{Adapter, Fed, Full, Limits};
+pub use asked_request::AskedRequest;
 pub use commands::DiscoveryBuffer;
 pub use endings::{EndReason, EndedConnection, Endings};
 pub use no_reply_reason::NoReplyReason;

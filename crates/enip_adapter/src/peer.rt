@@ -4,12 +4,15 @@
 ghost use Rattle.std.specs.Prelude.{◌≡◌, ◌<◌, ◌≤◌, length};
 ghost use Rattle.enip_wire.specs.Frames.{IsComplete};
 ghost use Rattle.enip_wire.specs.Stream.{bytes_taken, held_and_taken, parsed, cleared};
+ghost use Rattle.cip_ledger.specs.Reaching.{listed};
 ghost use Rattle.enip_adapter.specs.Adapter.{IsWaiting};
+ghost use Rattle.enip_adapter.specs.Asks.{asks_by_parsed};
 ghost use Rattle.enip_adapter.specs.Turn.{shared_after, session_after};
 ghost use Rattle.enip_adapter.specs.Commands.{parsed_served};
 ghost use Rattle.enip_adapter.specs.Replies.{written};
 
-use crate::commands::{refuse_long, serve};
+use crate::asked_request::AskedRequest;
+use crate::commands::{asked, refuse_long, serve};
 use crate::no_reply_reason::NoReplyReason;
 use crate::reply::{AnswerFrame, Reaction};
 use crate::shared::Shared;
@@ -68,6 +71,19 @@ pub(crate) struct PeerSlot {
 }
 
 impl PeerSlot {
+    /// What the owner would be asked if these bytes of a piece were fed. Nothing changes.
+    pub(crate) fn asked(&mut self, shared: &Shared, piece: &[u8]) -> Option<AskedRequest>
+        ensures state { self.new ≡ self.old }
+        ensures asked { listed result
+            ≡ asks_by_parsed shared.now self.old.session (parsed (held_and_taken self.old.reader piece.now)) }
+    {
+        let session = self.session;
+        match self.reader.peek(piece) {
+            Held::Frame(frame) => asked(shared, session, frame),
+            Held::More | Held::TooLong(_) => None,
+        }
+    }
+
     /// Takes bytes of a piece up to the end of one frame, and serves the frame. `reply` is scratch space for a router's
     /// reply. Returns the number of bytes taken and the reaction to them.
     pub(crate) fn feed(

@@ -3,11 +3,14 @@
 ghost use Rattle.std.specs.Prelude.{ℕ, ◌≡◌, ◌==◌, ◌<◌, ◌≤◌, ◌-◌, length, false, is_some, All, IfOk};
 ghost use Rattle.std.specs.Option.{option_map};
 ghost use Rattle.std.specs.List.{position};
+ghost use Rattle.cip_ledger.specs.Reaching.{listed};
 ghost use Rattle.enip_adapter.specs.Adapter.{session_in, IsWaiting};
+ghost use Rattle.enip_adapter.specs.Asks.{asks_at};
 ghost use Rattle.enip_adapter.specs.Lookup.{first_with, without_first};
 ghost use Rattle.enip_adapter.specs.PeerSlots.{IsFed, piece_at, handle_of, no_slot_taken, with_slot};
 ghost use Rattle.enip_adapter.specs.Serving.{is_open};
 
+use crate::asked_request::AskedRequest;
 use crate::peer::{PeerSlot, Session};
 use crate::reply::{AnswerFrame, Reaction};
 use crate::shared::Shared;
@@ -109,6 +112,20 @@ impl PeerSlots {
         }
     }
 
+    /// What the owner would be asked if a piece were fed to the peer with this handle. Nothing changes.
+    pub(crate) fn asked(
+        &mut self,
+        shared: &Shared,
+        handle: u32,
+        piece: &[u8],
+    ) -> Option<AskedRequest>
+        ensures state { self.new ≡ self.old }
+        ensures asked { (next_handle : ℕ) → listed result
+            ≡ asks_at self.old.limit next_handle shared.now self.old.taken handle piece.now }
+    {
+        asked_of_taken(shared, &mut self.taken, handle, piece)
+    }
+
     /// Feeds a piece to the peer with this handle. Returns the number of bytes taken and the reaction to them.
     pub(crate) fn feed(
         &mut self,
@@ -136,6 +153,23 @@ fn index_of(places: &[PeerSlot], handle: u32) -> Option<usize>
     places
         .iter()
         .position(|place| place.session.handle == handle)
+}
+
+/// What the owner would be asked if a piece were fed to the peer with this handle. Nothing changes.
+fn asked_of_taken(
+    shared: &Shared,
+    places: &mut [PeerSlot],
+    handle: u32,
+    piece: &[u8],
+) -> Option<AskedRequest>
+    ensures state { places.new ≡ places.old }
+    ensures asked { (limit next_handle : ℕ) →
+        listed result ≡ asks_at limit next_handle shared.now places.old handle piece.now }
+{
+    match index_of(places, handle) {
+        Some(index) if !places[index].session.closed => places[index].asked(shared, piece),
+        _ => None,
+    }
 }
 
 /// Feeds a piece to the peer with this handle. Returns the number of bytes taken and the reaction to them.

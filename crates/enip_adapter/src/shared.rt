@@ -6,7 +6,7 @@ ghost use Rattle.enip_adapter.specs.Turn.{at_moment, without_connections};
 
 use cip_ledger::LedgerRouter;
 use cip_manager::Manager;
-use cip_objects::Objects;
+use cip_owner::OwnedObjects;
 
 /// The address and port in a ListIdentity reply.
 ///
@@ -28,8 +28,8 @@ pub(crate) struct Shared {
     /// The greatest time so far, in microseconds.
     pub(crate) moment: u64,
     pub(crate) manager: Manager,
-    /// The objects, and the command ledger before them if there is one.
-    pub(crate) objects: LedgerRouter<Objects>,
+    /// The objects with the reply that their owner prepared, and the command ledger before them if there is one.
+    pub(crate) objects: LedgerRouter<OwnedObjects>,
 }
 
 impl Shared {

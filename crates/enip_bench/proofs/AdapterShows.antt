@@ -284,7 +284,7 @@ reached-shut wire a target router item is shows small =
       output = ap output_bytes fed.output;
     }
 
-otherwise : {A : Type 0} (b : Bool) (x y : A) → b ≡ false → cond b x y ≡ y
+pub otherwise : {A : Type 0} (b : Bool) (x y : A) → b ≡ false → cond b x y ≡ y
 otherwise true x y e = absurd (cc)
 otherwise false x y e = refl
 

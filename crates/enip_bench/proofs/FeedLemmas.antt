@@ -135,7 +135,7 @@ seen_meaning a peer taken s j = record {
   dropped = false;
 }
 
-whole : (a : AdapterState) (peer : ℕ) (session : Session) (f : Frame) → IsReady a peer session → IsFrame f →
+pub whole : (a : AdapterState) (peer : ℕ) (session : Session) (f : Frame) → IsReady a peer session → IsFrame f →
     call_meaning a (Feeds 0 peer (frame f)) ≡ whole_meaning a peer f (bytes_taken [] (frame f))
 whole a peer session f ready ok =
     ap (λ o. at_a_moment 0 (piece_to a.held peer (frame f) o)) ready.found

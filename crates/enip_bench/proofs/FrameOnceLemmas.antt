@@ -48,25 +48,25 @@ use Rattle.enip_bench.proofs.TrackedWorld.{Own, TrackedWorld, tracked_at_opening
 use Rattle.enip_bench.proofs.WriteLemmas.{writes}
 
 -- the objects' replies have the form of a reply
-begins : (objects : Device) (room : ℕ) (request : List ℕ) → 8 ≤ room → 2 ≤ length request →
+pub begins : (objects : Device) (room : ℕ) (request : List ℕ) → 8 ≤ room → 2 ≤ length request →
     IsReplyTo request (exec_answer objects room request)
 begins objects room request roomy least = exec_device-begins objects room request roomy least
 
-within : (objects : Device) (room : ℕ) (request : List ℕ) → 8 ≤ room → 2 ≤ length request →
+pub within : (objects : Device) (room : ℕ) (request : List ℕ) → 8 ≤ room → 2 ≤ length request →
     length (exec_answer objects room request) ≤ room
 within objects room request roomy least = exec_device-within objects room request roomy
 
 module _ {world : CountingWorld} (by : IsReached world) where
   -- the item world after the same events
-  abbrev items_of : ItemWorld Device
+  abbrev pub items_of : ItemWorld Device
   items_of =
       items_after after_exec exec_answer device_written by.wants.first_count by.wants.o_to_t_size
       by.wants.t_to_o_size by.objects by.events
 
-  opened_of : IsOpened by.objects by.wants by.begun
+  pub opened_of : IsOpened by.objects by.wants by.begun
   opened_of = opening_shows by.objects by.listen by.limits by.wants by.wanted by.begun by.opened
 
-  shows_of : Shows opened_of.wire world items_of
+  pub shows_of : Shows opened_of.wire world items_of
   shows_of =
       subst (λ w. Shows opened_of.wire w items_of) (sym by.come)
       (run_shows opened_of.wire by.events by.begun
@@ -166,7 +166,7 @@ once_framed world by = record {
 
 module _ {world : CountingWorld} (by : IsReached world) where
   -- the numbers with their requests
-  abbrev tracked : TrackedWorld
+  abbrev pub tracked : TrackedWorld
   tracked = tracked_run by.wants.o_to_t_size tracked_at_opening by.events
 
   -- a submitted request, in its frame
@@ -243,7 +243,7 @@ module _ {world : CountingWorld} (by : IsReached world) where
       (frames_agree by.objects by.listen by.limits by.wants by.begun (by.events ++ event ∷ []) by.wanted by.opened)
       ∙ ap objects_by (numbers_joined by.wants.o_to_t_size numbers_at_opening by.events (event ∷ []))
 
-  not_stood : (number : ℕ) → (Arrives by.wants.o_to_t_size numbers_at_opening by.events number → ⊥) →
+  pub not_stood : (number : ℕ) → (Arrives by.wants.o_to_t_size numbers_at_opening by.events number → ⊥) →
       stands number (numbers_of by).log ≡ false
   not_stood number never =
       not_true (stands number (numbers_of by).log) (λ is. never ((arrival by.wants.o_to_t_size number by.events).0 is))

@@ -2,12 +2,14 @@ pub mod AdapterShows
 pub mod AgreementLemmas
 pub mod AnswerLemmas
 pub mod ArrivalLemmas
+pub mod AskLemmas
 pub mod BenchLemmas
 pub mod BoundLemmas
 pub mod ClientShows
 pub mod CountLemmas
 pub mod FeedLemmas
 pub mod FrameAgreement
+pub mod FrameAskLemmas
 pub mod FrameBoundLemmas
 pub mod FrameOnceLemmas
 pub mod FrameSteps
@@ -26,6 +28,7 @@ pub mod Plain
 pub mod PlainLemmas
 pub mod PositionLemmas
 pub mod ReachedLemmas
+pub mod NotOwn
 pub mod RoutedLemmas
 pub mod RunLemmas
 pub mod SeenLemmas
@@ -33,6 +36,7 @@ pub mod SmallLemmas
 pub mod SoundLemmas
 pub mod Soundness
 pub mod StepLemmas
+pub mod StepsOfCalls
 pub mod TrackedSteps
 pub mod TrackedWorld
 pub mod WriteLemmas

@@ -10,6 +10,8 @@ use Rattle.cip_bytes.specs.Reading.{◌>>=◌}
 use Rattle.cip_ledger.specs.Device.{Device}
 use Rattle.cip_ledger.specs.Device.{exec_device}
 use Rattle.cip_ledger.proofs.Devices.{exec_device-passed, other_class}
+use Rattle.cip_owner.specs.Owned.{OwnedState, exec_owned}
+use Rattle.cip_owner.specs.OwnedLaws.{exec_owned_plain}
 use Rattle.cip_objects.specs.Contents.{Contents}
 use Rattle.cip_objects.specs.Execution.{Outcome, outcome, exec, perform, request_or_refusal, path_or_refusal}
 use Rattle.cip_objects.specs.ReadServices.{service_at}
@@ -20,6 +22,7 @@ use Rattle.enip_adapter.specs.declared.shared.Shared.{Shared}
 use Rattle.enip_adapter.specs.SendRRData.{Route, Opens, Closes, Executes, Routed, routed, routed_to, route_by_request, route_by_path, manager_service, is_manager}
 use Rattle.cip_bytes.specs.declared.protocol.TheConstants.{UNCONNECTED_LIMIT}
 use Rattle.enip_bench.specs.ObjectsRun.{after_exec}
+use Rattle.enip_bench.proofs.NotOwn.{manager_is_not_own}
 
 abbrev fails : {A E : Type 0} → Result A E → Bool
 fails (Ok x) = false
@@ -66,13 +69,21 @@ refused-map m room text refused = go (exec_left m room text)
         let bad : false ≡ true = sym (ap (λ r. fails r) left.1) ∙ refused in
         absurd (cc)
 
--- and so is the ledger before them
+-- and so are the owner's prepared reply and the ledger before them
+owned-same : (w : OwnedState) (room : ℕ) (text : List ℕ) (q : Request) (path : Path) → request_of text ≡ Ok q →
+    path_of q.path ≡ Ok path → is_manager path ≡ true → (exec_owned w room text).after ≡ w
+owned-same w room text q path read found manages =
+    ap (λ done. done.after)
+    (exec_owned_plain w room text (manager_is_not_own w.objects text q path read found manages))
+    ∙ ap (λ m. record w { objects = m })
+    (refused-map w.objects room text (manager-refused w.objects text q path read found manages))
+
 refused-same : (m : Device) (room : ℕ) (text : List ℕ) (q : Request) (path : Path) → request_of text ≡ Ok q →
     path_of q.path ≡ Ok path → is_manager path ≡ true → (exec_device m room text).after ≡ m
 refused-same m room text q path read found manages =
     let six = eqb-true path.class 6 (both_true (eqb path.class 6) (eqb path.instance 1) manages).0 in
     exec_device-passed m room text (other_class text q path read found (λ e. absurd (omega (arith, six, e))))
-    (refused-map m.router room text (manager-refused m.router text q path read found manages))
+    (owned-same m.router room text q path read found manages)
 
 -- wherever a request is routed, the objects are those after its execution, and the moment is unchanged
 pub record IsRouted (shared : Shared) (request : List ℕ) (done : Routed) : Type 0 where

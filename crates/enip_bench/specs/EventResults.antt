@@ -6,7 +6,8 @@ use Rattle.cip_objects.specs.Contents.{Contents}
 use Rattle.cip_objects.specs.DeviceWrites.{device_write}
 use Rattle.enip_adapter.specs.Calls.{call_answer}
 use Rattle.enip_adapter.specs.Calls.Call.{Feeds}
-use Rattle.enip_adapter.specs.OwnWrites.{OwnWrite, WritesData, SetsStatus, SetsState}
+use Rattle.enip_adapter.specs.OwnWrites.{OwnWrite, WritesData, WritesAttribute, SetsStatus, SetsState, Prepares}
+use Rattle.enip_adapter.specs.OwnWrites.{attribute_write}
 use Rattle.enip_client.specs.Calls.{resends}
 use Rattle.enip_client.specs.Client.{fed}
 use Rattle.enip_bench.specs.CountingWorld.{CountingWorld, output_bytes, reply_heard}
@@ -47,11 +48,14 @@ abbrev pub back_result : CountingWorld → Option (List ℕ) → EventResult
 back_result world None = Impossible
 back_result world (Some bytes) = reply_result (reply_heard (fed world.client bytes).heard_event)
 
--- whether the device can write this: there is such an assembly, and the bytes don't go past the end of its data
+-- whether the device can write this: there is such an assembly or attribute, and the bytes don't go past its end
 abbrev pub is_possible_write : OwnWrite → Contents → Bool
 is_possible_write (WritesData instance offset bytes) objects = is_some (device_write objects instance offset bytes)
+is_possible_write (WritesAttribute class instance attribute offset bytes) objects =
+    is_some (attribute_write objects class instance attribute offset bytes)
 is_possible_write (SetsStatus status) objects = true
 is_possible_write (SetsState state) objects = true
+is_possible_write (Prepares reply) objects = true
 
 -- the outcome of an event in this world
 abbrev pub event_result : CountingWorld → Event → EventResult
@@ -61,6 +65,6 @@ event_result world (Reach position) = reach_result world (delivery world.last_re
 event_result world (Back position) = back_result world (delivery world.last_back world.back position)
 event_result world (Other request) = if is_unconnected_request request then Done else Impossible
 event_result world (Write write) =
-    if is_possible_write write world.adapter.state.shared.objects.router then Done else Impossible
+    if is_possible_write write world.adapter.state.shared.objects.router.objects then Done else Impossible
 event_result world Shut = Done
 event_result world GiveUp = Done

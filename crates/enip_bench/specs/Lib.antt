@@ -18,3 +18,4 @@ pub mod Seen
 pub mod Stored
 pub mod EventResults
 pub mod WorldLaws
+pub mod FrameAsks

@@ -1,9 +1,12 @@
 -- The counting world, its events and their outcomes, as the code stores them.
 use Rattle.std.specs.Prelude.{◌≡◌, ◌<◌, ◌≤◌, ℕ, ⊤, Bool, if◌then◌else◌, map, take, length, Option, Some, None, option_map, List, [], ◌∷◌, Result, Ok, Err}
-use Rattle.cip_ledger.specs.Device.{Device, device_of}
+use Rattle.cip_ledger.specs.Device.{Device}
+use Rattle.cip_ledger.specs.Ledger.{LedgerState}
+use Rattle.cip_objects.specs.Contents.{Contents}
+use Rattle.cip_owner.specs.Replies.{Reply}
 use Rattle.enip_adapter.specs.Calls.{AdapterState, after_call}
 use Rattle.enip_adapter.specs.Calls.Call.{Begins_peer}
-use Rattle.enip_adapter.specs.OwnWrites.{OwnWrite, WritesData, SetsStatus, SetsState}
+use Rattle.enip_adapter.specs.OwnWrites.{OwnWrite, WritesData, SetsStatus, SetsState, Prepares}
 use Rattle.enip_client.specs.Client.{ClientState}
 use Rattle.enip_client.specs.Hears.{HeardEvent}
 use Rattle.enip_bench.specs.CountingOpening.{Setup, ARefusal, Ends, begins}
@@ -51,6 +54,7 @@ abbrev pub write_in : WriteInCode → OwnWrite
 write_in (writes.Data instance offset bytes) = WritesData instance offset bytes.items
 write_in (writes.Status status) = SetsStatus status
 write_in (writes.State state) = SetsState state
+write_in (writes.Prepare reply) = Prepares (Some reply)
 
 abbrev pub event_in : EventInCode → Event
 event_in (events.Submit request) = Submit request.items
@@ -180,9 +184,15 @@ abbrev pub NamesAnEvent : {E : Type 0} → List Event → Result (Unit {0}) (ℕ
 NamesAnEvent events (Ok done) = ⊤
 NamesAnEvent events (Err error) = error.0 < length events
 
+-- the device with this ledger, these objects and this prepared reply
+abbrev pub device_with : Option LedgerState → Contents → Option Reply → Device
+device_with ledger objects prepared =
+    record { ledger = ledger; router = record { objects = objects; prepared = prepared } }
+
 abbrev pub seen_in : SeenInCode → Seen Device
 seen_in seen = record {
-  router = device_of (option_map (λ ledger. ledger.now) seen.ledger) seen.objects.now;
+  router = device_with (option_map (λ ledger. ledger.now) seen.ledger) seen.objects.now
+      (option_map (λ reply. reply.now) seen.prepared);
   back = seen.back.now.frames;
   accepted = acceptances_in seen.accepted.now;
   stage = seen.stage;

@@ -14,6 +14,7 @@ use crate::world::{Accepted, World};
 use cip_class3::Stage;
 use cip_ledger::Ledger;
 use cip_objects::Objects;
+use cip_owner::OwnerReply;
 use enip_adapter::{Adapter, Peer};
 use enip_client::Client;
 use std::alloc::{AllocError, Global};
@@ -46,6 +47,8 @@ impl From<AllocError> for BenchFault {
 pub struct Seen<'a> {
     /// The adapter's objects.
     pub objects: &'a Objects,
+    /// The reply that the next request to the owner of the device takes, if one is prepared.
+    pub prepared: Option<&'a OwnerReply>,
     /// The adapter's command ledger, if it has one.
     pub ledger: Option<&'a Ledger>,
     /// Every frame from the adapter to the client, by position.
@@ -187,6 +190,7 @@ impl Bench {
     {
         Seen {
             objects: self.world.adapter.objects(),
+            prepared: self.world.adapter.prepared(),
             ledger: self.world.adapter.ledger(),
             back: &self.world.back,
             accepted: &self.world.accepted,

@@ -4,6 +4,7 @@ ghost use Rattle.std.specs.Prelude.{◌≡◌};
 ghost use Rattle.enip_bench.specs.Stored.{event_result_in, event_result_with};
 
 use cip_class3::Refused;
+use cip_owner::OwnerReply;
 
 /// A write of the device itself into its objects.
 #[derive(Debug, Drop)]
@@ -14,6 +15,8 @@ pub enum OwnWrite {
     Status(u16),
     /// The device's state: attribute 8 of the Identity object.
     State(u8),
+    /// The owner of the device prepares this reply, which the next request to it takes.
+    Prepare(OwnerReply),
 }
 
 /// An event at or between the two ends. A position is an index into the frames of that direction, from 0.

@@ -8,6 +8,8 @@
 ghost use Rattle.cip_objects.specs.Router.{RepliesWellFormed};
 ghost use Rattle.enip_adapter.specs.OwnWrites.{OwnWrite};
 ghost use Rattle.enip_bench.specs.Bound.{bound_law, refusals_law, raised_law};
+ghost use Rattle.enip_bench.specs.FrameAsks.{asks_in_frames, calls_in_frames, first_asks_in_frames, other_asks_in_frames};
+ghost use Rattle.enip_bench.specs.FrameAsks.{one_ask_in_frames, unasked_in_frames};
 ghost use Rattle.enip_bench.specs.FrameBound.{raised_in_frames};
 ghost use Rattle.enip_bench.specs.FrameLaw.{frame_law};
 ghost use Rattle.enip_bench.specs.FrameOnce.{accepted_in_frames, accepted_order_in_frames, answers_in_frames};
@@ -120,6 +122,18 @@ pub fn frames_executed_once()
     ensures first { first_in_frames }
     ensures written { written_in_frames }
     ensures unchanged { unchanged_in_frames }
+{}
+
+/// Over whole frames, the owner of the device is asked what the log asks, in order: each request of the connection asks
+/// at most once, when its first frame reaches the open adapter, and each request of another session when it comes. No
+/// repeat asks anything.
+pub fn frames_asked_once()
+    ensures log { asks_in_frames }
+    ensures first { first_asks_in_frames }
+    ensures other { other_asks_in_frames }
+    ensures unasked { unasked_in_frames }
+    ensures one { one_ask_in_frames }
+    ensures calls { calls_in_frames }
 {}
 
 /// Over whole frames, the bound can't be raised. If a client took one more request after the same events, the adapter

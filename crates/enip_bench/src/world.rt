@@ -21,6 +21,7 @@ use crate::event::{Event, OwnWrite, StepKind};
 use crate::frames::Frames;
 use bytes::BytesMut;
 use cip_bytes::protocol::{SMALLEST_REQUEST, UNCONNECTED_LIMIT};
+use cip_owner::OwnerReply;
 use enip_adapter::{Adapter, LONGEST_ANSWER, Peer};
 use enip_client::{Client, Heard, LONGEST_SENT, Sent, SubmitFault, write_request};
 use std::alloc::{AllocError, Global};
@@ -222,7 +223,7 @@ pub(crate) fn feed_unanswered(adapter: &mut Adapter, peer: &Peer, frame: &[u8])
 /// Writes into the adapter's objects, on behalf of the device itself. Returns whether it fits them.
 fn write_objects(adapter: &mut Adapter, write: &OwnWrite) -> bool
     ensures adapter { adapter.new ≡ after_call adapter.old (Writes (write_in write.now)) }
-    ensures fits { result ≡ is_possible_write (write_in write.now) adapter.old.state.shared.objects.router }
+    ensures fits { result ≡ is_possible_write (write_in write.now) adapter.old.state.shared.objects.router.objects }
 {
     match write {
         OwnWrite::Data(instance, offset, bytes) => adapter.write_data(*instance, *offset, bytes),
@@ -232,6 +233,10 @@ fn write_objects(adapter: &mut Adapter, write: &OwnWrite) -> bool
         }
         OwnWrite::State(state) => {
             adapter.set_device_state(*state);
+            true
+        }
+        OwnWrite::Prepare(reply) => {
+            adapter.prepare(OwnerReply::new(reply.status(), reply.data()));
             true
         }
     }

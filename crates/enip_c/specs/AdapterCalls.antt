@@ -48,13 +48,16 @@ bool_number false = 0
 
 -- The result of a feed: the number of bytes taken, the length of the answer, why there is none, and whether the peer is
 -- closed.
-abbrev pub returned_fed : AdapterState → Call → Fed
-returned_fed a call = record {
-  taken = (call_meaning a call).taken;
-  answer = length (answer_bytes (call_answer a call).output);
-  no_reply_reason = returned_no_reply_reason (call_answer a call).output;
-  close = bool_number (call_answer a call).close;
+abbrev pub fed_of : ℕ → Answer → Fed
+fed_of taken answer = record {
+  taken = taken;
+  answer = length (answer_bytes answer.output);
+  no_reply_reason = returned_no_reply_reason answer.output;
+  close = bool_number answer.close;
 }
+
+abbrev pub returned_fed : AdapterState → Call → Fed
+returned_fed a call = fed_of (call_meaning a call).taken (call_answer a call)
 
 -- A piece was fed to an adapter: its answer is at the front of the buffer, and `fed` is the result.
 pub record IsFed (old new : AdapterState) (call : Call) (buffer_old buffer_new : List ℕ) (fed : Fed) : Type 0 where
@@ -106,7 +109,7 @@ deadline_kept (Some a) = earliest_deadline a.state.shared.manager.connections
 -- The bytes of an attribute, if it can be read.
 abbrev pub attribute_kept : Option AdapterState → ℕ → ℕ → ℕ → Option (List ℕ)
 attribute_kept None class instance attribute = None
-attribute_kept (Some a) class instance attribute = value_at a.state.shared.objects.router class instance attribute
+attribute_kept (Some a) class instance attribute = value_at a.state.shared.objects.router.objects class instance attribute
 
 -- The answer to a datagram, if it has one.
 abbrev pub discovered_kept : Option AdapterState → List ℕ → Option (List ℕ)

@@ -1,17 +1,18 @@
 //! The functions of an adapter.
 
-ghost use Rattle.std.specs.Prelude.{◌≡◌, ◌≤◌, ◌<◌, length, None, IfOk, IfErr};
+ghost use Rattle.std.specs.Prelude.{◌≡◌, ◌≤◌, ◌<◌, length, None, IfOk, IfErr, IfSome, is_some, is_none};
 ghost use Rattle.std.specs.Option.{option_map, IsSomeAnd};
+ghost use Rattle.enip_adapter.specs.Adapter.{feed_output};
 ghost use Rattle.enip_adapter.specs.Calls.{Call, after_call, call_answer};
 ghost use Rattle.enip_adapter.specs.Discovery.{discovered};
 ghost use Rattle.enip_config.specs.Configured.{IsAdapterOf};
 ghost use Rattle.enip_config.specs.Documents.{IsFaultOf};
-ghost use Rattle.enip_c.specs.AdapterCalls.{IsFed, IsFedKept, IsBegun, IsBegunKept, IsRefusedBy, no_reply_reason_number, returned_fed};
+ghost use Rattle.enip_c.specs.AdapterCalls.{IsFed, IsFedKept, IsBegun, IsBegunKept, IsRefusedBy, no_reply_reason_number, fed_of, answer_bytes};
 ghost use Rattle.enip_c.specs.AdapterCalls.{bool_number, full_status, AreFreeKept, deadline_kept, attribute_kept, discovered_kept};
 ghost use Rattle.enip_c.specs.AdapterCalls.{IsAdapterStatus};
 ghost use Rattle.enip_c.specs.Kept.{IsLive};
 ghost use Rattle.cip_objects.specs.Contents.{value_at};
-ghost use Rattle.enip_c.specs.Buffer.{status_number, returned_bytes, ReturnsNumber};
+ghost use Rattle.enip_c.specs.Buffer.{status_number, in_buffer, returned_bytes, ReturnsNumber};
 
 use crate::buffer::{copy_front, return_bytes};
 use crate::kept_adapter::KeptAdapter;
@@ -151,7 +152,19 @@ fn feed(adapter: &mut Adapter, now: u64, peer: u32, piece: &[u8], buffer: &mut [
     requires { LONGEST_ANSWER ≤ length buffer.old }
     ensures { IsFed adapter.old adapter.new (Call.Feeds now peer piece.now) buffer.old buffer.new result }
 {
-    let fed = adapter.feed(now, &Peer::of(peer), piece);
+    return_fed(adapter.feed(now, &Peer::of(peer), piece), buffer)
+}
+
+/// Copies the answer to the front of the buffer, if there is one.
+#[inline(always)]
+pub(crate) fn return_fed(fed: enip_adapter::Fed<'_>, buffer: &mut [u8]) -> Fed
+    requires fits { IfSome fed.answer (λ frame. length frame.now ≤ length buffer.old) }
+    requires reason { is_some fed.no_reply_reason ≡ is_none fed.answer }
+    ensures answer { buffer.new
+        ≡ in_buffer (answer_bytes (feed_output fed.entry.answer fed.entry.no_reply_reason)) buffer.old }
+    ensures returned { result ≡ fed_of fed.entry.taken
+        (record { output = feed_output fed.entry.answer fed.entry.no_reply_reason; close = fed.entry.close }) }
+{
     let answer = match fed.answer {
         Some(bytes) => copy_front(bytes, buffer),
         None => 0,
@@ -260,7 +273,7 @@ fn read(
     count: &mut usize,
 ) -> u32
     ensures { record { status = result; count = count.new; buffer = buffer.new }
-        ≡ returned_bytes (value_at adapter.now.state.shared.objects.router class instance attribute) count.old buffer.old }
+        ≡ returned_bytes (value_at adapter.now.state.shared.objects.router.objects class instance attribute) count.old buffer.old }
 {
     match adapter.objects().attribute(class, instance, attribute) {
         Some(bytes) => return_bytes(bytes.as_slice(), buffer, count),

@@ -5,7 +5,8 @@ ghost use Rattle.std.specs.Option.{option_map};
 ghost use Rattle.cip_objects.specs.DeviceWrites.{with_device_status, with_device_state};
 ghost use Rattle.enip_adapter.specs.Device.{with_objects};
 ghost use Rattle.enip_adapter.specs.Endings.{no_endings, updated};
-ghost use Rattle.enip_c.specs.DeviceCalls.{IsWrittenKept, changes_kept, end_reason_number, c_ended_connection, looked_kept, ended_kept};
+ghost use Rattle.enip_c.specs.DeviceCalls.{IsWrittenKept, data_written, attribute_written, changes_kept};
+ghost use Rattle.enip_c.specs.DeviceCalls.{attribute_changes_kept, end_reason_number, looked_kept, ended_kept};
 ghost use Rattle.enip_c.specs.DeviceCalls.{ReturnsEnding, write_status};
 ghost use Rattle.enip_c.specs.Kept.{IsLive};
 ghost use Rattle.enip_c.specs.Buffer.{status_number, ReturnsNumber, IsMadeStatus};
@@ -38,10 +39,31 @@ pub extern "C" fn enip_core_adapter_write(
     bytes: &[u8],
 ) -> u32
     requires { IsLive kept.old.value }
-    ensures { IsWrittenKept kept.old.value kept.new.value instance offset bytes.now result }
+    ensures { IsWrittenKept kept.old.value kept.new.value (data_written instance offset bytes.now) result }
 {
     let mut adapter = kept.take(alloc);
     let status = status_of(adapter.write_data(instance, offset, bytes));
+    *kept = KeptAdapter::of(adapter);
+    status.number()
+}
+
+/// Writes to an attribute of an application object, or to the data of an assembly, as the device.
+#[unsafe(no_mangle)]
+pub extern "C" fn enip_core_adapter_write_attribute(
+    alloc: Global,
+    kept: &mut KeptAdapter,
+    class: u16,
+    instance: u32,
+    attribute: u16,
+    offset: usize,
+    bytes: &[u8],
+) -> u32
+    requires { IsLive kept.old.value }
+    ensures { IsWrittenKept kept.old.value kept.new.value
+        (attribute_written class instance attribute offset bytes.now) result }
+{
+    let mut adapter = kept.take(alloc);
+    let status = status_of(adapter.write_attribute(class, instance, attribute, offset, bytes));
     *kept = KeptAdapter::of(adapter);
     status.number()
 }
@@ -61,7 +83,7 @@ fn status_of(written: bool) -> Status
 pub extern "C" fn enip_core_adapter_set_status(alloc: Global, kept: &mut KeptAdapter, status: u16)
     requires { IsLive kept.old.value }
     ensures { kept.new.value
-        ≡ option_map (λ a. with_objects a (with_device_status a.state.shared.objects.router status)) kept.old.value }
+        ≡ option_map (λ a. with_objects a (with_device_status a.state.shared.objects.router.objects status)) kept.old.value }
 {
     let mut adapter = kept.take(alloc);
     adapter.set_device_status(status);
@@ -73,7 +95,7 @@ pub extern "C" fn enip_core_adapter_set_status(alloc: Global, kept: &mut KeptAda
 pub extern "C" fn enip_core_adapter_set_state(alloc: Global, kept: &mut KeptAdapter, state: u8)
     requires { IsLive kept.old.value }
     ensures { kept.new.value
-        ≡ option_map (λ a. with_objects a (with_device_state a.state.shared.objects.router state)) kept.old.value }
+        ≡ option_map (λ a. with_objects a (with_device_state a.state.shared.objects.router.objects state)) kept.old.value }
 {
     let mut adapter = kept.take(alloc);
     adapter.set_device_state(state);
@@ -93,13 +115,43 @@ pub extern "C" fn enip_core_adapter_changes(
     ensures returned { ReturnsNumber (changes_kept kept.old.value instance) changes.old changes.new result }
 {
     let adapter = kept.take(alloc);
-    let status = match adapter.changes(instance) {
+    let status = return_changes(adapter.changes(instance), changes);
+    *kept = KeptAdapter::of(adapter);
+    status
+}
+
+fn return_changes(count: Option<u32>, changes: &mut u32) -> u32
+    ensures { ReturnsNumber count changes.old changes.new result }
+{
+    match count {
         Some(count) => {
             *changes = count;
             Status::Done.number()
         }
         None => Status::Absent.number(),
-    };
+    }
+}
+
+/// The number of times that peers have set an attribute of an application object, or the data of an assembly.
+#[unsafe(no_mangle)]
+pub extern "C" fn enip_core_adapter_attribute_changes(
+    alloc: Global,
+    kept: &mut KeptAdapter,
+    class: u16,
+    instance: u32,
+    attribute: u16,
+    changes: &mut u32,
+) -> u32
+    requires { IsLive kept.old.value }
+    ensures kept { kept.new.value ≡ kept.old.value }
+    ensures returned { ReturnsNumber (attribute_changes_kept kept.old.value class instance attribute)
+        changes.old changes.new result }
+{
+    let adapter = kept.take(alloc);
+    let status = return_changes(
+        adapter.attribute_changes(class, instance, attribute),
+        changes,
+    );
     *kept = KeptAdapter::of(adapter);
     status
 }

@@ -18,5 +18,6 @@ mod kept_client;
 mod kept_commander;
 mod kept_endings;
 mod loose;
+mod owner;
 mod status;
 mod texts;

@@ -383,6 +383,9 @@ with # are skipped.
   other HEX     other done           the second session has this request
                                      executed, unconnected
                 other impossible     it has less than 2 or more than 504 bytes
+  owner STATUS HEX
+                owner STATUS         the owner of the device prepares this reply
+                                     to the next request to it
   shut          shut                 the connection times out
   giveup        giveup               the client gives up the pending request and
                                      can submit another

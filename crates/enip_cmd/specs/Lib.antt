@@ -1,3 +1,4 @@
+pub mod Owner
 pub mod Readiness
 pub mod Reads
 pub mod Statuses

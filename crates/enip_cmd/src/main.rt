@@ -18,6 +18,7 @@ mod logged_wire;
 mod named_file;
 mod observer;
 mod once;
+mod owner;
 mod polling;
 mod readiness;
 mod reason;
@@ -319,12 +320,14 @@ fn run_serve<'a>(
     }
 }
 
-/// The adapter of a configuration. A command ledger gets another life with each start, because it is empty then.
+/// The adapter of a configuration whose device needs no owner. A command ledger gets another life with each start,
+/// because it is empty then.
 fn adapter_to_serve<'a>(
     rt: &HostRuntime,
     config: &NamedFile<'a>,
 ) -> Result<Adapter, CommandError<'a>> {
-    if config.configuration(rt.alloc())?.ledger.is_none() {
+    let configuration = config.configuration_to_serve(rt.alloc())?;
+    if configuration.ledger.is_none() {
         return config.adapter(rt.alloc());
     }
     let life = life_now(rt).map_err(|error| CommandError::of_system(CLOCK, error))?;

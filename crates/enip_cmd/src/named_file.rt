@@ -1,7 +1,8 @@
 //! Files that arguments name, and why one is refused.
 
 use crate::fault::Fault;
-use crate::reason::{CommandError, Reason};
+use crate::owner::owner_need;
+use crate::reason::{CommandError, ConfigurationReason, Reason};
 use clap::ArgMatches;
 use enip_adapter::Adapter;
 use enip_cli::{OsArg, read_file};
@@ -74,6 +75,21 @@ impl<'a> NamedFile<'a> {
         Configuration::from_bytes(alloc, self.bytes()).map_err(|fault| self.refused(alloc, fault))
     }
 
+    /// The configuration in the file, if its device needs no owner.
+    pub(crate) fn configuration_to_serve(
+        &self,
+        alloc: Global,
+    ) -> Result<Configuration, CommandError<'a>> {
+        let configuration = self.configuration(alloc)?;
+        match owner_need(&configuration.objects.objects) {
+            None => Ok(configuration),
+            Some(need) => Err(CommandError::new(
+                Fault::Configuration(need.refusal()),
+                Reason::Configuration(self.name, ConfigurationReason::NoOwner(need)),
+            )),
+        }
+    }
+
     /// The error of a command whose configuration this file is.
     fn refused(&self, alloc: Global, fault: enip_config::LoadFault) -> CommandError<'a> {
         if let enip_config::LoadFault::Memory = fault {
@@ -85,7 +101,9 @@ impl<'a> NamedFile<'a> {
     /// Why the configuration in the file is refused.
     fn explanation(&self, alloc: Global) -> Reason<'a> {
         match explain(alloc, self.bytes()) {
-            Ok(Some(explanation)) => Reason::Configuration(self.name, explanation),
+            Ok(Some(explanation)) => {
+                Reason::Configuration(self.name, ConfigurationReason::Check(explanation))
+            }
             Ok(None) => Reason::Failed(self.name),
             Err(_) => Reason::Memory,
         }
@@ -102,7 +120,7 @@ pub(crate) fn error_of_run<'a>(
 ) -> CommandError<'a> {
     let reason = match fault {
         Fault::Configuration(_) => config.explanation(alloc),
-        Fault::Setup => Reason::Setup(config.name()),
+        Fault::Setup => { Reason::Configuration(config.name(), ConfigurationReason::NoCapacity) }
         Fault::Run(enip_commands::ProgramFault::Line(number, why)) => {
             Reason::Line(input_name, number, why)
         }

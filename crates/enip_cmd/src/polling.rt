@@ -160,10 +160,17 @@ impl<'a> Poller<'a, '_, '_> {
         if !is_new && !self.options.print_all {
             return Ok(());
         }
-        let elapsed = self.start.elapsed(self.rt).map_err(|error| SessionEnd::Fatal(
-            CommandError::of_system(CLOCK, error),
-        ))?;
-        let moment = u64::try_from(elapsed.as_micros()).unwrap_or(u64::MAX);
+        let outcome = self.print_timed(reply).map_err(SessionEnd::Fatal)?;
+        if is_new {
+            print_refusal(self.rt, outcome);
+        }
+        self.last = outcome;
+        Ok(())
+    }
+
+    /// Prints a reply on standard output, with the time since the start.
+    fn print_timed(&self, reply: &[u8]) -> Result<ReplyOutcome, CommandError<'a>> {
+        let moment = self.moment()?;
         let mut output = ErrorKeeping::new(self.rt.stdout());
         let printed = print_reading(
             self.rt.alloc(),
@@ -172,19 +179,18 @@ impl<'a> Poller<'a, '_, '_> {
             moment,
             reply,
         );
-        match printed {
-            Ok(outcome) => {
-                if is_new {
-                    print_refusal(self.rt, outcome);
-                }
-                self.last = outcome;
-                Ok(())
-            }
-            Err(failure) => Err(SessionEnd::Fatal(error_of_failure(
-                failure,
-                self.request.device.address,
-                output.reason(OUTPUT),
-            ))),
+        printed.map_err(|failure| error_of_failure(
+            failure,
+            self.request.device.address,
+            output.reason(OUTPUT),
+        ))
+    }
+
+    /// The microseconds since the start.
+    fn moment(&self) -> Result<u64, CommandError<'a>> {
+        match self.start.elapsed(self.rt) {
+            Ok(elapsed) => Ok(u64::try_from(elapsed.as_micros()).unwrap_or(u64::MAX)),
+            Err(error) => Err(CommandError::of_system(CLOCK, error)),
         }
     }
 

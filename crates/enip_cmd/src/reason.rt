@@ -1,6 +1,7 @@
 //! Why a command fails, as text for people. It comes before the line that goes with the exit status.
 
 use crate::fault::Fault;
+use crate::owner::OwnerNeed;
 use cip_bytes::StatusText;
 use cip_values::{ValueFault, ValueType};
 use enip_client::ClientFault;
@@ -34,15 +35,12 @@ pub(crate) enum Reason<'a> {
     /// The device at the address closed the connection.
     #[error("{0}: the device closed the connection before it replied")]
     Disconnected(&'a str),
-    /// A configuration is refused.
+    /// The command refuses a configuration.
     #[error("{0}: {1}")]
-    Configuration(&'a str, Explanation),
+    Configuration(&'a str, ConfigurationReason),
     /// A line of an input is refused.
     #[error("{0}, line {1}: {2}")]
     Line(&'a str, u64, LineFault),
-    /// A configuration has too few slots, handles or connection IDs for a replay.
-    #[error("{0}: no capacity for two sessions and a connection")]
-    Setup(&'a str),
     /// The argument is not hexadecimal.
     #[error("{0}: not hexadecimal (two digits per byte)")]
     Hex(&'a str),
@@ -103,6 +101,20 @@ pub(crate) enum Reason<'a> {
     /// Memory was refused.
     #[error("out of memory")]
     Memory,
+}
+
+/// Why a command refuses a configuration.
+#[derive(Debug, Drop, Error)]
+pub(crate) enum ConfigurationReason {
+    /// A check of the configuration fails.
+    #[error("{0}")]
+    Check(Explanation),
+    /// It has too few slots, handles or connection IDs for a replay.
+    #[error("no capacity for two sessions and a connection")]
+    NoCapacity,
+    /// Its device needs an owner, and has none.
+    #[error("{0}")]
+    NoOwner(OwnerNeed),
 }
 
 /// What became of a command that is executed once, if the program fails. It ends the line of the reason.

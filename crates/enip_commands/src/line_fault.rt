@@ -32,6 +32,10 @@ pub enum LineFault {
     /// `back J`, but J is not a decimal number of 64 bits.
     #[error("back: expected a position")]
     Back,
+    /// `owner STATUS HEX`, but STATUS is not a general status that an owner can give, or HEX is not hexadecimal or has
+    /// over 480 bytes.
+    #[error("owner: expected a status, 0 to 255 but not 17, and up to 480 bytes of hex")]
+    Owner,
 }
 
 impl LineFault {

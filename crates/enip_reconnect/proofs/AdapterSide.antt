@@ -13,7 +13,7 @@ use Rattle.cip_ledger.specs.declared.service.TheConstants as services
 use Rattle.cip_ledger.specs.Device.{exec_device, run}
 use Rattle.cip_ledger.specs.Runs.{Request as LedgerRequest, next, node_after}
 use Rattle.cip_ledger.proofs.Devices.{run-ends}
-use Rattle.cip_objects.specs.Contents.{Contents}
+use Rattle.cip_owner.specs.Owned.{OwnedState}
 use Rattle.cip_ledger.specs.Requests.{Command}
 use Rattle.cip_commander.specs.CommanderRule.{do_once}
 use Rattle.cip_commander.specs.Worlds.{Event, Other, BothEnds, ends_step}
@@ -495,7 +495,7 @@ device-run a call free =
 abbrev pub others_requests : List LedgerRequest → List Event
 others_requests requests = map (λ request. Other request.0 request.1) requests
 
-pub others-run : (ends : BothEnds Contents) (requests : List LedgerRequest) →
+pub others-run : (ends : BothEnds OwnedState) (requests : List LedgerRequest) →
     fold (ends_step objects_after objects_answer) ends (others_requests requests)
     ≡ record ends { device = node_after objects_after objects_answer ends.device requests }
 others-run ends [] = refl

@@ -24,8 +24,8 @@ use Rattle.cip_ledger.specs.Runs.{answer_to}
 use Rattle.cip_ledger.specs.Services.{KEPT_LIMIT, HEAD_SIZE}
 use Rattle.cip_message.specs.Reply.{reply_of}
 use Rattle.cip_ledger.specs.Turn.{Turn, embedded_reply}
-use Rattle.cip_objects.specs.Contents.{Contents}
-use Rattle.cip_objects.specs.ExecutionLaws.{exec_within}
+use Rattle.cip_owner.specs.Owned.{OwnedState}
+use Rattle.cip_owner.specs.OwnedLaws.{exec_owned_within}
 use Rattle.enip_adapter.specs.DeviceRuns.{objects_after, objects_answer}
 use Rattle.enip_adapter.proofs.ListLemmas.{both}
 use Rattle.enip_reconnect.specs.Laws.{MessageEvent, message_ends, numbered_world, opening_in_messages}
@@ -33,11 +33,11 @@ use Rattle.enip_reconnect.specs.Retry.{HasSlotFor}
 use Rattle.enip_reconnect.specs.World.{Opening}
 
 -- The reply to an embedded request is short.
-embedded-short : (objects : Contents) (request : List ℕ) →
+embedded-short : (objects : OwnedState) (request : List ℕ) →
     length (embedded_reply objects_after objects_answer objects request) ≤ KEPT_LIMIT
 embedded-short objects request =
     both (λ reply. length reply ≤ KEPT_LIMIT) (is_barred request) _ _ (omega arith)
-    (exec_within objects KEPT_LIMIT request (omega arith))
+    (exec_owned_within objects KEPT_LIMIT request (omega arith))
 
 -- ---- the command arrives
 
@@ -77,7 +77,7 @@ filled-life : (own : ℕ) (ledger : LedgerState) (last : Option (ℕ × List ℕ
 filled-life own ledger None = refl
 filled-life own ledger (Some last) = refl
 
-arrival-done : (life own number : ℕ) (device : Device Contents) → IsPlaced own device.last device.ledger.taken →
+arrival-done : (life own number : ℕ) (device : Device OwnedState) → IsPlaced own device.last device.ledger.taken →
     life ≡ (filled_by own device.last device.ledger).life → HasSlotFor own (filled_by own device.last device.ledger) →
     IsNotLater number device.last → IsDoneBy (arrival life device UNCONNECTED_LIMIT number)
 arrival-done life own number device placed same slot later =
@@ -95,13 +95,13 @@ among-below number (first ∷ given) n request below (inl is) =
 among-below number (first ∷ given) n request below (inr among) = among-below number given n request below.1 among
 
 module _ (opening : Opening) (range : IsInRange opening.commander) where
-  abbrev start : messages.Opening Contents
+  abbrev start : messages.Opening OwnedState
   start = opening_in_messages opening
 
   abbrev own : ℕ
   own = opening.commander.originator
 
-  abbrev device_of : NumberedWorld → Device Contents
+  abbrev device_of : NumberedWorld → Device OwnedState
   device_of world = device_after objects_after objects_answer start world.log
 
   executed-not-later : (events : List MessageEvent) (number : ℕ) (reply : List ℕ) →
@@ -153,17 +153,17 @@ done_outcome reply =
     rw enough refl
 
 -- The device answers the message of this request: the command is done.
-pub record IsAnsweredDone (ends : BothEnds Contents) (request : List ℕ) : Type 0 where
+pub record IsAnsweredDone (ends : BothEnds OwnedState) (request : List ℕ) : Type 0 where
   pub reply : List ℕ
   pub outcome : outcome_of_text (answer_to objects_after objects_answer ends.device
       (UNCONNECTED_LIMIT, message_of ends.commander request)) ≡ Done reply
 
 -- It does so by what happens when the command arrives.
-record IsSaidDone (done : Turn Contents) : Type 0 where
+record IsSaidDone (done : Turn OwnedState) : Type 0 where
   reply : List ℕ
   outcome : outcome_of_text done.answer ≡ Done reply
 
-said-done : (ledger : LedgerState) (router : Contents) (life originator number : ℕ) (request : List ℕ)
+said-done : (ledger : LedgerState) (router : OwnedState) (life originator number : ℕ) (request : List ℕ)
     (last : Option (ℕ × List ℕ)) (what : Arrival) → IsDoneBy what →
     IsSaidDone (arrived_turn objects_after objects_answer ledger router life originator number request UNCONNECTED_LIMIT last what)
 said-done ledger router life originator number request last _ Executes =
@@ -177,10 +177,10 @@ module _ (opening : Opening) (range : IsInRange opening.commander) (events : Lis
   abbrev world : NumberedWorld
   world = numbered_world opening events
 
-  abbrev its_device : Device Contents
+  abbrev its_device : Device OwnedState
   its_device = device_of opening range world
 
-  abbrev both_ends : BothEnds Contents
+  abbrev both_ends : BothEnds OwnedState
   both_ends = image objects_after objects_answer (opening_in_messages opening) range world
 
   -- The message as a command of the opening's life and originator.
@@ -226,7 +226,7 @@ module _ (opening : Opening) (range : IsInRange opening.commander) (events : Lis
         outcome =
             ap (λ message. outcome_of_text (answer_to objects_after objects_answer both_ends.device
             (UNCONNECTED_LIMIT, message))) same-message
-            ∙ (ap (λ (done : Turn Contents). outcome_of_text done.answer)
+            ∙ (ap (λ (done : Turn OwnedState). outcome_of_text done.answer)
             (arrival-turn objects_after objects_answer its_device.ledger its_device.router opening.commander.life own number
             request UNCONNECTED_LIMIT its_device.last sound.placed (is-command pending))
             ∙ said.outcome);
@@ -239,9 +239,9 @@ module _ (opening : Opening) (range : IsInRange opening.commander) (events : Lis
       let same : message_ends opening events ≡ both_ends =
       worlds-image objects_after objects_answer (opening_in_messages opening) range events others in
       let found : Some ledger ≡ Some (filled_by opening.commander.originator its_device.last its_device.ledger) =
-      sym ledger_is ∙ ap (λ (x : BothEnds Contents). x.device.ledger) same in
+      sym ledger_is ∙ ap (λ (x : BothEnds OwnedState). x.device.ledger) same in
       let it : ledger ≡ filled_by opening.commander.originator its_device.last its_device.ledger = cc in
       subst (λ x. IsAnsweredDone x request) (sym same)
-      (image-done (sym (ap (λ (x : BothEnds Contents). x.commander.pending) same) ∙ pending)
+      (image-done (sym (ap (λ (x : BothEnds OwnedState). x.commander.pending) same) ∙ pending)
       (life ∙ ap (λ (l : LedgerState). l.life) it)
       (subst (HasSlotFor opening.commander.originator) it slot))

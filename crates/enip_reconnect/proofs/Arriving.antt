@@ -9,7 +9,7 @@ use Rattle.cip_commander.specs.Laws.{request_in}
 use Rattle.cip_commander.specs.Worlds.{BothEnds, ends_reach}
 use Rattle.cip_commander.specs.Worlds as messages
 use Rattle.cip_ledger.specs.Requests.{Command}
-use Rattle.cip_objects.specs.Contents.{Contents}
+use Rattle.cip_owner.specs.Owned.{OwnedState}
 use Rattle.enip_adapter.specs.Calls.{AdapterState, Call, call_answer, after_call}
 use Rattle.enip_adapter.specs.DeviceRuns.{objects_after, objects_answer, requests_of_calls}
 use Rattle.enip_adapter.specs.Runs.{after_calls}
@@ -39,7 +39,7 @@ abbrev answered_back : AdapterState → Command → ℕ × List ℕ
 answered_back a command = (command.number, answer_at a (do_once command))
 
 -- Both ends in messages once it has.
-abbrev reached : Ends → List (ℕ × List ℕ) → List (ℕ × List ℕ) → Command → BothEnds Contents
+abbrev reached : Ends → List (ℕ × List ℕ) → List (ℕ × List ℕ) → Command → BothEnds OwnedState
 reached ends sent back command = record (in_messages ends sent back) {
   device = device_at ends.adapter (do_once command);
   back = back ++ answered_back ends.adapter command ∷ [];

@@ -1,6 +1,6 @@
 -- Every reply of a device is one that a client takes for the reply to its request.
 use Rattle.std.proofs.Common.{◌≡◌, ℕ, ◌+◌, ◌*◌, ◌≤◌, nat_lt, Bool, true, false, if◌then◌else◌, List, [], ◌∷◌, length}
-use Rattle.std.proofs.Common.{slice_index, Result, Ok, Err, refl, sym, ap, subst, ◌∙◌, arith}
+use Rattle.std.proofs.Common.{slice_index, Option, Some, None, Result, Ok, Err, refl, sym, ap, subst, ◌∙◌, arith}
 use Rattle.std.proofs.lemmas.Bool.{le-ltb, ltb-false}
 use Rattle.cip_bytes.specs.Reading.{◌>>=◌}
 use Rattle.cip_bytes.specs.Protocol.{general_status_number}
@@ -8,12 +8,18 @@ use Rattle.cip_message.specs.Reply.{Reply, reply_of, reply_of_fields, reply_serv
 use Rattle.cip_objects.specs.Contents.{Contents}
 use Rattle.cip_objects.specs.Execution.{Outcome, outcome, Executed, with_reply, or_refusal, exec}
 use Rattle.cip_objects.specs.ExecutionLaws.{is_outcome}
+use Rattle.cip_objects.specs.Router.{REPLY_TOO_LARGE}
 use Rattle.cip_objects.specs.Status.{completion_status, refusal_status}
+use Rattle.cip_objects.specs.declared.status.Refusal.{Refusal}
+use Rattle.cip_objects.specs.OwnRequests.{Asked, own_request}
+use Rattle.cip_owner.specs.Replies.{Reply as OwnReply}
+use Rattle.cip_owner.specs.Owned.{OwnedState, Executed as Done, exec_owned, by_owner, given, is_fit, NOT_PREPARED}
 use Rattle.cip_ledger.specs.Device.{Device, exec_device}
 use Rattle.cip_ledger.specs.Services.{Replies, Executes, Frees}
 use Rattle.cip_ledger.specs.Status.{status_number}
 use Rattle.cip_ledger.specs.Turn.{Fate, Passed, Served, fate, turn_by}
 use Rattle.cip_ledger.proofs.Devices.{after, answer, exec_device-begins, exec_device-within}
+use Rattle.enip_adapter.proofs.ListLemmas.{both}
 
 -- a reply without additional status words
 record IsPlain (text : List ℕ) : Type 0 where
@@ -22,7 +28,7 @@ record IsPlain (text : List ℕ) : Type 0 where
   content : List ℕ
   spelled : text ≡ service ∷ 0 ∷ status ∷ 0 ∷ content
 
-exec-plain : (objects : Contents) (max_size : ℕ) (request : List ℕ) → IsPlain (answer objects max_size request)
+exec-plain : (objects : Contents) (max_size : ℕ) (request : List ℕ) → IsPlain (exec objects max_size request).answer
 unfolding exec
 exec-plain objects max_size request =
     go (outcome objects request) (outcome objects request >>= with_reply max_size request) refl
@@ -44,9 +50,42 @@ exec-plain objects max_size request =
           spelled = done.answer;
         }
 
+-- and so are those of the owner
+given-plain : (w : OwnedState) (service : ℕ) (asked : Asked) (prepared : Option OwnReply) →
+    IsPlain (given w service asked prepared).answer
+given-plain w service asked None =
+    record { service = reply_service service; status = NOT_PREPARED; content = []; spelled = refl }
+given-plain w service asked (Some reply) =
+    both (λ (done : Done). IsPlain done.answer) (is_fit asked reply) _ _
+    (record { service = reply_service service; status = reply.status; content = reply.content; spelled = refl })
+    (record { service = reply_service service; status = NOT_PREPARED; content = []; spelled = refl })
+
+by-owner-plain : (w : OwnedState) (max_size : ℕ) (request : List ℕ) (own : Option (Result Asked Refusal)) →
+    IsPlain (by_owner w max_size request own).answer
+by-owner-plain w max_size request None = exec-plain w.objects max_size request
+by-owner-plain w max_size request (Some (Err why)) = record {
+  service = reply_service (slice_index request 0);
+  status = general_status_number (refusal_status why);
+  content = [];
+  spelled = refl;
+}
+by-owner-plain w max_size request (Some (Ok asked)) =
+    both (λ (done : Done). IsPlain done.answer) (nat_lt max_size (4 + asked.reply_limit)) _ _
+    (record {
+      service = reply_service (slice_index request 0);
+      status = REPLY_TOO_LARGE;
+      content = [];
+      spelled = refl;
+    })
+    (given-plain w (slice_index request 0) asked w.prepared)
+
+owned-plain : (w : OwnedState) (max_size : ℕ) (request : List ℕ) → IsPlain (answer w max_size request)
+unfolding exec_owned
+owned-plain w max_size request = by-owner-plain w max_size request (own_request w.objects request)
+
 turn-plain : (f : Fate) (device : Device) (max_size : ℕ) (request : List ℕ) →
     IsPlain (turn_by after answer f device.ledger device.router max_size request).answer
-turn-plain Passed device max_size request = exec-plain device.router max_size request
+turn-plain Passed device max_size request = owned-plain device.router max_size request
 turn-plain (Served service (Replies reply)) device max_size request =
     record {
       service = reply_service service;

@@ -12,7 +12,7 @@ use Rattle.cip_commander.proofs.Numbered.{after-numbered}
 use Rattle.cip_commander.proofs.Rising.{all_at, all_map}
 use Rattle.cip_ledger.specs.Device.{Device}
 use Rattle.cip_ledger.specs.Runs.{journal}
-use Rattle.cip_objects.specs.Contents.{Contents}
+use Rattle.cip_owner.specs.Owned.{OwnedState}
 use Rattle.enip_adapter.specs.DeviceRuns.{objects_after, objects_answer}
 use Rattle.enip_reconnect.specs.Events.{Event}
 use Rattle.enip_reconnect.specs.Laws.{AmountsTo, AreOfOthers, MessageEvent, Seen, message_ends, numbered_world}
@@ -23,17 +23,17 @@ use Rattle.enip_reconnect.specs.World.{Ends, Opening, device_at, ends_at, ends_a
 
 -- ---- both worlds
 
-abbrev seen : Contents → CommanderState → List (ℕ × List ℕ) → Seen
+abbrev seen : OwnedState → CommanderState → List (ℕ × List ℕ) → Seen
 seen machine commander accepted = record { machine = machine; commander = commander; accepted = accepted }
 
 pub worlds : worlds_law
 worlds opening events message_events range amounts =
     let ends : Ends = ends_after opening events in
-    let in_messages : messages.BothEnds Contents = message_ends opening message_events in
+    let in_messages : messages.BothEnds OwnedState = message_ends opening message_events in
     ap (λ (device : Device). seen device.router ends.commander ends.accepted) amounts.device
     ∙ (ap (λ commander. seen in_messages.device.router commander ends.accepted) amounts.commander
     ∙ (ap (λ accepted. seen in_messages.device.router in_messages.commander accepted) amounts.accepted
-    ∙ ap (λ (s : messages.Seen Contents). seen s.machine s.commander s.accepted)
+    ∙ ap (λ (s : messages.Seen OwnedState). seen s.machine s.commander s.accepted)
     (worlds-agree objects_after objects_answer (opening_in_messages opening) range message_events amounts.others)))
 
 -- The replies that were accepted are those of the numbered world.

@@ -13,7 +13,7 @@ use Rattle.cip_commander.specs.Worlds.{BothEnds, awaits}
 use Rattle.cip_commander.specs.Worlds as messages
 use Rattle.cip_commander.proofs.Images.{IsSound, image, step-image, step-sound, opening-sound}
 use Rattle.cip_commander.proofs.Rising.{all_append}
-use Rattle.cip_objects.specs.Contents.{Contents}
+use Rattle.cip_owner.specs.Owned.{OwnedState}
 use Rattle.enip_adapter.specs.DeviceRuns.{objects_after, objects_answer, requests_of_calls}
 use Rattle.enip_adapter.proofs.SoundLemmas.{sound-new}
 use Rattle.enip_reconnect.specs.Events.{Event, NewCommand, Abandon, Connect, Register, Send, Ask, Arrive, Receive}
@@ -56,7 +56,7 @@ record RunsTo (own : ℕ) (ends : Ends) (events : List Event) (sent back : List 
   given : (ends_run ends events).given ≡ ends.given ++ given_by (in_messages ends sent back) more
   others : AllByRecursion (IsOthers own) more
 
-requests-append : (events more : List MessageEvent) (ends : BothEnds Contents) →
+requests-append : (events more : List MessageEvent) (ends : BothEnds OwnedState) →
     requests_of objects_after objects_answer ends (events ++ more)
     ≡ requests_of objects_after objects_answer ends events
     ++ requests_of objects_after objects_answer (message_run ends events) more
@@ -66,7 +66,7 @@ requests-append (event ∷ events) more ends =
     (requests-append events more (message_step ends event))
     ∙ sym (append_assoc (request_of objects_after objects_answer ends event) _ _)
 
-given-append : (events more : List MessageEvent) (ends : BothEnds Contents) →
+given-append : (events more : List MessageEvent) (ends : BothEnds OwnedState) →
     given_by ends (events ++ more) ≡ given_by ends events ++ given_by (message_run ends events) more
 given-append [] more ends = refl
 given-append (event ∷ events) more ends =
@@ -116,16 +116,16 @@ runs-two : (own : ℕ) (ends : Ends) (events later : List Event) (sent back : Li
 runs-two own ends events later sent back more further new_sent new_back last_sent last_back first second =
     let joined : ends_run ends (events ++ later) ≡ ends_run (ends_run ends events) later =
     fold-append ends_step ends events later in
-    let start : BothEnds Contents = in_messages ends sent back in
+    let start : BothEnds OwnedState = in_messages ends sent back in
     record {
       tracks = subst (λ (x : Ends). Tracks own x last_sent last_back) (sym joined) second.tracks;
       image = fold-append message_step start more further
-          ∙ (ap (λ (x : BothEnds Contents). message_run x further) first.image
+          ∙ (ap (λ (x : BothEnds OwnedState). message_run x further) first.image
           ∙ (second.image ∙ ap (λ (x : Ends). in_messages x last_sent last_back) (sym joined)));
       reached = requests_in-append events later ends
           ∙ (ap (λ r. r ++ requests_in (ends_run ends events) later) first.reached
           ∙ (ap (λ r. requests_of objects_after objects_answer start more ++ r)
-          (second.reached ∙ ap (λ (x : BothEnds Contents). requests_of objects_after objects_answer x further) (sym first.image))
+          (second.reached ∙ ap (λ (x : BothEnds OwnedState). requests_of objects_after objects_answer x further) (sym first.image))
           ∙ sym (requests-append more further start)));
       decided = decisions-append events later
           ∙ (ap (λ d. d ++ decisions_in later) first.decided
@@ -135,7 +135,7 @@ runs-two own ends events later sent back more further new_sent new_back last_sen
           ∙ (ap (λ g. g ++ given_by (in_messages (ends_run ends events) new_sent new_back) further) first.given
           ∙ (append_assoc ends.given (given_by start more) _
           ∙ ap (λ g. ends.given ++ g)
-          (ap (λ (x : BothEnds Contents). given_by start more ++ given_by x further) (sym first.image)
+          (ap (λ (x : BothEnds OwnedState). given_by start more ++ given_by x further) (sym first.image)
           ∙ sym (given-append more further start)))));
       others = all_append (IsOthers own) more further first.others second.others;
     }
@@ -184,7 +184,7 @@ amounts own (event ∷ events) ends sent back is others =
 -- ---- the numbered world
 
 module _ (opening : Opening) (range : IsInRange opening.commander) where
-  abbrev start : messages.Opening Contents
+  abbrev start : messages.Opening OwnedState
   start = opening_in_messages opening
 
   abbrev own : ℕ
@@ -228,10 +228,10 @@ module _ (opening : Opening) (range : IsInRange opening.commander) where
   run-gives [] world sound others = sym (append-nil world.given)
   run-gives (event ∷ events) world sound others =
       let next : NumberedWorld = world_step objects_after objects_answer start world event in
-      let ends : BothEnds Contents = image objects_after objects_answer start range world in
+      let ends : BothEnds OwnedState = image objects_after objects_answer start range world in
       run-gives events next (step-sound objects_after objects_answer start range world event sound others.0) others.1
       ∙ (ap (λ g. g ++ given_by (image objects_after objects_answer start range next) events) (step-gives world event)
-      ∙ (ap (λ (x : BothEnds Contents). (world.given ++ given_at ends event) ++ given_by x events)
+      ∙ (ap (λ (x : BothEnds OwnedState). (world.given ++ given_at ends event) ++ given_by x events)
       (sym (step-image objects_after objects_answer start range world event sound others.0))
       ∙ append_assoc world.given (given_at ends event) _))
 
@@ -239,13 +239,13 @@ module _ (opening : Opening) (range : IsInRange opening.commander) where
   amounts-to : (events : List Event) (more : List MessageEvent) (new_sent new_back : List (ℕ × List ℕ)) →
       RunsTo own (ends_at opening) events [] [] more new_sent new_back → AmountsTo opening events more
   amounts-to events more new_sent new_back runs = record {
-    device = ap (λ (x : BothEnds Contents). x.device) (sym runs.image);
+    device = ap (λ (x : BothEnds OwnedState). x.device) (sym runs.image);
     reached = runs.reached;
-    commander = ap (λ (x : BothEnds Contents). x.commander) (sym runs.image);
+    commander = ap (λ (x : BothEnds OwnedState). x.commander) (sym runs.image);
     decisions = runs.decided;
     given = runs.given
         ∙ sym (run-gives more (world_at start) (opening-sound objects_after objects_answer start range) runs.others);
-    accepted = ap (λ (x : BothEnds Contents). x.accepted) (sym runs.image);
+    accepted = ap (λ (x : BothEnds OwnedState). x.accepted) (sym runs.image);
     others = runs.others;
   }
 

@@ -8,7 +8,7 @@ use Rattle.cip_commander.specs.Worlds.{BothEnds}
 use Rattle.cip_commander.specs.Worlds as messages
 use Rattle.cip_ledger.specs.Laws.{IsOfAnother}
 use Rattle.cip_ledger.specs.Runs.{Request}
-use Rattle.cip_objects.specs.Contents.{Contents}
+use Rattle.cip_owner.specs.Owned.{OwnedState}
 use Rattle.enip_adapter.specs.Calls.{AdapterState, Call, after_call}
 use Rattle.enip_adapter.specs.Calls.Call.{Begins_peer, Feeds, Ends_peer, Ticks, Writes}
 use Rattle.enip_adapter.specs.DeviceRuns.{objects_after, objects_answer, requests_of_calls, IsNoWrite}
@@ -138,7 +138,7 @@ own-stream ends peer stream found =
     ap is_some (ap (λ n. stream_with n ends.streams) (stream-number ends.streams peer stream found) ∙ found)
 
 -- What others' requests are in messages.
-reached-others : (ends : BothEnds Contents) (requests : List Request) →
+reached-others : (ends : BothEnds OwnedState) (requests : List Request) →
     requests ≡ requests_of objects_after objects_answer ends (others_requests requests)
 reached-others ends [] = refl
 reached-others ends (request ∷ requests) =
@@ -149,7 +149,7 @@ decided-others : (requests : List Request) → [] ≡ decisions_in_messages (oth
 decided-others [] = refl
 decided-others (request ∷ requests) = decided-others requests
 
-given-others : (ends : BothEnds Contents) (requests : List Request) → [] ≡ given_by ends (others_requests requests)
+given-others : (ends : BothEnds OwnedState) (requests : List Request) → [] ≡ given_by ends (others_requests requests)
 given-others ends [] = refl
 given-others ends (request ∷ requests) =
     given-others (message_step ends (messages.Other request.0 request.1)) requests

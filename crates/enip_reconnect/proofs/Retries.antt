@@ -5,7 +5,7 @@ use Rattle.cip_commander.specs.CommanderRule.{CommanderState, message_of}
 use Rattle.cip_commander.specs.Outcome.{Outcome, outcome_of_text}
 use Rattle.cip_commander.specs.Worlds.{BothEnds}
 use Rattle.cip_ledger.specs.Device.{Device, exec_device}
-use Rattle.cip_objects.specs.Contents.{Contents}
+use Rattle.cip_owner.specs.Owned.{OwnedState}
 use Rattle.enip_adapter.proofs.SoundLemmas.{IsSound, sound-calls, sound-new}
 use Rattle.enip_reconnect.specs.Events.{Event}
 use Rattle.enip_reconnect.specs.Laws.{AmountsTo, AreOfOthers, message_ends}
@@ -32,7 +32,7 @@ retries opening events wants now peer request ledger range others pending small 
     let to = messages_come opening events [] range
     (subst (AreOfOthers opening.commander.originator (ends_at opening)) (sym (append-nil events)) others) in
     let amounts : AmountsTo opening events to.0 = to.1.1.0 in
-    let both : BothEnds Contents = message_ends opening to.0 in
+    let both : BothEnds OwnedState = message_ends opening to.0 in
     let sound : IsSound ends.adapter =
     sound-run events (ends_at opening) (sound-new (device_at opening) opening.listen opening.limits) in
     let done : IsAnsweredDone both request =

@@ -7,7 +7,7 @@ use Rattle.cip_commander.specs.Laws.{IsOthers, requests_of}
 use Rattle.cip_commander.specs.Worlds.{BothEnds, gives}
 use Rattle.cip_commander.specs.Worlds as messages
 use Rattle.cip_ledger.specs.Device.{Device}
-use Rattle.cip_objects.specs.Contents.{Contents}
+use Rattle.cip_owner.specs.Owned.{OwnedState}
 use Rattle.enip_adapter.specs.Calls.{AdapterState, Call, after_call}
 use Rattle.enip_adapter.specs.DeviceRuns.{objects_after, objects_answer, requests_of_calls}
 use Rattle.enip_adapter.specs.Runs.{IsForOther}
@@ -18,18 +18,18 @@ use Rattle.enip_reconnect.specs.World.{TcpConnection, Stream, Ends, stream_with,
 use Rattle.enip_reconnect.proofs.Flights.{carries-more, carries-other}
 use Rattle.enip_reconnect.proofs.Tracking.{Tracks, IsFlying, AreFlying, in_messages}
 
-abbrev pub message_step : BothEnds Contents → MessageEvent → BothEnds Contents
+abbrev pub message_step : BothEnds OwnedState → MessageEvent → BothEnds OwnedState
 message_step ends event = messages.ends_step objects_after objects_answer ends event
 
-abbrev pub message_run : BothEnds Contents → List MessageEvent → BothEnds Contents
+abbrev pub message_run : BothEnds OwnedState → List MessageEvent → BothEnds OwnedState
 message_run ends events = fold message_step ends events
 
 -- The commands that are given in messages, with their numbers.
-abbrev pub given_at : BothEnds Contents → MessageEvent → List (ℕ × List ℕ)
+abbrev pub given_at : BothEnds OwnedState → MessageEvent → List (ℕ × List ℕ)
 given_at ends (messages.NewCommand request) = gives ends.commander request (command_refusal ends.commander request)
 given_at ends other = []
 
-abbrev pub given_by : BothEnds Contents → List MessageEvent → List (ℕ × List ℕ)
+abbrev pub given_by : BothEnds OwnedState → List MessageEvent → List (ℕ × List ℕ)
 given_by ends [] = []
 given_by ends (event ∷ events) = given_at ends event ++ given_by (message_step ends event) events
 
@@ -68,7 +68,7 @@ stays own before after calls sent back tracks image none given = record {
 }
 
 -- Both ends in messages, with this device.
-abbrev pub with_device : Ends → List (ℕ × List ℕ) → List (ℕ × List ℕ) → Device → BothEnds Contents
+abbrev pub with_device : Ends → List (ℕ × List ℕ) → List (ℕ × List ℕ) → Device → BothEnds OwnedState
 with_device ends sent back device = record (in_messages ends sent back) { device = device }
 
 -- The ends with this connection.

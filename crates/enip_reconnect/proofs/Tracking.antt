@@ -9,7 +9,7 @@ use Rattle.cip_commander.specs.CommanderRule.{do_once}
 use Rattle.cip_commander.specs.Worlds.{BothEnds}
 use Rattle.cip_ledger.specs.Laws.{IsOfAnother}
 use Rattle.cip_ledger.specs.Requests.{Command}
-use Rattle.cip_objects.specs.Contents.{Contents}
+use Rattle.cip_owner.specs.Owned.{OwnedState}
 use Rattle.enip_adapter.specs.declared.peer.Session.{Session}
 use Rattle.enip_adapter.specs.Calls.{AdapterState}
 use Rattle.enip_adapter.specs.SendRRData.{Executes, route_of}
@@ -184,7 +184,7 @@ pub record Tracks (own : ℕ) (ends : Ends) (sent back : List (ℕ × List ℕ))
   pub streams : AreFlying own ends.adapter sent ends.streams
 
 -- Both ends in messages, with what was sent and sent back.
-abbrev pub in_messages : Ends → List (ℕ × List ℕ) → List (ℕ × List ℕ) → BothEnds Contents
+abbrev pub in_messages : Ends → List (ℕ × List ℕ) → List (ℕ × List ℕ) → BothEnds OwnedState
 in_messages ends sent back = record {
   device = ends.adapter.state.shared.objects;
   commander = ends.commander;

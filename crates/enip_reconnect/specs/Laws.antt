@@ -1,6 +1,6 @@
 -- What holds of both ends over every list of events. Whatever happens in bytes, frames and TCP connections is what
 -- happens in whole messages between a commander and a device (`Worlds` of `cip_commander`), whose laws follow.
-use Rattle.std.specs.Prelude.{◌≡◌, ⊤, ℕ, Some, List, [], ◌∷◌, ◌++◌, map}
+use Rattle.std.specs.Prelude.{◌≡◌, ⊤, ℕ, Some, None, List, [], ◌∷◌, ◌++◌, map}
 use Rattle.std.specs.List.{slice_get, AllByRecursion}
 use Rattle.cip_bytes.specs.declared.protocol.TheConstants.{UNCONNECTED_LIMIT}
 use Rattle.cip_commander.specs.CommanderRule.{CommanderState, IsInRange}
@@ -11,7 +11,7 @@ use Rattle.cip_commander.specs.Worlds.{BothEnds}
 use Rattle.cip_commander.specs.Worlds as messages
 use Rattle.cip_ledger.specs.Laws.{IsOfAnother}
 use Rattle.cip_ledger.specs.Runs.{Request, journal}
-use Rattle.cip_objects.specs.Contents.{Contents}
+use Rattle.cip_owner.specs.Owned.{OwnedState}
 use Rattle.enip_adapter.specs.DeviceRuns.{objects_after, objects_answer, requests_of_calls, IsNoWrite}
 use Rattle.enip_adapter.specs.SendRRData.{Executes, route_of}
 use Rattle.enip_reconnect.specs.Events.{Event, NewCommand, Abandon, Ask, Other}
@@ -41,15 +41,15 @@ abbrev pub MessageEvent : Type 0
 MessageEvent = messages.Event
 
 -- The same opening of a commander and a device.
-abbrev pub opening_in_messages : Opening → messages.Opening Contents
+abbrev pub opening_in_messages : Opening → messages.Opening OwnedState
 opening_in_messages opening = record {
   slots = opening.slots;
   life = opening.life;
-  router = opening.objects;
+  router = record { objects = opening.objects; prepared = None };
   commander = opening.commander;
 }
 
-abbrev pub message_ends : Opening → List MessageEvent → BothEnds Contents
+abbrev pub message_ends : Opening → List MessageEvent → BothEnds OwnedState
 message_ends opening events = messages.ends_after objects_after objects_answer (opening_in_messages opening) events
 
 -- What the originator does with its commands: gives one, or gives the pending one up.
@@ -99,7 +99,7 @@ messages_law = (opening : Opening) (events later : List Event) → IsInRange ope
 
 -- What is seen of a run: the machine, the originator, and the accepted replies.
 pub record Seen : Type 0 where
-  pub machine : Contents
+  pub machine : OwnedState
   pub commander : CommanderState
   pub accepted : List (ℕ × List ℕ)
 

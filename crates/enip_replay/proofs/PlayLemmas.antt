@@ -1,4 +1,4 @@
-use Rattle.std.proofs.Common.{◌≡◌, ◌∙◌, ℕ, List, [], ◌∷◌, ◌++◌, Option, Some, None, Result, Ok, Err, MatchResult, OnOk, IfErr, refl, sym, ap, subst}
+use Rattle.std.proofs.Common.{◌≡◌, ◌∙◌, ℕ, List, [], Option, Some, Result, Ok, Err, MatchResult, OnOk, IfErr, refl, sym, ap, subst}
 use Rattle.std.proofs.KnownBytes.{Appends-trans}
 use Rattle.std.specs.Io.KnownBytes.{Appends, Keeps}
 use Rattle.std.specs.Result.{IsErr, IsErrAnd}
@@ -14,7 +14,7 @@ use Rattle.enip_replay.specs.Outcome.{outcomes}
 use Rattle.enip_replay.specs.Replay.{IsPlayedFrom, IsPlayedUpTo, IsOpeningOf, IsRun, IsStop, IsStopAt, OnceOpened, ending}
 use Rattle.enip_replay.specs.declared.replaying.ReplayFailure.{ReplayFailure}
 use Rattle.enip_replay.specs.declared.replaying.ReplayFailure.TheVariants.{Program}
-use Rattle.enip_replay.specs.Script.{IsRefusedAt, IsRefusedLine, Say}
+use Rattle.enip_replay.specs.Script.{IsRefusedAt, IsRefusedLine}
 use Rattle.enip_replay.proofs.LadderLemmas.{grown-more}
 use Rattle.enip_replay.proofs.RunLemmas.{AreRunFrom, IsInOrder, Keeps-appends, lines_run, outcomes_in_order, nothing_in_order}
 

@@ -7,20 +7,30 @@ use Rattle.cip_class3.specs.declared.originator.Stage.{Stage}
 use Rattle.cip_class3.specs.declared.originator.Stage.TheVariants as stages
 use Rattle.cip_bytes.specs.declared.protocol.TheConstants.{COUNTER}
 use Rattle.cip_objects.specs.Contents.{Contents, bytes_at, udint_at}
+use Rattle.enip_adapter.specs.OwnWrites.{OwnWrite, WritesData, WritesAttribute, SetsStatus, SetsState, Prepares}
 use Rattle.enip_bench.specs.Events.{Event, Submit, Resend, Reach, Back, Other, Write, Shut, GiveUp}
 use Rattle.enip_bench.specs.CountingWorld.{CountingWorld, counting_step}
 use Rattle.enip_bench.specs.EventResults.{event_result, EventResult, Sends, Refuses, Resends, Reaches, Accepts, Ignores}
 use Rattle.enip_bench.specs.EventResults.{Impossible, Done}
 use Rattle.enip_commands.specs.Lines.{with_newline}
 
--- The line of an event, without the digits of a request.
+-- A reply of the owner is printed with its general status.
+abbrev pub write_words : OwnWrite → List ℕ
+write_words (WritesData instance offset bytes) = codes "write"
+write_words (WritesAttribute class instance attribute offset bytes) = codes "write"
+write_words (SetsStatus status) = codes "write"
+write_words (SetsState state) = codes "write"
+write_words (Prepares None) = codes "write"
+write_words (Prepares (Some reply)) = codes "owner " ++ decimal reply.status
+
+-- The line of an event, without the digits of a request or of a reply.
 abbrev pub words : Event → List ℕ
 words (Submit request) = codes "submit"
 words Resend = codes "resend"
 words (Reach position) = codes "reach " ++ decimal position
 words (Back position) = codes "back " ++ decimal position
 words (Other request) = codes "other"
-words (Write write) = codes "write"
+words (Write write) = write_words write
 words Shut = codes "shut"
 words GiveUp = codes "giveup"
 

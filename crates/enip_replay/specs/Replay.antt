@@ -1,5 +1,5 @@
 -- What `enip replay` does with an adapter and a script.
-use Rattle.std.specs.Prelude.{◌≡◌, ℕ, zero, suc, List, [], ◌++◌, Option, Ok, Err}
+use Rattle.std.specs.Prelude.{◌≡◌, ℕ, zero, suc, List, [], ◌++◌, Option, Ok, Err, if◌then◌else◌}
 use Rattle.std.specs.Option.{option_map_or}
 use Rattle.std.specs.Io.KnownBytes.{Appends, Keeps}
 use Rattle.cip_bytes.specs.declared.protocol.TheConstants.{ASSEMBLY}
@@ -75,15 +75,20 @@ assemblies_printed contents zero = []
 assemblies_printed contents (suc instance) =
     assemblies_printed contents instance ++ assembly_printed contents (suc instance)
 
+-- The line of the counter, if the device has it.
+abbrev pub counter_printed : Contents → List ℕ
+counter_printed contents =
+    if contents.shapes.has_counter then
+    with_newline (counter_line (counter_number contents 1) (counter_number contents 2) (counter_number contents 3))
+    else []
+
 -- The lines of the counter and of the assemblies.
 abbrev pub objects_printed : Contents → List ℕ
-objects_printed contents =
-    with_newline (counter_line (counter_number contents 1) (counter_number contents 2) (counter_number contents 3))
-    ++ assemblies_printed contents 65535
+objects_printed contents = counter_printed contents ++ assemblies_printed contents 65535
 
 -- What is printed at the end: the objects and the state of the client.
 abbrev pub ending : CountingWorld → List ℕ
-ending world = objects_printed (counting_seen world).router.router ++ with_newline (final_line (counting_seen world).stage)
+ending world = objects_printed (counting_seen world).router.router.objects ++ with_newline (final_line (counting_seen world).stage)
 
 -- From this world on, a script was played: each event that its lines say was done at both ends, in order, and printed
 -- with its outcome. Then the ending was printed.

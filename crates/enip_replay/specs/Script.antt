@@ -1,6 +1,10 @@
 -- The lines of a script.
-use Rattle.std.specs.Prelude.{◌≡◌, ◌<◌, ◌+◌, ◌^◌, ℕ, Bool, true, false, List, [], ◌∷◌, ◌++◌, length, Some, codes, ◌==◌}
+use Rattle.std.specs.Prelude.{◌≡◌, ◌<◌, ◌≤◌, ◌+◌, ◌^◌, ℕ, Bool, true, false, List, [], ◌∷◌, ◌++◌, length, Some, None}
+use Rattle.std.specs.Prelude.{codes, ◌==◌, Option, take, drop}
+use Rattle.std.specs.List.{position}
 use Rattle.std.specs.Str.Parse.{IsNumeral, digits_value}
+use Rattle.cip_owner.specs.Replies.{Reply}
+use Rattle.enip_adapter.specs.OwnWrites.{OwnWrite, WritesData, WritesAttribute, SetsStatus, SetsState, Prepares}
 use Rattle.enip_bench.specs.Events.{Event, Submit, Resend, Reach, Back, Other, Write, Shut, GiveUp}
 use Rattle.enip_commands.specs.Digits.{bytes_spelled}
 
@@ -18,14 +22,58 @@ IsNumbered word number text = (digits : List ℕ) × (text ≡ word ++ digits) �
 abbrev pub IsSpelled : List ℕ → List ℕ → List ℕ → Type 0
 IsSpelled word bytes text = (digits : List ℕ) × (text ≡ word ++ digits) × (bytes_spelled digits ≡ Some bytes)
 
--- The event that a line means. No line means a write of the device itself.
+-- A general status that an owner can give: one byte, and not "reply data too large".
+abbrev pub IsStatus : ℕ → Type 0
+IsStatus status = (status < 256) × (status ≡ 17 → ⊥)
+
+-- What is before the first space of a text, and what is after it. Without a space, the text and nothing.
+abbrev pub before_at : List ℕ → Option ℕ → List ℕ
+before_at text None = text
+before_at text (Some index) = take index text
+
+abbrev pub after_at : List ℕ → Option ℕ → List ℕ
+after_at text None = []
+after_at text (Some index) = drop (index + 1) text
+
+abbrev pub first_space : List ℕ → Option ℕ
+first_space text = position (λ byte. byte == 32) text
+
+abbrev pub before_space : List ℕ → List ℕ
+before_space text = before_at text (first_space text)
+
+abbrev pub after_space : List ℕ → List ℕ
+after_space text = after_at text (first_space text)
+
+-- A reply of the owner: a general status in decimal, a space, and up to 480 bytes in hexadecimal. Without data the
+-- space may be left out.
+pub record IsReplySpelled (reply : Reply) (text : List ℕ) : Type 0 where
+  pub numeral : IsNumeral 10 (before_space text)
+  pub status : digits_value 10 (before_space text) ≡ reply.status
+  pub allowed : IsStatus reply.status
+  pub content : bytes_spelled (after_space text) ≡ Some reply.content
+  pub short : length reply.content ≤ 480
+
+-- The text does not spell a reply of the owner.
+abbrev pub SpellsNoReply : List ℕ → Type 0
+SpellsNoReply text = (reply : Reply) → IsReplySpelled reply text → ⊥
+
+-- The write that a line means: the owner of the device prepares a reply. No line means another write of the device.
+abbrev pub MeansWrite : List ℕ → OwnWrite → Type 0
+MeansWrite text (WritesData instance offset bytes) = ⊥
+MeansWrite text (WritesAttribute class instance attribute offset bytes) = ⊥
+MeansWrite text (SetsStatus status) = ⊥
+MeansWrite text (SetsState state) = ⊥
+MeansWrite text (Prepares None) = ⊥
+MeansWrite text (Prepares (Some reply)) = (rest : List ℕ) × (text ≡ codes "owner " ++ rest) × IsReplySpelled reply rest
+
+-- The event that a line means.
 abbrev pub Means : List ℕ → Event → Type 0
 Means text (Submit request) = IsSpelled (codes "submit ") request text
 Means text Resend = text ≡ codes "resend"
 Means text (Reach position) = IsNumbered (codes "reach ") position text
 Means text (Back position) = IsNumbered (codes "back ") position text
 Means text (Other request) = IsSpelled (codes "other ") request text
-Means text (Write write) = ⊥
+Means text (Write write) = MeansWrite text write
 Means text Shut = text ≡ codes "shut"
 Means text GiveUp = text ≡ codes "giveup"
 

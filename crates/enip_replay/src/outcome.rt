@@ -7,11 +7,11 @@ use byteorder::{ByteOrder, LittleEndian};
 use cip_bytes::protocol::COUNTER;
 use cip_class3::Stage;
 use cip_objects::Objects;
-use enip_bench::{Event, Step};
+use enip_bench::{Event, OwnWrite, Step};
 use enip_commands::Digits;
 use std::fmt;
 
-/// The line of an event, without the digits of a request.
+/// The line of an event, without the digits of a request or of a reply.
 #[derive(Clone, Copy)]
 struct Words<'a>(&'a Event);
 
@@ -28,6 +28,7 @@ impl fmt::Display for Words<'_> {
             Event::Reach(position) => write!(f, "reach {position}"),
             Event::Back(position) => write!(f, "back {position}"),
             Event::Other(_) => f.write_str("other"),
+            Event::Write(OwnWrite::Prepare(reply)) => write!(f, "owner {}", reply.status()),
             Event::Write(_) => f.write_str("write"),
             Event::Shut => f.write_str("shut"),
             Event::GiveUp => f.write_str("giveup"),

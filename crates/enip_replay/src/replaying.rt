@@ -229,13 +229,15 @@ pub(crate) fn print_state<W: Write>(
     Ok(())
 }
 
-/// Prints the counter and the data of each assembly, sorted by instance.
+/// Prints the counter, if the device has it, and the data of each assembly, sorted by instance.
 fn print_objects<W: Write>(output: &mut W, objects: &Objects) -> Result<(), ProgramFault>
     ensures printed { OnOk result (Appends (W.contents output.old) (W.contents output.new)
         (objects_printed objects.now)) }
     ensures refused { IfErr result IsOfDevices }
 {
-    writeln!(output, "{}", Counter::of(objects))?;
+    if objects.has_counter() {
+        writeln!(output, "{}", Counter::of(objects))?;
+    }
     print_assemblies(output, objects)
 }
 

@@ -1,14 +1,18 @@
 //! The lines of a script.
 
-ghost use Rattle.std.specs.Prelude.{◌≡◌, ◌<◌, ◌^◌, ◌++◌, None, IfSome, IfOk, IfErr, MatchOption, option_map};
+ghost use Rattle.std.specs.Prelude.{◌≡◌, ◌<◌, ◌^◌, ◌++◌, None, length, IfSome, IfOk, IfErr, MatchOption, option_map};
 ghost use Rattle.std.specs.Option.{SomeIff};
 ghost use Rattle.std.specs.Str.Parse.{IsNumeral, digits_value};
 ghost use Rattle.enip_bench.specs.Stored.{event_in};
 ghost use Rattle.enip_commands.specs.Digits.{bytes_spelled};
 ghost use Rattle.enip_replay.specs.Script.{Means, IsMeaningless, IsNotAKeyword, BeginsOtherwise, is_skipped};
+ghost use Rattle.enip_replay.specs.Script.{IsReplySpelled, SpellsNoReply, IsStatus};
+ghost use Rattle.enip_replay.specs.Script.{before_space, after_space, first_space};
 ghost use Rattle.enip_commands.specs.Statuses.{IsOfDevices};
 
-use enip_bench::Event;
+use cip_bytes::protocol::GeneralStatus;
+use cip_owner::OwnerReply;
+use enip_bench::{Event, OwnWrite};
 use enip_commands::{LineFault, ProgramFault, decimal, decode};
 use std::alloc::Global;
 
@@ -19,8 +23,8 @@ pub(crate) fn is_skipped(text: &[u8]) -> bool
     matches!(text, [] | [b'#', ..])
 }
 
-/// Parses a line: `submit HEX`, `resend`, `reach K`, `back J`, `other HEX`, `shut` or `giveup`. `None` if it is none
-/// of these. `digits` is a scratch buffer for hexadecimal digits without their spaces.
+/// Parses a line: `submit HEX`, `resend`, `reach K`, `back J`, `other HEX`, `owner STATUS HEX`, `shut` or `giveup`.
+/// `None` if it is none of these. `digits` is a scratch buffer for hexadecimal digits without their spaces.
 ///
 /// # Errors
 ///
@@ -46,7 +50,62 @@ pub(crate) fn event_of(
     if let Some(position) = rest_after(b"back ", text) {
         return Ok(position_of(position).map(Event::Back));
     }
+    if let Some(reply) = rest_after(b"owner ", text) {
+        let reply = reply_of(alloc, reply, digits)?;
+        return Ok(reply.map(|reply| Event::Write(OwnWrite::Prepare(reply))));
+    }
     Ok(event_of_word(text))
+}
+
+/// The owner's reply that a text spells: a general status and data. `None` if it does not spell one.
+fn reply_of(
+    alloc: Global,
+    text: &[u8],
+    digits: &mut Vec<u8>,
+) -> Result<Option<OwnerReply>, ProgramFault>
+    ensures spelled { IfOk result (λ spelled. MatchOption spelled (SpellsNoReply text.now)
+        (λ reply. IsReplySpelled reply text.now)) }
+    ensures refused { IfErr result IsOfDevices }
+{
+    let (status, data) = split_at_space(text);
+    let Some(status) = status_of(status) else {
+        return Ok(None);
+    };
+    let Some(data) = bytes_of(alloc, data, digits)? else {
+        return Ok(None);
+    };
+    Ok(OwnerReply::new(status, &data))
+}
+
+/// What is before the first space of a text, and what is after it. Without a space, the text and nothing.
+fn split_at_space(text: &[u8]) -> (&[u8], &[u8])
+    ensures before { result.0.now ≡ before_space text.now }
+    ensures after { result.1.now ≡ after_space text.now }
+{
+    match first_space(text) {
+        Some(index) => (&text[..index], &text[index + 1..]),
+        None => (text, &[]),
+    }
+}
+
+/// The index of the first space of a text.
+fn first_space(text: &[u8]) -> Option<usize>
+    ensures value { result ≡ first_space text.now }
+    ensures within { IfSome result (λ index. index < length text.now) }
+{
+    text.iter().position(|byte| *byte == b' ')
+}
+
+/// The general status that decimal digits spell. `None` if it is not one that an owner can give.
+fn status_of(digits: &[u8]) -> Option<u8>
+    ensures { SomeIff result (IsNumeral 10 digits.now × IsStatus (digits_value 10 digits.now))
+        (digits_value 10 digits.now) }
+{
+    let status = u8::try_from(decimal(digits)?).ok()?;
+    if status == GeneralStatus::ReplyDataTooLarge.number() {
+        return None;
+    }
+    Some(status)
 }
 
 /// Parses a line of one word.
@@ -101,6 +160,7 @@ pub(crate) fn line_fault(text: &[u8]) -> LineFault {
         [b'o', b't', b'h', b'e', b'r', b' ', ..] => LineFault::Other,
         [b'r', b'e', b'a', b'c', b'h', b' ', ..] => LineFault::Reach,
         [b'b', b'a', b'c', b'k', b' ', ..] => LineFault::Back,
+        [b'o', b'w', b'n', b'e', b'r', b' ', ..] => LineFault::Owner,
         _ => LineFault::Script,
     }
 }

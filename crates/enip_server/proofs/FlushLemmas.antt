@@ -1,5 +1,5 @@
 -- Writing an answer, and what is left of one.
-use Rattle.std.proofs.Common.{◌≡◌, ◌≢◌, ◌≤◌, ◌<◌, ◌+◌, ◌-◌, ℕ, zero, suc, List, [], ◌++◌, length, take, drop, Option, Some, None, refl, sym, ap, subst, ◌∙◌, arith}
+use Rattle.std.proofs.Common.{◌≡◌, ◌≢◌, ◌<◌, ◌+◌, ◌-◌, ℕ, zero, suc, List, [], ◌++◌, length, take, drop, Option, Some, None, refl, sym, ap, subst, ◌∙◌, arith}
 use Rattle.std.specs.Prelude.{IfSome, IfNone}
 use Rattle.std.proofs.KnownBytes.{Appends-nil, Appends-trans}
 use Rattle.std.proofs.lemmas.List.{drop-take, drop_all, length-drop, take-append-drop, take-take, take_all}
@@ -7,7 +7,7 @@ use Rattle.std.specs.Io.KnownBytes.{Appends}
 use Rattle.enip_server.specs.declared.peer_io.Turn.{Turn}
 use Rattle.enip_server.specs.declared.peer_io.Turn.TheVariants.{More, UntilReadable, UntilWritable, Finished}
 use Rattle.enip_server.specs.declared.wire_counts.WireCounts.{WireCounts}
-use Rattle.enip_server.specs.PeerStates.{PeerState, IsFlushed, GoesOn, IsCutShort, IsWaiting, fed_once}
+use Rattle.enip_server.specs.PeerStates.{PeerState, IsFlushed, GoesOn, IsCutShort, IsWaiting}
 use Rattle.enip_server.specs.Wires.{after_write}
 
 -- nothing is written
@@ -42,11 +42,6 @@ flushed_by old new size appends rest adapter inbox closed last_byte_at left know
   known = known;
   reads = reads;
 }
-
--- what is fed is written
-pub fed_flushed : (now peer : ℕ) (d between new : PeerState) → between ≡ fed_once now peer d → IsFlushed between new
-    → IsFlushed (fed_once now peer d) new
-fed_flushed now peer d between new is flushed = subst (λ x. IsFlushed x new) is flushed
 
 -- the part of a slice from an index on
 pub from_index : (xs : List ℕ) (n : ℕ) → take (length xs - n) (drop n xs) ≡ drop n xs

@@ -1,5 +1,6 @@
 -- What a call does to the adapter's next session handle.
 use Rattle.std.proofs.Common.{◌≡◌, ◌≤◌, ◌+◌, ℕ, List, [], ◌∷◌, not, ltb, length, refl, ◌∙◌, arith}
+use Rattle.std.specs.Prelude.{⊤}
 use Rattle.std.specs.List.{AllByRecursion}
 use Rattle.enip_adapter.specs.Turn.{TurnResult, after, session_of}
 use Rattle.enip_adapter.specs.Turn.Output.{Begins}
@@ -11,13 +12,13 @@ use Rattle.enip_adapter.proofs.ListLemmas.{both}
 use Rattle.enip_adapter.proofs.NumberLemmas.{next-parsed_frame, next-ended}
 use Rattle.enip_adapter.proofs.PeerLemmas.{at_state}
 
--- A feed or the end of this peer.
+-- A feed or the end of this peer, or the device's own write.
 abbrev pub IsAbout : ℕ → Call → Type 0
 IsAbout peer Begins_peer = ⊥
 IsAbout peer (Feeds now other piece) = other ≡ peer
 IsAbout peer (Ends_peer other) = other ≡ peer
 IsAbout peer (Ticks now) = ⊥
-IsAbout peer (Writes write) = ⊥
+IsAbout peer (Writes write) = ⊤
 
 next_call : (peer : ℕ) (a : AdapterState) (call : Call) → IsAbout peer call
     → (after_call a call).state.next_handle ≡ a.state.next_handle
@@ -27,9 +28,9 @@ next_call peer a (Feeds now other piece) is =
     (session_of a.state other) refl (λ x n left. next-parsed_frame (at_state a.state now) other x)
 next_call peer a (Ends_peer other) is = next-ended a.state other (session_of a.state other)
 next_call peer a (Ticks now) is = absurd is
-next_call peer a (Writes write) is = absurd is
+next_call peer a (Writes write) is = refl
 
--- feeds and ends do not change it
+-- these calls do not change it
 pub next_calls : (peer : ℕ) (a : AdapterState) (calls : List Call) → AllByRecursion (IsAbout peer) calls
     → (after_calls a calls).state.next_handle ≡ a.state.next_handle
 next_calls peer a [] each = refl

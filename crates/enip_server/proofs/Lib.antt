@@ -3,8 +3,10 @@ pub mod FeedLemmas
 pub mod TurnLemmas
 pub mod RoundLemmas
 pub mod TransferLemmas
+pub mod AskMoves
 pub mod TurnMoves
 pub mod ApartLemmas
 pub mod HandleLemmas
 pub mod RoundMoves
+pub mod RoundAsks
 pub mod LifeLemmas

@@ -5,6 +5,8 @@ use Rattle.std.proofs.Common.{subst, ◌∙◌, arith}
 use Rattle.std.proofs.lemmas.Bool.{eqb-true, eqb-false}
 use Rattle.std.proofs.lemmas.List.Quantifiers.{position-Some}
 use Rattle.std.specs.List.{AllByRecursion}
+use Rattle.cip_objects.specs.OwnRequests.{Asked}
+use Rattle.cip_owner.specs.Replies.{Reply}
 use Rattle.enip_adapter.specs.declared.adapter.Full.{Full}
 use Rattle.enip_adapter.specs.Calls.{AdapterState, Call, after_call}
 use Rattle.enip_adapter.specs.Calls.Call.{Begins_peer, Writes}
@@ -16,9 +18,9 @@ use Rattle.enip_server.specs.Wires.{KnownCalls}
 use Rattle.enip_server.specs.PeerStates.{peer_state_of}
 use Rattle.enip_server.specs.Transfers.{Transfers, GoesOnWith}
 use Rattle.enip_server.specs.Rounds.{ServerState, new_peers, new_peer_io, first_free, IsAdded, marked_ready_in, marked_ready_at}
-use Rattle.enip_server.specs.Rounds.{written_by}
+use Rattle.enip_server.specs.Rounds.{written_by, nobody, no_answer, same_nobody}
 use Rattle.enip_server.specs.Runs.{IsStep, IsRun, HoldsSlot, KeepsSlot}
-use Rattle.enip_server.specs.Runs.IsStep.{Adds, MarksReady, Rounds, Writes_own}
+use Rattle.enip_server.specs.Runs.IsStep.{Adds, MarksReady, Rounds, Rounds_alone, Writes_own}
 use Rattle.enip_server.specs.Runs.IsRun.{Still, Goes_on}
 use Rattle.enip_server.specs.Runs.KeepsSlot.{Begins, Stays_on}
 use Rattle.enip_server.proofs.ApartLemmas.{AreSound, sound_new, sound_come, sound_of, of_woken, are_of_themselves, AreOf}
@@ -62,7 +64,8 @@ module _ {W : Type 0} where
       → slice_get slots slot ≡ Some (Some after) → after ≡ io
   same_line slots slot io after there stays = cc
 
-module _ {W : Type 0} (left written : W → Option (List ℕ)) (known : W → Option KnownCalls) (counts : W → WireCounts) where
+module _ {W O : Type 0} (left written : W → Option (List ℕ)) (known : W → Option KnownCalls) (counts : W → WireCounts)
+    (answer : O → Asked → Option Reply) (next : O → Asked → O) where
   -- ---- the peers stay sound
 
   sound_comes : (old new : ServerState W) (now : ℕ) (wire : W) (result : Result ℕ Full) → IsAdded now wire old new result
@@ -78,18 +81,21 @@ module _ {W : Type 0} (left written : W → Option (List ℕ)) (known : W → Op
       sound_of old new sound (subst (AreOf old.slots) (sym (ap (λ p. p.slots) is.1)) (are_of_themselves old.slots))
       (omega (arith, next_begun old.adapter, ap (λ p. p.adapter.state.next_handle) is.1))
 
-  sound_step : (old new : ServerState W) → IsStep left written known counts old new → AreSound old → AreSound new
+  sound_step : (old new : ServerState W) → IsStep left written known counts answer next old new → AreSound old → AreSound new
   sound_step old new (Adds now wire result is) sound = sound_comes old new now wire result is sound
   sound_step old new (MarksReady slot ends is) sound =
       sound_of old new sound
       (subst (AreOf old.slots) (sym (ap (λ p. p.slots) is)) (of_woken ends old.slots slot (slice_get old.slots slot) refl))
       (omega (arith, ap (λ p. p.adapter.state.next_handle) is))
-  sound_step old new (Rounds now is) sound = sound_round left written known counts now old new is sound
+  sound_step old new (Rounds now first last is) sound =
+      sound_round left written known counts answer next now first old last new is sound
+  sound_step old new (Rounds_alone now is) sound =
+      sound_round left written known counts no_answer same_nobody now nobody old nobody new is sound
   sound_step old new (Writes_own write is) sound =
       sound_of old new sound (subst (AreOf old.slots) (sym (ap (λ p. p.slots) is)) (are_of_themselves old.slots))
       (omega (arith, ap (λ p. p.adapter.state.next_handle) is))
 
-  sound_run : (old new : ServerState W) → IsRun left written known counts old new → AreSound old → AreSound new
+  sound_run : (old new : ServerState W) → IsRun left written known counts answer next old new → AreSound old → AreSound new
   sound_run old new Still sound = sound
   sound_run old new (Goes_on {between = between} run step) sound =
       sound_step between new step (sound_run old between run sound)
@@ -186,7 +192,7 @@ module _ {W : Type 0} (left written : W → Option (List ℕ)) (known : W → Op
       let is_old : found ≡ io = cc in
       ap (peer_state_of left written known counts a) is_new ∙ ap (peer_state_of left written known counts a) is_old
 
-  step_moves : (old new : ServerState W) → AreSound old → IsStep left written known counts old new → (slot : ℕ) (io after : PeerIo W)
+  step_moves : (old new : ServerState W) → AreSound old → IsStep left written known counts answer next old new → (slot : ℕ) (io after : PeerIo W)
       → slice_get old.slots slot ≡ Some (Some io) → slice_get new.slots slot ≡ Some (Some after)
       → MovesBy io.peer (GoesOnWith io.peer) (peer_state_of left written known counts old.adapter io)
       (peer_state_of left written known counts new.adapter after)
@@ -197,26 +203,29 @@ module _ {W : Type 0} (left written : W → Option (List ℕ)) (known : W → Op
       (kept_still old.adapter io new.adapter after (ap (λ p. p.adapter) is)
       (woken_desk ends new.adapter old.slots waken slot (slice_get old.slots waken) refl io after there
       (subst (λ (p : ServerState W). slice_get p.slots slot ≡ Some (Some after)) is stays) (eqb waken slot) refl))
-  step_moves old new sound (Rounds now is) slot io after there stays =
-      round_moves left written known counts now old new is sound slot io after there stays
+  step_moves old new sound (Rounds now first last is) slot io after there stays =
+      round_moves left written known counts answer next now first old last new is sound slot io after there stays
+  step_moves old new sound (Rounds_alone now is) slot io after there stays =
+      round_moves left written known counts no_answer same_nobody now nobody old nobody new is sound slot io after there
+      stays
   step_moves old new sound (Writes_own write is) slot io after there stays =
       kept_moves old.adapter io new.adapter after (kept_written old new write is slot io after there stays)
 
   -- ---- a peer that keeps its slot
 
   holds_at_end : (slot peer : ℕ) (first last : ServerState W) (io after : PeerIo W)
-      → KeepsSlot left written known counts slot peer first io last after → HoldsSlot slot peer last after
+      → KeepsSlot left written known counts answer next slot peer first io last after → HoldsSlot slot peer last after
   holds_at_end slot peer first last io after (Begins holds) = holds
   holds_at_end slot peer first last io after (Stays_on lives step holds) = holds
 
   sound_life : (slot peer : ℕ) (first last : ServerState W) (io after : PeerIo W)
-      → KeepsSlot left written known counts slot peer first io last after → AreSound first → AreSound last
+      → KeepsSlot left written known counts answer next slot peer first io last after → AreSound first → AreSound last
   sound_life slot peer first last io after (Begins holds) sound = sound
   sound_life slot peer first last io after (Stays_on {between = between} {mid = mid} lives step holds) sound =
       sound_step between last step (sound_life slot peer first between io mid lives sound)
 
   life_moves : (slot peer : ℕ) (first last : ServerState W) (io after : PeerIo W) → AreSound first
-      → KeepsSlot left written known counts slot peer first io last after
+      → KeepsSlot left written known counts answer next slot peer first io last after
       → MovesBy peer (GoesOnWith peer) (peer_state_of left written known counts first.adapter io) (peer_state_of left written known counts last.adapter after)
   life_moves slot peer first last io after sound (Begins holds) =
       moves_not peer (GoesOnWith peer) (peer_state_of left written known counts first.adapter io)
@@ -233,7 +242,7 @@ module _ {W : Type 0} (left written : W → Option (List ℕ)) (known : W → Op
 
   -- as the law states it
   pub law_peers : (adapter : AdapterState) (idle_timeout slot peer : ℕ) (first last : ServerState W) (io after : PeerIo W)
-      → IsRun left written known counts (new_peers adapter idle_timeout) first → KeepsSlot left written known counts slot peer first io last after
+      → IsRun left written known counts answer next (new_peers adapter idle_timeout) first → KeepsSlot left written known counts answer next slot peer first io last after
       → (calls : List Call) × (received : List ℕ) × (gone : List ℕ) × AllByRecursion (GoesOnWith peer) calls
       × Transfers peer calls received gone (peer_state_of left written known counts first.adapter io) (peer_state_of left written known counts last.adapter after)
   law_peers adapter idle_timeout slot peer first last io after run lives =

@@ -5,6 +5,8 @@ use Rattle.std.proofs.lemmas.List.{set-get_or}
 use Rattle.std.specs.Prelude.{◌||◌, ◌^◌, min}
 use Rattle.std.specs.Box.{boxed_slice_items}
 use Rattle.std.specs.List.{list_any}
+use Rattle.cip_objects.specs.OwnRequests.{Asked}
+use Rattle.cip_owner.specs.Replies.{Reply}
 use Rattle.enip_adapter.proofs.LookupLemmas.{slice_get-within}
 use Rattle.enip_adapter.specs.Calls.{AdapterState, after_call}
 use Rattle.enip_adapter.specs.Calls.Call.{Ends_peer}
@@ -17,39 +19,49 @@ use Rattle.enip_server.specs.Rounds.{ServerState, state_of, new_peers, marked_re
 use Rattle.enip_server.specs.Rounds.{IsServedPeer, IsLeft, IsSlotServed, AreSlotsServed}
 use Rattle.enip_server.specs.Rounds.{timeout_at, is_ready, due_with, due_by, earliest_of}
 
-module _ {W : Type 0} (left written : W → Option (List ℕ)) (known : W → Option KnownCalls) (counts : W → WireCounts) (now idle_timeout : ℕ) (a : AdapterState) where
+module _ {W O : Type 0} (left written : W → Option (List ℕ)) (known : W → Option KnownCalls) (counts : W → WireCounts)
+    (answer : O → Asked → Option Reply) (next : O → Asked → O) (now idle_timeout : ℕ)
+    (first : O) (a : AdapterState) where
   -- what happened to its peer is what happened to the slot
-  place_left : (old : Option (PeerIo W)) (io after : PeerIo W) (between b : AdapterState) (goes_on : Bool)
-      (slot : Option (PeerIo W)) → old ≡ Some io → IsServedPeer left written known counts now idle_timeout a io between after goes_on
-      → IsLeft between after goes_on b slot → IsSlotServed left written known counts now idle_timeout a old b slot
-  place_left old io after between b goes_on slot is served stays =
-      subst (λ o. IsSlotServed left written known counts now idle_timeout a o b slot) (sym is)
+  place_left : (old : Option (PeerIo W)) (io after : PeerIo W) (last : O) (between b : AdapterState) (goes_on : Bool)
+      (slot : Option (PeerIo W)) → old ≡ Some io
+      → IsServedPeer left written known counts answer next now idle_timeout first a io last between after goes_on
+      → IsLeft between after goes_on b slot
+      → IsSlotServed left written known counts answer next now idle_timeout first a old last b slot
+  place_left old io after last between b goes_on slot is served stays =
+      subst (λ o. IsSlotServed left written known counts answer next now idle_timeout first a o last b slot) (sym is)
       (record { adapter = between; after = after; goes_on = goes_on; served = served; stays = stays })
 
   -- its peer goes on
-  pub place_goes_on : (old : Option (PeerIo W)) (io after : PeerIo W) (between : AdapterState) (goes_on : Bool)
-      → old ≡ Some io → IsServedPeer left written known counts now idle_timeout a io between after goes_on → goes_on ≡ true
-      → IsSlotServed left written known counts now idle_timeout a old between (Some after)
-  place_goes_on old io after between goes_on is served stays =
-      place_left old io after between between goes_on (Some after) is served
+  pub place_goes_on : (old : Option (PeerIo W)) (io after : PeerIo W) (last : O) (between : AdapterState) (goes_on : Bool)
+      → old ≡ Some io
+      → IsServedPeer left written known counts answer next now idle_timeout first a io last between after goes_on
+      → goes_on ≡ true
+      → IsSlotServed left written known counts answer next now idle_timeout first a old last between (Some after)
+  place_goes_on old io after last between goes_on is served stays =
+      place_left old io after last between between goes_on (Some after) is served
       (subst (λ r. IsLeft between after r between (Some after)) (sym stays) (refl, refl))
 
   -- its peer is ended
-  pub place_ended : (old : Option (PeerIo W)) (io after : PeerIo W) (between b : AdapterState) (goes_on : Bool)
-      → old ≡ Some io → IsServedPeer left written known counts now idle_timeout a io between after goes_on → goes_on ≡ false
-      → b ≡ after_call between (Ends_peer after.peer) → IsSlotServed left written known counts now idle_timeout a old b None
-  place_ended old io after between b goes_on is served leaves ends =
-      place_left old io after between b goes_on None is served
+  pub place_ended : (old : Option (PeerIo W)) (io after : PeerIo W) (last : O) (between b : AdapterState) (goes_on : Bool)
+      → old ≡ Some io
+      → IsServedPeer left written known counts answer next now idle_timeout first a io last between after goes_on
+      → goes_on ≡ false → b ≡ after_call between (Ends_peer after.peer)
+      → IsSlotServed left written known counts answer next now idle_timeout first a old last b None
+  place_ended old io after last between b goes_on is served leaves ends =
+      place_left old io after last between b goes_on None is served
       (subst (λ r. IsLeft between after r b None) (sym leaves) (ends, refl))
 
   -- one more slot
-  pub places_more : (old : List (Option (PeerIo W))) (first : Option (PeerIo W)) (rest : List (Option (PeerIo W)))
-      (between b : AdapterState) (slot : Option (PeerIo W)) (places : List (Option (PeerIo W))) → old ≡ first ∷ rest
-      → IsSlotServed left written known counts now idle_timeout a first between slot
-      → AreSlotsServed left written known counts now idle_timeout between rest b places
-      → AreSlotsServed left written known counts now idle_timeout a old b (slot ∷ places)
-  places_more old first rest between b slot places is served others =
-      subst (λ l. AreSlotsServed left written known counts now idle_timeout a l b (slot ∷ places)) (sym is) (between, served, others)
+  pub places_more : (old : List (Option (PeerIo W))) (slot_before : Option (PeerIo W)) (rest : List (Option (PeerIo W)))
+      (owner last : O) (between b : AdapterState) (slot : Option (PeerIo W)) (places : List (Option (PeerIo W)))
+      → old ≡ slot_before ∷ rest
+      → IsSlotServed left written known counts answer next now idle_timeout first a slot_before owner between slot
+      → AreSlotsServed left written known counts answer next now idle_timeout owner between rest last b places
+      → AreSlotsServed left written known counts answer next now idle_timeout first a old last b (slot ∷ places)
+  places_more old slot_before rest owner last between b slot places is served others =
+      subst (λ l. AreSlotsServed left written known counts answer next now idle_timeout first a l last b (slot ∷ places))
+      (sym is) (between, owner, served, others)
 
 -- the peers by their parts
 state_by : {W : Type 0} (p : Peers W) (adapter : AdapterState) (idle_timeout : ℕ) (slots : List (Option (PeerIo W)))

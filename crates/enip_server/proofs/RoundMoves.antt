@@ -2,15 +2,16 @@
 use Rattle.std.proofs.Common.{◌≡◌, ◌≢◌, ◌<◌, ◌≤◌, ℕ, zero, suc, List, [], ◌∷◌, ◌++◌, slice_get, Bool, true, false}
 use Rattle.std.proofs.Common.{ltb, ltb-true, ltb-false, Option, Some, None, refl, sym, ap, subst, ◌∙◌, arith}
 use Rattle.std.specs.List.{AllByRecursion}
+use Rattle.cip_objects.specs.OwnRequests.{Asked}
+use Rattle.cip_owner.specs.Replies.{Reply}
 use Rattle.enip_adapter.specs.Calls.{AdapterState, Call, after_call}
 use Rattle.enip_adapter.specs.Calls.Call.{Begins_peer, Feeds, Ends_peer, Ticks, Writes}
-use Rattle.enip_adapter.specs.AdapterActions.{IsFeedOf}
 use Rattle.enip_adapter.specs.Runs.{after_calls, IsForOther}
 use Rattle.enip_server.specs.declared.peer_io.PeerIo.{PeerIo}
 use Rattle.enip_server.specs.declared.wire_counts.WireCounts.{WireCounts}
 use Rattle.enip_server.specs.Wires.{KnownCalls}
 use Rattle.enip_server.specs.PeerStates.{peer_state_of}
-use Rattle.enip_server.specs.Transfers.{GoesOnWith}
+use Rattle.enip_server.specs.Transfers.{IsTurnCall, GoesOnWith}
 use Rattle.enip_server.specs.Rounds.{ServerState, TakesTurn, IsServedPeer, IsServedAt, IsLeft, IsSlotServed}
 use Rattle.enip_server.specs.Rounds.{AreSlotsServed, IsRound, timeout_at}
 use Rattle.enip_server.proofs.ApartLemmas.{HasNone, AreApart, AreSound, IsOf, AreOf, none_at, none_tail, apart_tail, sound_of}
@@ -19,27 +20,27 @@ use Rattle.enip_server.proofs.TransferLemmas.{MovesBy, moves_by_then, moves_by_w
 use Rattle.enip_server.proofs.TransferLemmas.{all_weaker, after_calls-append}
 use Rattle.enip_server.proofs.TurnMoves.{turn_moves}
 
-about_feed : (now peer : ℕ) (call : Call) → IsFeedOf now peer call → IsAbout peer call
-about_feed now peer Begins_peer is = absurd is
-about_feed now peer (Feeds at other piece) is = is.1
-about_feed now peer (Ends_peer other) is = absurd is
-about_feed now peer (Ticks at) is = absurd is
-about_feed now peer (Writes write) is = absurd is
+about_turn : (now peer : ℕ) (call : Call) → IsTurnCall now peer call → IsAbout peer call
+about_turn now peer Begins_peer is = absurd is
+about_turn now peer (Feeds at other piece) is = is.1
+about_turn now peer (Ends_peer other) is = absurd is
+about_turn now peer (Ticks at) is = absurd is
+about_turn now peer (Writes write) is = tt
 
 about_other : (other peer : ℕ) → other ≢ peer → (call : Call) → IsAbout other call → IsForOther peer call
 about_other other peer differs Begins_peer is = absurd is
 about_other other peer differs (Feeds now to piece) is = subst (λ n. n ≢ peer) (sym is) differs
 about_other other peer differs (Ends_peer to) is = subst (λ n. n ≢ peer) (sym is) differs
 about_other other peer differs (Ticks now) is = absurd is
-about_other other peer differs (Writes write) is = absurd is
+about_other other peer differs (Writes write) is = tt
 
--- a feed, or a call for another peer, does not end this one
-pub feed_goes_on : (now peer : ℕ) (call : Call) → IsFeedOf now peer call → GoesOnWith peer call
-feed_goes_on now peer Begins_peer is = tt
-feed_goes_on now peer (Feeds at other piece) is = tt
-feed_goes_on now peer (Ends_peer other) is = absurd is
-feed_goes_on now peer (Ticks at) is = tt
-feed_goes_on now peer (Writes write) is = absurd is
+-- a call of a turn, or one for another peer, does not end this one
+pub turn_goes_on : (now peer : ℕ) (call : Call) → IsTurnCall now peer call → GoesOnWith peer call
+turn_goes_on now peer Begins_peer is = tt
+turn_goes_on now peer (Feeds at other piece) is = tt
+turn_goes_on now peer (Ends_peer other) is = absurd is
+turn_goes_on now peer (Ticks at) is = tt
+turn_goes_on now peer (Writes write) is = tt
 
 pub other_goes_on : (peer : ℕ) (call : Call) → IsForOther peer call → GoesOnWith peer call
 other_goes_on peer Begins_peer is = tt
@@ -68,43 +69,47 @@ leads_weaker : (P Q : Call → Type 0) (a b : AdapterState) → ((call : Call) �
     → LeadsBy Q a b
 leads_weaker P Q a b weaker l = record { calls = l.calls; each = all_weaker P Q weaker l.calls l.each; after = l.after }
 
-module _ {W : Type 0} (left written : W → Option (List ℕ)) (known : W → Option KnownCalls) (counts : W → WireCounts) (now idle_timeout : ℕ) where
-  -- The result of a peer's turn: the peer is the same, and feeds change its state.
+module _ {W O : Type 0} (left written : W → Option (List ℕ)) (known : W → Option KnownCalls) (counts : W → WireCounts)
+    (answer : O → Asked → Option Reply) (next : O → Asked → O) (now idle_timeout : ℕ) where
+  -- The result of a peer's turn: the peer is the same, and calls of a turn change its state.
   record HasMoved (a : AdapterState) (io : PeerIo W) (b : AdapterState) (after : PeerIo W) : Type 0 where
     peer : after.peer ≡ io.peer
-    moves : MovesBy io.peer (IsFeedOf now io.peer) (peer_state_of left written known counts a io) (peer_state_of left written known counts b after)
+    moves : MovesBy io.peer (IsTurnCall now io.peer) (peer_state_of left written known counts a io) (peer_state_of left written known counts b after)
 
   moved_not : (a : AdapterState) (io : PeerIo W) (b : AdapterState) (after : PeerIo W) → b ≡ a → after ≡ io
       → HasMoved a io b after
   moved_not a io b after same is =
       subst (λ x. HasMoved a io x after) (sym same)
       (subst (λ l. HasMoved a io a l) (sym is)
-      (record { peer = refl; moves = moves_not io.peer (IsFeedOf now io.peer) (peer_state_of left written known counts a io) }))
+      (record { peer = refl; moves = moves_not io.peer (IsTurnCall now io.peer) (peer_state_of left written known counts a io) }))
 
-  moved_turn : (a : AdapterState) (io : PeerIo W) (b : AdapterState) (after : PeerIo W) (goes_on : Bool)
-      → TakesTurn left written known counts now a io b after goes_on → HasMoved a io b after
-  moved_turn a io b after goes_on t = record {
+  moved_turn : (first : O) (a : AdapterState) (io : PeerIo W) (last : O) (b : AdapterState) (after : PeerIo W)
+      (goes_on : Bool) → TakesTurn left written known counts answer next now first a io last b after goes_on
+      → HasMoved a io b after
+  moved_turn first a io last b after goes_on t = record {
     peer = t.peer;
-    moves = turn_moves now io.peer (peer_state_of left written known counts a io) (peer_state_of left written known counts b after) t.turn;
+    moves = (turn_moves answer next now io.peer first (peer_state_of left written known counts a io)
+        last (peer_state_of left written known counts b after) t.turn).moves;
   }
 
-  moved_ready : (a : AdapterState) (io : PeerIo W) (b : AdapterState) (after : PeerIo W) (goes_on : Bool)
-      → IsServedPeer left written known counts now idle_timeout a io b after goes_on → now < timeout_at idle_timeout io → (ready : Bool)
-      → io.ready ≡ ready → HasMoved a io b after
-  moved_ready a io b after goes_on s early false is =
-      moved_not a io b after (s.waits early is).0 (s.waits early is).1
-  moved_ready a io b after goes_on s early true is = moved_turn a io b after goes_on (s.ready early is)
+  moved_ready : (first : O) (a : AdapterState) (io : PeerIo W) (last : O) (b : AdapterState) (after : PeerIo W)
+      (goes_on : Bool) → IsServedPeer left written known counts answer next now idle_timeout first a io last b after goes_on
+      → now < timeout_at idle_timeout io → (ready : Bool) → io.ready ≡ ready → HasMoved a io b after
+  moved_ready first a io last b after goes_on s early false is =
+      moved_not a io b after (s.waits early is).0.0 (s.waits early is).0.1
+  moved_ready first a io last b after goes_on s early true is =
+      moved_turn first a io last b after goes_on (s.ready early is)
 
-  moved_line : (a : AdapterState) (io : PeerIo W) (b : AdapterState) (after : PeerIo W) (goes_on : Bool)
-      → IsServedPeer left written known counts now idle_timeout a io b after goes_on → (early : Bool)
-      → ltb now (timeout_at idle_timeout io) ≡ early → HasMoved a io b after
-  moved_line a io b after goes_on s true is =
-      moved_ready a io b after goes_on s (ltb-true now (timeout_at idle_timeout io) is) io.ready refl
-  moved_line a io b after goes_on s false is =
+  moved_line : (first : O) (a : AdapterState) (io : PeerIo W) (last : O) (b : AdapterState) (after : PeerIo W)
+      (goes_on : Bool) → IsServedPeer left written known counts answer next now idle_timeout first a io last b after goes_on
+      → (early : Bool) → ltb now (timeout_at idle_timeout io) ≡ early → HasMoved a io b after
+  moved_line first a io last b after goes_on s true is =
+      moved_ready first a io last b after goes_on s (ltb-true now (timeout_at idle_timeout io) is) io.ready refl
+  moved_line first a io last b after goes_on s false is =
       let late : timeout_at idle_timeout io ≤ now = ltb-false now (timeout_at idle_timeout io) is in
-      moved_not a io b after (s.silent late).0 (s.silent late).1
+      moved_not a io b after (s.silent late).0.0 (s.silent late).0.1
 
-  -- What happened to a slot with a peer: the peer stays, and feeds change its state; or the slot is free, and the calls
+  -- What happened to a slot with a peer: the peer stays, and calls of a turn change its state; or the slot is free, and the calls
   -- were about this peer.
   data Became (a : AdapterState) (io : PeerIo W) (b : AdapterState) : Option (PeerIo W) → Type 0 where
     Stays : {after : PeerIo W} → HasMoved a io b after → Became a io b (Some after)
@@ -114,7 +119,7 @@ module _ {W : Type 0} (left written : W → Option (List ℕ)) (known : W → Op
       → LeadsBy (IsAbout io.peer) a b
   leads_moved a io b after m = record {
     calls = m.moves.calls;
-    each = all_weaker (IsFeedOf now io.peer) (IsAbout io.peer) (about_feed now io.peer) m.moves.calls m.moves.each;
+    each = all_weaker (IsTurnCall now io.peer) (IsAbout io.peer) (about_turn now io.peer) m.moves.calls m.moves.each;
     after = m.moves.moves.adapter;
   }
 
@@ -129,11 +134,11 @@ module _ {W : Type 0} (left written : W → Option (List ℕ)) (known : W → Op
       subst (λ o. Became a io b o) (sym is.1)
       (Leaves (leads_then (IsAbout io.peer) a between b (leads_moved a io between after m) ends))
 
-  became : (a : AdapterState) (io : PeerIo W) (b : AdapterState) (slot : Option (PeerIo W))
-      → IsServedAt left written known counts now idle_timeout a io b slot → Became a io b slot
-  became a io b slot s =
+  became : (first : O) (a : AdapterState) (io : PeerIo W) (last : O) (b : AdapterState) (slot : Option (PeerIo W))
+      → IsServedAt left written known counts answer next now idle_timeout first a io last b slot → Became a io b slot
+  became first a io last b slot s =
       became_left a io s.adapter s.after s.goes_on b slot
-      (moved_line a io s.adapter s.after s.goes_on s.served (ltb now (timeout_at idle_timeout io)) refl) s.stays
+      (moved_line first a io last s.adapter s.after s.goes_on s.served (ltb now (timeout_at idle_timeout io)) refl) s.stays
 
   became_leads : (a : AdapterState) (io : PeerIo W) (b : AdapterState) (slot : Option (PeerIo W)) → Became a io b slot
       → LeadsBy (IsAbout io.peer) a b
@@ -151,41 +156,42 @@ module _ {W : Type 0} (left written : W → Option (List ℕ)) (known : W → Op
 
   -- ---- all peers
 
-  place_next : (a : AdapterState) (old : Option (PeerIo W)) (b : AdapterState) (slot : Option (PeerIo W))
-      → IsSlotServed left written known counts now idle_timeout a old b slot
+  place_next : (first : O) (a : AdapterState) (old : Option (PeerIo W)) (last : O) (b : AdapterState)
+      (slot : Option (PeerIo W)) → IsSlotServed left written known counts answer next now idle_timeout first a old last b slot
       → IsOf old slot × (b.state.next_handle ≡ a.state.next_handle)
-  place_next a None b slot is =
+  place_next first a None last b slot is =
       (subst (λ o. IsOf None o) (sym is.1) tt, ap (λ x. x.state.next_handle) is.0)
-  place_next a (Some io) b slot is =
-      let r : Became a io b slot = became a io b slot is in
+  place_next first a (Some io) last b slot is =
+      let r : Became a io b slot = became first a io last b slot is in
       let l : LeadsBy (IsAbout io.peer) a b = became_leads a io b slot r in (
         became_of a io b slot r,
         ap (λ x. x.state.next_handle) l.after ∙ next_calls io.peer a l.calls l.each,
       )
 
-  places_next : (a : AdapterState) (slots : List (Option (PeerIo W))) (b : AdapterState) (places : List (Option (PeerIo W)))
-      → AreSlotsServed left written known counts now idle_timeout a slots b places
+  places_next : (first : O) (a : AdapterState) (slots : List (Option (PeerIo W))) (last : O) (b : AdapterState)
+      (places : List (Option (PeerIo W)))
+      → AreSlotsServed left written known counts answer next now idle_timeout first a slots last b places
       → AreOf slots places × (b.state.next_handle ≡ a.state.next_handle)
-  places_next a [] b [] is = (tt, ap (λ x. x.state.next_handle) is)
-  places_next a [] b (slot ∷ places) is = absurd is
-  places_next a (io ∷ slots) b [] is = absurd is
-  places_next a (io ∷ slots) b (slot ∷ places) is =
-      let first : IsOf io slot × (is.0.state.next_handle ≡ a.state.next_handle) = place_next a io is.0 slot is.1 in
+  places_next first a [] last b [] is = (tt, ap (λ x. x.state.next_handle) is.0)
+  places_next first a [] last b (slot ∷ places) is = absurd is
+  places_next first a (io ∷ slots) last b [] is = absurd is
+  places_next first a (io ∷ slots) last b (slot ∷ places) is =
+      let here : IsOf io slot × (is.0.state.next_handle ≡ a.state.next_handle) = place_next first a io is.1 is.0 slot is.2 in
       let rest : AreOf slots places × (b.state.next_handle ≡ is.0.state.next_handle)
-      = places_next is.0 slots b places is.2 in
-      ((first.0, rest.0), rest.1 ∙ first.1)
+      = places_next is.1 is.0 slots last b places is.3 in
+      ((here.0, rest.0), rest.1 ∙ here.1)
 
   -- ---- one peer
 
   -- what is done at another slot is done for another peer
-  place_for_other : (peer : ℕ) (a : AdapterState) (old : Option (PeerIo W)) (b : AdapterState) (slot : Option (PeerIo W))
-      → IsSlotServed left written known counts now idle_timeout a old b slot
+  place_for_other : (peer : ℕ) (first : O) (a : AdapterState) (old : Option (PeerIo W)) (last : O) (b : AdapterState)
+      (slot : Option (PeerIo W)) → IsSlotServed left written known counts answer next now idle_timeout first a old last b slot
       → ((io : PeerIo W) → old ≡ Some io → io.peer ≢ peer) → LeadsBy (IsForOther peer) a b
-  place_for_other peer a None b slot is differs =
+  place_for_other peer first a None last b slot is differs =
       subst (λ x. LeadsBy (IsForOther peer) a x) (sym is.0) (leads_not (IsForOther peer) a)
-  place_for_other peer a (Some io) b slot is differs =
+  place_for_other peer first a (Some io) last b slot is differs =
       leads_weaker (IsAbout io.peer) (IsForOther peer) a b (about_other io.peer peer (differs io refl))
-      (became_leads a io b slot (became a io b slot is))
+      (became_leads a io b slot (became first a io last b slot is))
 
   none_head : (peer : ℕ) (first : Option (PeerIo W)) (slots : List (Option (PeerIo W))) → HasNone peer (first ∷ slots)
       → (io : PeerIo W) → first ≡ Some io → io.peer ≢ peer
@@ -193,17 +199,18 @@ module _ {W : Type 0} (left written : W → Option (List ℕ)) (known : W → Op
   none_head peer (Some first) slots none io is =
       let same : first ≡ io = cc in subst (λ (l : PeerIo W). l.peer ≢ peer) same none.0
 
-  places_for_others : (peer : ℕ) (a : AdapterState) (slots : List (Option (PeerIo W))) (b : AdapterState)
-      (places : List (Option (PeerIo W))) → AreSlotsServed left written known counts now idle_timeout a slots b places → HasNone peer slots
-      → LeadsBy (IsForOther peer) a b
-  places_for_others peer a [] b [] is none =
-      subst (λ x. LeadsBy (IsForOther peer) a x) (sym is) (leads_not (IsForOther peer) a)
-  places_for_others peer a [] b (slot ∷ places) is none = absurd is
-  places_for_others peer a (io ∷ slots) b [] is none = absurd is
-  places_for_others peer a (io ∷ slots) b (slot ∷ places) is none =
+  places_for_others : (peer : ℕ) (first : O) (a : AdapterState) (slots : List (Option (PeerIo W))) (last : O)
+      (b : AdapterState) (places : List (Option (PeerIo W)))
+      → AreSlotsServed left written known counts answer next now idle_timeout first a slots last b places
+      → HasNone peer slots → LeadsBy (IsForOther peer) a b
+  places_for_others peer first a [] last b [] is none =
+      subst (λ x. LeadsBy (IsForOther peer) a x) (sym is.0) (leads_not (IsForOther peer) a)
+  places_for_others peer first a [] last b (slot ∷ places) is none = absurd is
+  places_for_others peer first a (io ∷ slots) last b [] is none = absurd is
+  places_for_others peer first a (io ∷ slots) last b (slot ∷ places) is none =
       leads_then (IsForOther peer) a is.0 b
-      (place_for_other peer a io is.0 slot is.1 (none_head peer io slots none))
-      (places_for_others peer is.0 slots b places is.2 (none_tail peer io slots none))
+      (place_for_other peer first a io is.1 is.0 slot is.2 (none_head peer io slots none))
+      (places_for_others peer is.1 is.0 slots last b places is.3 (none_tail peer io slots none))
 
   -- calls for other peers change nothing of a peer's state but the adapter
   line_stays : (io : PeerIo W) (a b : AdapterState) → LeadsBy (IsForOther io.peer) a b
@@ -228,52 +235,60 @@ module _ {W : Type 0} (left written : W → Option (List ℕ)) (known : W → Op
       λ same. differs (sym same)
 
   -- the peer of a slot that stays
-  place_moves : (a : AdapterState) (old : Option (PeerIo W)) (b : AdapterState) (slot : Option (PeerIo W))
-      → IsSlotServed left written known counts now idle_timeout a old b slot → (io after : PeerIo W) → old ≡ Some io
-      → slot ≡ Some after → HasMoved a io b after
-  place_moves a old b slot is io after there stays =
+  place_moves : (first : O) (a : AdapterState) (old : Option (PeerIo W)) (last : O) (b : AdapterState)
+      (slot : Option (PeerIo W)) → IsSlotServed left written known counts answer next now idle_timeout first a old last b slot
+      → (io after : PeerIo W) → old ≡ Some io → slot ≡ Some after → HasMoved a io b after
+  place_moves first a old last b slot is io after there stays =
       became_moves a io b after
-      (became a io b (Some after)
-      (subst (λ o. IsSlotServed left written known counts now idle_timeout a (Some io) b o) stays
-      (subst (λ o. IsSlotServed left written known counts now idle_timeout a o b slot) there is)))
+      (became first a io last b (Some after)
+      (subst (λ o. IsSlotServed left written known counts answer next now idle_timeout first a (Some io) last b o) stays
+      (subst (λ o. IsSlotServed left written known counts answer next now idle_timeout first a o last b slot) there is)))
 
-  places_move : (a : AdapterState) (slots : List (Option (PeerIo W))) (b : AdapterState) (places : List (Option (PeerIo W)))
-      → AreSlotsServed left written known counts now idle_timeout a slots b places → AreApart slots → (index : ℕ) (io after : PeerIo W)
+  places_move : (first : O) (a : AdapterState) (slots : List (Option (PeerIo W))) (last : O) (b : AdapterState)
+      (places : List (Option (PeerIo W)))
+      → AreSlotsServed left written known counts answer next now idle_timeout first a slots last b places
+      → AreApart slots → (index : ℕ) (io after : PeerIo W)
       → slice_get slots index ≡ Some (Some io) → slice_get places index ≡ Some (Some after)
-      → MovesBy io.peer (GoesOnWith io.peer) (peer_state_of left written known counts a io) (peer_state_of left written known counts b after)
-  places_move a [] b [] is apart index io after there stays = cc
-  places_move a [] b (slot ∷ places) is apart index io after there stays = absurd is
-  places_move a (first ∷ slots) b [] is apart index io after there stays = absurd is
-  places_move a (first ∷ slots) b (slot ∷ places) is apart zero io after there stays =
-      let old : first ≡ Some io = cc in
-      let new : slot ≡ Some after = cc in
-      let m : HasMoved a io is.0 after = place_moves a first is.0 slot is.1 io after old new in
-      let none : HasNone io.peer slots = apart_first first slots io old apart in
-      let rest : LeadsBy (IsForOther io.peer) is.0 b = places_for_others io.peer is.0 slots b places is.2 none in
-      moves_by_then io.peer (GoesOnWith io.peer) (peer_state_of left written known counts a io) (peer_state_of left written known counts is.0 after)
+      → MovesBy io.peer (GoesOnWith io.peer) (peer_state_of left written known counts a io)
       (peer_state_of left written known counts b after)
-      (moves_by_weaker io.peer (IsFeedOf now io.peer) (GoesOnWith io.peer) (peer_state_of left written known counts a io)
-      (peer_state_of left written known counts is.0 after) (feed_goes_on now io.peer) m.moves)
-      (subst (λ n. MovesBy n (GoesOnWith n) (peer_state_of left written known counts is.0 after) (peer_state_of left written known counts b after)) m.peer
+  places_move first a [] last b [] is apart index io after there stays = cc
+  places_move first a [] last b (slot ∷ places) is apart index io after there stays = absurd is
+  places_move first a (line ∷ slots) last b [] is apart index io after there stays = absurd is
+  places_move first a (line ∷ slots) last b (slot ∷ places) is apart zero io after there stays =
+      let old : line ≡ Some io = cc in
+      let new : slot ≡ Some after = cc in
+      let m : HasMoved a io is.0 after = place_moves first a line is.1 is.0 slot is.2 io after old new in
+      let none : HasNone io.peer slots = apart_first line slots io old apart in
+      let rest : LeadsBy (IsForOther io.peer) is.0 b
+      = places_for_others io.peer is.1 is.0 slots last b places is.3 none in
+      moves_by_then io.peer (GoesOnWith io.peer) (peer_state_of left written known counts a io)
+      (peer_state_of left written known counts is.0 after) (peer_state_of left written known counts b after)
+      (moves_by_weaker io.peer (IsTurnCall now io.peer) (GoesOnWith io.peer) (peer_state_of left written known counts a io)
+      (peer_state_of left written known counts is.0 after) (turn_goes_on now io.peer) m.moves)
+      (subst (λ n. MovesBy n (GoesOnWith n) (peer_state_of left written known counts is.0 after)
+      (peer_state_of left written known counts b after)) m.peer
       (line_stays after is.0 b (subst (λ n. LeadsBy (IsForOther n) is.0 b) (sym m.peer) rest)))
-  places_move a (first ∷ slots) b (slot ∷ places) is apart (suc index) io after there stays =
+  places_move first a (line ∷ slots) last b (slot ∷ places) is apart (suc index) io after there stays =
       let before : LeadsBy (IsForOther io.peer) a is.0
-      = place_for_other io.peer a first is.0 slot is.1 (apart_before first slots index io apart there) in
-      moves_by_then io.peer (GoesOnWith io.peer) (peer_state_of left written known counts a io) (peer_state_of left written known counts is.0 io)
-      (peer_state_of left written known counts b after) (line_stays io a is.0 before)
-      (places_move is.0 slots b places is.2 (apart_tail first slots apart) index io after there stays)
+      = place_for_other io.peer first a line is.1 is.0 slot is.2 (apart_before line slots index io apart there) in
+      moves_by_then io.peer (GoesOnWith io.peer) (peer_state_of left written known counts a io)
+      (peer_state_of left written known counts is.0 io) (peer_state_of left written known counts b after)
+      (line_stays io a is.0 before)
+      (places_move is.1 is.0 slots last b places is.3 (apart_tail line slots apart) index io after there stays)
 
 ticks : (peer now : ℕ) (a : AdapterState) → LeadsBy (IsForOther peer) a (after_call a (Ticks now))
 ticks peer now a = record { calls = Ticks now ∷ []; each = (tt, tt); after = refl }
 
-module _ {W : Type 0} (left written : W → Option (List ℕ)) (known : W → Option KnownCalls) (counts : W → WireCounts) (now : ℕ) (old new : ServerState W)
-    (round : IsRound left written known counts now old new) where
+module _ {W O : Type 0} (left written : W → Option (List ℕ)) (known : W → Option KnownCalls) (counts : W → WireCounts)
+    (answer : O → Asked → Option Reply) (next : O → Asked → O) (now : ℕ)
+    (first : O) (old : ServerState W) (last : O) (new : ServerState W)
+    (round : IsRound left written known counts answer next now first old last new) where
   -- the peers stay sound in a round
   pub sound_round : AreSound old → AreSound new
   sound_round sound =
       let r : AreOf old.slots new.slots × (new.adapter.state.next_handle ≡ old.adapter.state.next_handle)
-      = places_next left written known counts now old.idle_timeout (after_call old.adapter (Ticks now)) old.slots new.adapter new.slots
-      round.places in
+      = places_next left written known counts answer next now old.idle_timeout first (after_call old.adapter (Ticks now))
+      old.slots last new.adapter new.slots round.places in
       sound_of old new sound r.0 (omega (arith, r.1))
 
   -- what a round transfers for each peer that stays
@@ -284,7 +299,7 @@ module _ {W : Type 0} (left written : W → Option (List ℕ)) (known : W → Op
   round_moves sound slot io after there stays =
       moves_by_then io.peer (GoesOnWith io.peer) (peer_state_of left written known counts old.adapter io)
       (peer_state_of left written known counts (after_call old.adapter (Ticks now)) io) (peer_state_of left written known counts new.adapter after)
-      (line_stays left written known counts now old.idle_timeout io old.adapter (after_call old.adapter (Ticks now))
+      (line_stays left written known counts answer next now old.idle_timeout io old.adapter (after_call old.adapter (Ticks now))
       (ticks io.peer now old.adapter))
-      (places_move left written known counts now old.idle_timeout (after_call old.adapter (Ticks now)) old.slots new.adapter new.slots
-      round.places sound.apart slot io after there stays)
+      (places_move left written known counts answer next now old.idle_timeout first (after_call old.adapter (Ticks now))
+      old.slots last new.adapter new.slots round.places sound.apart slot io after there stays)

@@ -4,12 +4,15 @@ use Rattle.std.proofs.Common.{append_assoc, append-nil, take, drop, take-append-
 use Rattle.std.proofs.lemmas.Bool.{eq-eqb, ne_eqb}
 use Rattle.std.proofs.KnownBytes.{Appends-nil, Appends-trans, Consumes-nil, Consumes-trans}
 use Rattle.std.specs.List.{AllByRecursion}
+use Rattle.cip_objects.specs.OwnRequests.{Asked}
+use Rattle.cip_owner.specs.Replies.{Reply}
+use Rattle.enip_adapter.specs.Asks.{asks_of_call, asked_adapter, calls_asking, prepared_feed, with_reply}
 use Rattle.enip_adapter.specs.Calls.{AdapterState, Call, after_call, call_meaning, call_answer}
 use Rattle.enip_adapter.specs.Calls.Call.{Begins_peer, Feeds, Ends_peer, Ticks, Writes}
 use Rattle.enip_adapter.specs.Runs.{after_calls, taken_by_call, taken_by_calls, IsForOther}
 use Rattle.enip_adapter.specs.Serving.{output_bytes}
-use Rattle.enip_server.specs.PeerStates.{PeerState, fed_once}
-use Rattle.enip_server.specs.Transfers.{Transfers, sent_by_call, sent_by_calls}
+use Rattle.enip_server.specs.PeerStates.{PeerState, closed_at, fed_once}
+use Rattle.enip_server.specs.Transfers.{Transfers, IsTurnCall, sent_by_call, sent_by_calls}
 
 -- what holds of each of these and of each of those
 pub all_join : {X : Type 0} → (P : X → Type 0) (xs ys : List X) → AllByRecursion P xs → AllByRecursion P ys
@@ -118,7 +121,7 @@ pub record MovesBy (peer : ℕ) (P : Call → Type 0) (old new : PeerState) : Ty
   pub each : AllByRecursion P calls
   pub moves : Transfers peer calls received gone old new
 
-pub moves_by_then : (peer : ℕ) (P : Call → Type 0) (a b c : PeerState) → MovesBy peer P a b → MovesBy peer P b c → MovesBy peer P a c
+unfoldable pub moves_by_then : (peer : ℕ) (P : Call → Type 0) (a b c : PeerState) → MovesBy peer P a b → MovesBy peer P b c → MovesBy peer P a c
 moves_by_then peer P a b c m n = record {
   calls = m.calls ++ n.calls;
   received = m.received ++ n.received;
@@ -138,7 +141,7 @@ moves_by_weaker peer P Q a b weaker m = record {
 }
 
 -- no call, and nothing is done
-pub moves_not : (peer : ℕ) (P : Call → Type 0) (d : PeerState) → MovesBy peer P d d
+unfoldable pub moves_not : (peer : ℕ) (P : Call → Type 0) (d : PeerState) → MovesBy peer P d d
 moves_not peer P d = record {
   calls = [];
   received = [];
@@ -159,25 +162,64 @@ moves_not peer P d = record {
 own_call : {X : Type 0} → (peer : ℕ) (x y : X) → cond (eqb peer peer) x y ≡ x
 own_call peer x y = ap (λ b. cond b x y) (eq-eqb peer peer refl)
 
--- one feed
-pub moves_fed : (now peer : ℕ) (d : PeerState) → d.outbox ≡ [] → d.closed ≡ None
-    → Transfers peer (Feeds now peer d.inbox ∷ []) [] [] d (fed_once now peer d)
-moves_fed now peer d out served = record {
+-- The state of a peer after calls that do for it what a feed at this adapter does.
+abbrev fed_at : ℕ → ℕ → PeerState → AdapterState → List Call → PeerState
+fed_at now peer d at calls = record d {
+  adapter = after_calls d.adapter calls;
+  inbox = drop (call_meaning at (Feeds now peer d.inbox)).taken d.inbox;
+  outbox = output_bytes (call_answer at (Feeds now peer d.inbox)).output;
+  closed = closed_at now (call_answer at (Feeds now peer d.inbox)).close;
+}
+
+moves_at : (now peer : ℕ) (d : PeerState) (at : AdapterState) (calls : List Call) → d.outbox ≡ [] → d.closed ≡ None
+    → sent_by_calls peer d.adapter calls ≡ sent_by_call peer at (Feeds now peer d.inbox) ++ []
+    → taken_by_calls peer d.adapter calls ≡ taken_by_call peer at (Feeds now peer d.inbox) ++ []
+    → Transfers peer calls [] [] d (fed_at now peer d at calls)
+moves_at now peer d at calls out served sends takes = record {
   adapter = refl;
   read = Consumes-nil d.left;
   written = Appends-nil d.written;
-  sent = ap (λ xs. xs ++ sent_by_calls peer d.adapter (Feeds now peer d.inbox ∷ [])) out
-      ∙ append-nil (sent_by_call peer d.adapter (Feeds now peer d.inbox))
-      ∙ own_call peer (output_bytes (call_answer d.adapter (Feeds now peer d.inbox)).output) [];
-  rest = drop (call_meaning d.adapter (Feeds now peer d.inbox)).taken d.inbox;
+  sent = ap (λ xs. xs ++ sent_by_calls peer d.adapter calls) out
+      ∙ sends ∙ append-nil (sent_by_call peer at (Feeds now peer d.inbox))
+      ∙ own_call peer (output_bytes (call_answer at (Feeds now peer d.inbox)).output) [];
+  rest = drop (call_meaning at (Feeds now peer d.inbox)).taken d.inbox;
   taken = append-nil d.inbox
-      ∙ sym (take-append-drop (call_meaning d.adapter (Feeds now peer d.inbox)).taken d.inbox)
-      ∙ ap (λ xs. xs ++ drop (call_meaning d.adapter (Feeds now peer d.inbox)).taken d.inbox)
-      (sym (own_call peer (take (call_meaning d.adapter (Feeds now peer d.inbox)).taken d.inbox) [])
-      ∙ sym (append-nil (taken_by_call peer d.adapter (Feeds now peer d.inbox))));
+      ∙ sym (take-append-drop (call_meaning at (Feeds now peer d.inbox)).taken d.inbox)
+      ∙ ap (λ xs. xs ++ drop (call_meaning at (Feeds now peer d.inbox)).taken d.inbox)
+      (sym (own_call peer (take (call_meaning at (Feeds now peer d.inbox)).taken d.inbox) [])
+      ∙ sym (append-nil (taken_by_call peer at (Feeds now peer d.inbox))) ∙ sym takes);
   waits = λ _. refl;
   closed = λ shut. absurd (shut served);
 }
+
+module _ {O : Type 0} (answer : O → Asked → Option Reply) (after : O → Asked → O) (now peer : ℕ) (owner : O)
+    (d : PeerState) where
+  -- The calls of one feed that asks this of the owner.
+  abbrev calls_by : List Asked → List Call
+  calls_by asked = calls_asking answer after owner now peer d.inbox asked
+
+  pub moves_asking : (asked : List Asked) → d.outbox ≡ [] → d.closed ≡ None
+      → Transfers peer (calls_by asked) [] []
+      d (fed_at now peer d (asked_adapter answer after d.adapter owner asked) (calls_by asked))
+  moves_asking [] out served = moves_at now peer d d.adapter (Feeds now peer d.inbox ∷ []) out served refl refl
+  moves_asking (asked ∷ more) out served =
+      moves_at now peer d (with_reply d.adapter (answer owner asked))
+      (prepared_feed now peer d.inbox (answer owner asked)) out served refl refl
+
+  pub turn_calls : (asked : List Asked) → AllByRecursion (IsTurnCall now peer) (calls_by asked)
+  turn_calls [] = ((refl, refl), tt)
+  turn_calls (asked ∷ more) = (tt, ((refl, refl), (tt, tt)))
+
+  -- one feed
+  unfoldable pub moves_fed : d.outbox ≡ [] → d.closed ≡ None
+      → MovesBy peer (IsTurnCall now peer) d (fed_once answer after now peer owner d)
+  moves_fed out served = record {
+    calls = calls_by (asks_of_call d.adapter (Feeds now peer d.inbox));
+    received = [];
+    gone = [];
+    each = turn_calls (asks_of_call d.adapter (Feeds now peer d.inbox));
+    moves = moves_asking (asks_of_call d.adapter (Feeds now peer d.inbox)) out served;
+  }
 
 other_call : {X : Type 0} → (other peer : ℕ) (x y : X) → other ≢ peer → cond (eqb other peer) x y ≡ y
 other_call other peer x y differs = ap (λ b. cond b x y) (ne_eqb other peer differs)

@@ -1,5 +1,7 @@
 -- A turn, by its parts.
-use Rattle.std.proofs.Common.{◌≡◌, ◌≢◌, ℕ, List, [], Bool, true, false, Option, Some, None, refl, sym, ap, subst, ◌∙◌, true≢false}
+use Rattle.std.proofs.Common.{◌≡◌, ◌≢◌, ℕ, List, [], Bool, true, false, Option, Some, None, refl, sym, ap, ◌∙◌, true≢false}
+use Rattle.cip_objects.specs.OwnRequests.{Asked}
+use Rattle.cip_owner.specs.Replies.{Reply}
 use Rattle.enip_server.specs.declared.peer_io.Turn.{Turn}
 use Rattle.enip_server.specs.declared.peer_io.Turn.TheVariants.{More, UntilReadable, UntilWritable, Finished}
 use Rattle.enip_server.specs.PeerStates.{PeerState, IsFlushed, IsFetched, AreFed, IsDiscarded, IsTurn, FitsBuffers, FitsCounts}
@@ -9,37 +11,40 @@ use Rattle.enip_server.specs.declared.wire.ReadOutcome.{ReadOutcome}
 use Rattle.enip_server.specs.declared.wire.ReadOutcome.TheVariants.{Bytes, Drained, WouldBlock, End, Failed}
 use Rattle.enip_server.specs.Wires.{one_more, AreReadBy, after_read}
 
--- an answer is not written to its end
-pub turn_waits : (now peer : ℕ) (old new : PeerState) → IsFlushed old new → new.outbox ≢ [] → IsTurn now peer old new
-turn_waits now peer old new flushed waits = record {
-  between = new;
-  flushed = flushed;
-  waits = λ _. refl;
-  served = λ out _. absurd (waits out);
-  discarded = λ out _. absurd (waits out);
-}
+module _ {O : Type 0} (answer : O → Asked → Option Reply) (after : O → Asked → O) (now peer : ℕ) where
+  -- an answer is not written to its end
+  pub turn_waits : (owner : O) (old new : PeerState) → IsFlushed old new → new.outbox ≢ []
+      → IsTurn answer after now peer owner old owner new
+  turn_waits owner old new flushed waits = record {
+    between = new;
+    flushed = flushed;
+    waits = λ _. (refl, refl);
+    served = λ out _. absurd (waits out);
+    discarded = λ out _. absurd (waits out);
+  }
 
--- what is read of a closed peer is discarded
-pub turn_thrown : (now peer : ℕ) (old between new : PeerState) → IsFlushed old between → between.outbox ≡ []
-    → between.closed ≢ None → IsDiscarded between new → IsTurn now peer old new
-turn_thrown now peer old between new flushed out closed discarded = record {
-  between = between;
-  flushed = flushed;
-  waits = λ waits. absurd (waits out);
-  served = λ _ served. absurd (closed served);
-  discarded = λ _ _. discarded;
-}
+  -- what is read of a closed peer is discarded
+  pub turn_thrown : (owner : O) (old between new : PeerState) → IsFlushed old between → between.outbox ≡ []
+      → between.closed ≢ None → IsDiscarded between new → IsTurn answer after now peer owner old owner new
+  turn_thrown owner old between new flushed out closed discarded = record {
+    between = between;
+    flushed = flushed;
+    waits = λ waits. absurd (waits out);
+    served = λ _ served. absurd (closed served);
+    discarded = λ _ _. (discarded, refl);
+  }
 
--- what was read is fed
-pub turn_served : (now peer : ℕ) (old between read new : PeerState) → IsFlushed old between → between.outbox ≡ []
-    → between.closed ≡ None → IsFetched now between read → AreFed now peer read new → IsTurn now peer old new
-turn_served now peer old between read new flushed out served fetched fed = record {
-  between = between;
-  flushed = flushed;
-  waits = λ waits. absurd (waits out);
-  served = λ _ _. record { between = read; fetched = fetched; fed = fed };
-  discarded = λ _ closed. absurd (closed served);
-}
+  -- what was read is fed
+  pub turn_served : (first last : O) (old between read new : PeerState) → IsFlushed old between → between.outbox ≡ []
+      → between.closed ≡ None → IsFetched now between read → AreFed answer after now peer first read last new
+      → IsTurn answer after now peer first old last new
+  turn_served first last old between read new flushed out served fetched fed = record {
+    between = between;
+    flushed = flushed;
+    waits = λ waits. absurd (waits out);
+    served = λ _ _. record { between = read; fetched = fetched; fed = fed };
+    discarded = λ _ closed. absurd (closed served);
+  }
 
 -- all answers are written, and all that was read is fed
 pub told_fed : (d : PeerState) (turn : Turn) → d.outbox ≡ [] → d.inbox ≡ [] → IsByRead turn → FitsBuffers d turn

@@ -3,7 +3,10 @@ use Rattle.std.specs.Prelude.{ℕ, ◌+◌, ◌-◌, ◌^◌, min, ◌≡◌, �
 use Rattle.std.specs.Prelude.{Bool, true, false, Option, Some, None, ⊤}
 use Rattle.std.specs.Option.{option_map}
 use Rattle.std.specs.Io.KnownBytes.{Appends, Consumes}
-use Rattle.enip_adapter.specs.Calls.{AdapterState, call_meaning, call_answer, after_call}
+use Rattle.cip_objects.specs.OwnRequests.{Asked}
+use Rattle.cip_owner.specs.Replies.{Reply}
+use Rattle.enip_adapter.specs.Asks.{asks_of_call, after_asking, asking_adapter, owner_after}
+use Rattle.enip_adapter.specs.Calls.{AdapterState, call_meaning, call_answer}
 use Rattle.enip_adapter.specs.Calls.Call.{Feeds}
 use Rattle.enip_adapter.specs.Serving.{output_bytes}
 use Rattle.enip_server.specs.declared.peer_io.PeerIo.{PeerIo}
@@ -66,21 +69,33 @@ abbrev pub closed_at : ℕ → Bool → Option ℕ
 closed_at now false = None
 closed_at now true = Some (moment_after now 1_000_000)
 
--- The inbox is fed to its peer at a time, up to the end of one frame. The answer goes to the outbox.
-abbrev pub fed_once : ℕ → ℕ → PeerState → PeerState
-fed_once now peer d = record d {
-  adapter = after_call d.adapter (Feeds now peer d.inbox);
-  inbox = drop (call_meaning d.adapter (Feeds now peer d.inbox)).taken d.inbox;
-  outbox = output_bytes (call_answer d.adapter (Feeds now peer d.inbox)).output;
-  closed = closed_at now (call_answer d.adapter (Feeds now peer d.inbox)).close;
+-- The inbox is fed to its peer at a time, up to the end of one frame, and the owner of the device is asked if the frame
+-- is a request to it. The owner is two functions: what it answers, and the owner afterwards. The answer to the frame
+-- goes to the outbox.
+abbrev pub fed_once : {O : Type 0} → (O → Asked → Option Reply) → (O → Asked → O) → ℕ → ℕ → O → PeerState → PeerState
+fed_once answer after now peer owner d = record d {
+  adapter = after_asking answer after d.adapter owner now peer d.inbox;
+  inbox = drop (call_meaning (asking_adapter answer after d.adapter owner now peer d.inbox)
+      (Feeds now peer d.inbox)).taken d.inbox;
+  outbox = output_bytes (call_answer (asking_adapter answer after d.adapter owner now peer d.inbox)
+      (Feeds now peer d.inbox)).output;
+  closed = closed_at now (call_answer (asking_adapter answer after d.adapter owner now peer d.inbox)
+      (Feeds now peer d.inbox)).close;
 }
+
+-- The owner after that.
+abbrev pub owner_fed : {O : Type 0} → (O → Asked → Option Reply) → (O → Asked → O) → ℕ → ℕ → O → PeerState → O
+owner_fed answer after now peer owner d =
+    owner_after answer after owner (asks_of_call d.adapter (Feeds now peer d.inbox))
 
 -- Feeds of a peer at a time. At each of them all answers before it are written, and the adapter has not closed the
 -- peer.
-pub data AreFed (now peer : ℕ) : PeerState → PeerState → Type 0 where
-  None_fed : {d : PeerState} → AreFed now peer d d
-  One_more_fed : {old d new : PeerState} → AreFed now peer old d → d.outbox ≡ [] → d.closed ≡ None
-      → IsFlushed (fed_once now peer d) new → AreFed now peer old new
+pub data AreFed {O : Type 0} (answer : O → Asked → Option Reply) (after : O → Asked → O) (now peer : ℕ)
+    : O → PeerState → O → PeerState → Type 0 where
+  None_fed : {owner : O} {d : PeerState} → AreFed answer after now peer owner d owner d
+  One_more_fed : {first owner : O} {old d new : PeerState} → AreFed answer after now peer first old owner d
+      → d.outbox ≡ [] → d.closed ≡ None → IsFlushed (fed_once answer after now peer owner d) new
+      → AreFed answer after now peer first old (owner_fed answer after now peer owner d) new
 
 -- When the last byte arrived, after a read at a time.
 abbrev pub last_byte_after : ℕ → List ℕ → ℕ → ℕ
@@ -105,10 +120,11 @@ pub record IsFetched (now : ℕ) (old new : PeerState) : Type 0 where
   pub known_still : old.inbox ≢ [] → new.known ≡ old.known
 
 -- The inbox is filled, if it is empty, and then fed.
-pub record IsServed (now peer : ℕ) (old new : PeerState) : Type 0 where
+pub record IsServed {O : Type 0} (answer : O → Asked → Option Reply) (after : O → Asked → O) (now peer : ℕ)
+    (first : O) (old : PeerState) (last : O) (new : PeerState) : Type 0 where
   pub between : PeerState
   pub fetched : IsFetched now old between
-  pub fed : AreFed now peer between new
+  pub fed : AreFed answer after now peer first between last new
 
 -- For a peer that the adapter closed: the writing side is shut down, and then one read, which is given 4,096 bytes to
 -- fill, is made and discarded, and the inbox with it. Nothing else shuts the writing side down.
@@ -119,13 +135,15 @@ pub record IsDiscarded (old new : PeerState) : Type 0 where
   pub known : new.known ≡ option_map (with_asked 4096) (option_map with_shut old.known)
   pub reads : new.counts.reads ≡ one_more old.counts.reads
 
--- A turn. The outbox is written first; unless it is empty then, nothing else is done.
-pub record IsTurn (now peer : ℕ) (old new : PeerState) : Type 0 where
+-- A turn. The outbox is written first; unless it is empty then, nothing else is done. The owner is asked only while the
+-- inbox is fed.
+pub record IsTurn {O : Type 0} (answer : O → Asked → Option Reply) (after : O → Asked → O) (now peer : ℕ)
+    (first : O) (old : PeerState) (last : O) (new : PeerState) : Type 0 where
   pub between : PeerState
   pub flushed : IsFlushed old between
-  pub waits : between.outbox ≢ [] → new ≡ between
-  pub served : between.outbox ≡ [] → between.closed ≡ None → IsServed now peer between new
-  pub discarded : between.outbox ≡ [] → between.closed ≢ None → IsDiscarded between new
+  pub waits : between.outbox ≢ [] → (new ≡ between) × (last ≡ first)
+  pub served : between.outbox ≡ [] → between.closed ≡ None → IsServed answer after now peer first between last new
+  pub discarded : between.outbox ≡ [] → between.closed ≢ None → IsDiscarded between new × (last ≡ first)
 
 -- The outcome of a turn fits the buffers. If more input may be available, all that was read is fed, unless the adapter
 -- closed the peer.

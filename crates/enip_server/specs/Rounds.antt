@@ -4,6 +4,9 @@ use Rattle.std.specs.Prelude.{◌==◌, ◌||◌, if◌then◌else◌, Option, S
 use Rattle.std.specs.Box.{boxed_slice_items}
 use Rattle.std.specs.List.{position}
 use Rattle.cip_manager.specs.Connection.{earliest_deadline}
+use Rattle.cip_objects.specs.OwnRequests.{Asked}
+use Rattle.cip_owner.specs.Replies.{Reply}
+use Rattle.cip_owner.specs.declared.owner.NoOwner.{NoOwner}
 use Rattle.enip_adapter.specs.declared.adapter.Full.{Full}
 use Rattle.enip_adapter.specs.declared.adapter.Full.TheVariants.{Places}
 use Rattle.enip_adapter.specs.Calls.{AdapterState, call_answer, after_call}
@@ -52,10 +55,13 @@ is_finished UntilReadable = false
 is_finished UntilWritable = false
 is_finished Finished = true
 
-pub record TakesTurn {W : Type 0} (left written : W → Option (List ℕ)) (known : W → Option KnownCalls) (counts : W → WireCounts) (now : ℕ) (a : AdapterState) (io : PeerIo W)
-    (b : AdapterState) (after : PeerIo W) (goes_on : Bool) : Type 0 where
+pub record TakesTurn {W O : Type 0} (left written : W → Option (List ℕ)) (known : W → Option KnownCalls)
+    (counts : W → WireCounts) (answer : O → Asked → Option Reply) (next : O → Asked → O) (now : ℕ)
+    (first : O) (a : AdapterState) (io : PeerIo W) (last : O) (b : AdapterState) (after : PeerIo W) (goes_on : Bool)
+    : Type 0 where
   pub turn_end : Turn
-  pub turn : IsTurn now io.peer (peer_state_of left written known counts a io) (peer_state_of left written known counts b after)
+  pub turn : IsTurn answer next now io.peer first (peer_state_of left written known counts a io)
+      last (peer_state_of left written known counts b after)
   pub fits_buffers : FitsBuffers (peer_state_of left written known counts b after) turn_end
   pub fits_counts : FitsCounts io.end_reported (is_closed_now io.closed after.closed) turn_end (counts io.wire)
       (counts after.wire)
@@ -64,48 +70,66 @@ pub record TakesTurn {W : Type 0} (left written : W → Option (List ℕ)) (know
   pub ready : after.ready ≡ is_more turn_end
   pub over : goes_on ≡ not (is_finished turn_end)
 
+-- Nothing is done, and nobody is asked.
+abbrev pub IsStill : {W O : Type 0} → O → AdapterState → PeerIo W → O → AdapterState → PeerIo W → Type 0
+IsStill first a io last b after = (b ≡ a) × (after ≡ io) × (last ≡ first)
+
 -- A peer in a round. If it timed out, it does not go on. Otherwise it takes one turn if its wire may be ready, and none
 -- if not.
-pub record IsServedPeer {W : Type 0} (left written : W → Option (List ℕ)) (known : W → Option KnownCalls) (counts : W → WireCounts) (now idle_timeout : ℕ) (a : AdapterState)
-    (io : PeerIo W) (b : AdapterState) (after : PeerIo W) (goes_on : Bool) : Type 0 where
-  pub silent : timeout_at idle_timeout io ≤ now → (b ≡ a) × (after ≡ io) × (goes_on ≡ false)
-  pub waits : now < timeout_at idle_timeout io → io.ready ≡ false → (b ≡ a) × (after ≡ io) × (goes_on ≡ true)
-  pub ready : now < timeout_at idle_timeout io → io.ready ≡ true → TakesTurn left written known counts now a io b after goes_on
+pub record IsServedPeer {W O : Type 0} (left written : W → Option (List ℕ)) (known : W → Option KnownCalls)
+    (counts : W → WireCounts) (answer : O → Asked → Option Reply) (next : O → Asked → O) (now idle_timeout : ℕ)
+    (first : O) (a : AdapterState) (io : PeerIo W) (last : O) (b : AdapterState) (after : PeerIo W) (goes_on : Bool)
+    : Type 0 where
+  pub silent : timeout_at idle_timeout io ≤ now → IsStill first a io last b after × (goes_on ≡ false)
+  pub waits : now < timeout_at idle_timeout io → io.ready ≡ false → IsStill first a io last b after × (goes_on ≡ true)
+  pub ready : now < timeout_at idle_timeout io → io.ready ≡ true →
+      TakesTurn left written known counts answer next now first a io last b after goes_on
 
 -- A peer that goes on keeps its slot. Any other is ended.
 abbrev pub IsLeft : {W : Type 0} → AdapterState → PeerIo W → Bool → AdapterState → Option (PeerIo W) → Type 0
 IsLeft a io true b slot = (b ≡ a) × (slot ≡ Some io)
 IsLeft a io false b slot = (b ≡ after_call a (Ends_peer io.peer)) × (slot ≡ None)
 
-pub record IsServedAt {W : Type 0} (left written : W → Option (List ℕ)) (known : W → Option KnownCalls) (counts : W → WireCounts) (now idle_timeout : ℕ) (a : AdapterState)
-    (io : PeerIo W) (b : AdapterState) (slot : Option (PeerIo W)) : Type 0 where
+pub record IsServedAt {W O : Type 0} (left written : W → Option (List ℕ)) (known : W → Option KnownCalls)
+    (counts : W → WireCounts) (answer : O → Asked → Option Reply) (next : O → Asked → O) (now idle_timeout : ℕ)
+    (first : O) (a : AdapterState) (io : PeerIo W) (last : O) (b : AdapterState) (slot : Option (PeerIo W))
+    : Type 0 where
   pub adapter : AdapterState
   pub after : PeerIo W
   pub goes_on : Bool
-  pub served : IsServedPeer left written known counts now idle_timeout a io adapter after goes_on
+  pub served : IsServedPeer left written known counts answer next now idle_timeout first a io last adapter after goes_on
   pub stays : IsLeft adapter after goes_on b slot
 
 -- A slot in a round. A free slot stays free.
-abbrev pub IsSlotServed : {W : Type 0} → (W → Option (List ℕ)) → (W → Option (List ℕ)) → (W → Option KnownCalls) → (W → WireCounts) → ℕ → ℕ
-    → AdapterState → Option (PeerIo W) → AdapterState → Option (PeerIo W) → Type 0
-IsSlotServed left written known counts now idle_timeout a None b slot = (b ≡ a) × (slot ≡ None)
-IsSlotServed left written known counts now idle_timeout a (Some io) b slot = IsServedAt left written known counts now idle_timeout a io b slot
+abbrev pub IsSlotServed : {W O : Type 0} → (W → Option (List ℕ)) → (W → Option (List ℕ)) → (W → Option KnownCalls)
+    → (W → WireCounts) → (O → Asked → Option Reply) → (O → Asked → O) → ℕ → ℕ
+    → O → AdapterState → Option (PeerIo W) → O → AdapterState → Option (PeerIo W) → Type 0
+IsSlotServed left written known counts answer next now idle_timeout first a None last b slot =
+    (b ≡ a) × (slot ≡ None) × (last ≡ first)
+IsSlotServed left written known counts answer next now idle_timeout first a (Some io) last b slot =
+    IsServedAt left written known counts answer next now idle_timeout first a io last b slot
 
--- The slots in a round, one after the other.
-abbrev pub AreSlotsServed : {W : Type 0} → (W → Option (List ℕ)) → (W → Option (List ℕ)) → (W → Option KnownCalls) → (W → WireCounts) → ℕ → ℕ
-    → AdapterState → List (Option (PeerIo W)) → AdapterState → List (Option (PeerIo W)) → Type 0
-AreSlotsServed left written known counts now idle_timeout a [] b [] = b ≡ a
-AreSlotsServed left written known counts now idle_timeout a [] b (slot ∷ places) = ⊥
-AreSlotsServed left written known counts now idle_timeout a (io ∷ slots) b [] = ⊥
-AreSlotsServed left written known counts now idle_timeout a (io ∷ slots) b (slot ∷ places) =
-    (between : AdapterState) × IsSlotServed left written known counts now idle_timeout a io between slot
-    × AreSlotsServed left written known counts now idle_timeout between slots b places
+-- The slots in a round, one after the other. The same owner is asked for all of them.
+abbrev pub AreSlotsServed : {W O : Type 0} → (W → Option (List ℕ)) → (W → Option (List ℕ)) → (W → Option KnownCalls)
+    → (W → WireCounts) → (O → Asked → Option Reply) → (O → Asked → O) → ℕ → ℕ
+    → O → AdapterState → List (Option (PeerIo W)) → O → AdapterState → List (Option (PeerIo W)) → Type 0
+AreSlotsServed left written known counts answer next now idle_timeout first a [] last b [] = (b ≡ a) × (last ≡ first)
+AreSlotsServed left written known counts answer next now idle_timeout first a [] last b (slot ∷ places) = ⊥
+AreSlotsServed left written known counts answer next now idle_timeout first a (io ∷ slots) last b [] = ⊥
+AreSlotsServed {O = O} left written known counts answer next now idle_timeout first a (io ∷ slots) last b
+    (slot ∷ places) =
+    (between : AdapterState) × (owner : O)
+    × IsSlotServed left written known counts answer next now idle_timeout first a io owner between slot
+    × AreSlotsServed left written known counts answer next now idle_timeout owner between slots last b places
 
--- A round: the adapter is given the time, and then each slot is served.
-pub record IsRound {W : Type 0} (left written : W → Option (List ℕ)) (known : W → Option KnownCalls) (counts : W → WireCounts) (now : ℕ) (old new : ServerState W) : Type 0 where
+-- A round: the adapter is given the time, and then each slot is served. The owner of the device is asked about each
+-- request to it, when its frame is served.
+pub record IsRound {W O : Type 0} (left written : W → Option (List ℕ)) (known : W → Option KnownCalls)
+    (counts : W → WireCounts) (answer : O → Asked → Option Reply) (next : O → Asked → O) (now : ℕ)
+    (first : O) (old : ServerState W) (last : O) (new : ServerState W) : Type 0 where
   pub idle_timeout : new.idle_timeout ≡ old.idle_timeout
-  pub places : AreSlotsServed left written known counts now old.idle_timeout (after_call old.adapter (Ticks now)) old.slots
-      new.adapter new.slots
+  pub places : AreSlotsServed left written known counts answer next now old.idle_timeout
+      first (after_call old.adapter (Ticks now)) old.slots last new.adapter new.slots
 
 -- The number of peers that ended in a round.
 abbrev pub has_ended : {W : Type 0} → Option (PeerIo W) → Option (PeerIo W) → Bool
@@ -203,3 +227,13 @@ moment_or_none moment = if moment == 2 ^ 64 - 1 then None else Some moment
 abbrev pub next_moment : {W : Type 0} → ServerState W → Option ℕ
 next_moment p = moment_or_none (earliest_of p.idle_timeout
     (unwrap_or (earliest_deadline p.adapter.state.shared.manager.connections) (2 ^ 64 - 1)) p.slots)
+
+-- Nobody owns the device: nothing is answered to a request to the owner, and nobody remembers it.
+abbrev pub nobody : NoOwner
+nobody = record {}
+
+abbrev pub no_answer : NoOwner → Asked → Option Reply
+no_answer owner asked = None
+
+abbrev pub same_nobody : NoOwner → Asked → NoOwner
+same_nobody owner asked = owner

@@ -1,8 +1,13 @@
 -- What calls of the adapter do to the state of one peer, whoever they are for.
-use Rattle.std.specs.Prelude.{ℕ, ◌≡◌, ◌≢◌, ◌==◌, ⊤, List, [], ◌∷◌, ◌++◌, if◌then◌else◌, None}
+use Rattle.std.specs.Prelude.{ℕ, ◌≡◌, ◌≢◌, ◌==◌, ⊤, List, [], ◌∷◌, ◌++◌, if◌then◌else◌, Option, None}
 use Rattle.std.specs.Io.KnownBytes.{Appends, Consumes}
+use Rattle.cip_objects.specs.OwnRequests.{Asked}
+use Rattle.cip_owner.specs.Replies.{Reply}
+use Rattle.enip_adapter.specs.AdapterActions.{IsFeedOf}
+use Rattle.enip_adapter.specs.Asks.{asks_of_calls, owner_after}
 use Rattle.enip_adapter.specs.Calls.{AdapterState, Call, call_answer, after_call}
 use Rattle.enip_adapter.specs.Calls.Call.{Begins_peer, Feeds, Ends_peer, Ticks, Writes}
+use Rattle.enip_adapter.specs.OwnWrites.{Prepares}
 use Rattle.enip_adapter.specs.Runs.{after_calls, taken_by_calls}
 use Rattle.enip_adapter.specs.Serving.{output_bytes}
 use Rattle.enip_server.specs.PeerStates.{PeerState}
@@ -42,3 +47,16 @@ GoesOnWith peer (Feeds now other piece) = ⊤
 GoesOnWith peer (Ends_peer other) = other ≢ peer
 GoesOnWith peer (Ticks now) = ⊤
 GoesOnWith peer (Writes write) = ⊤
+
+-- A call of a turn: a feed of this peer at this time, or the owner's reply that is prepared for it or withdrawn.
+abbrev pub IsTurnCall : ℕ → ℕ → Call → Type 0
+IsTurnCall now peer (Writes (Prepares reply)) = ⊤
+IsTurnCall now peer call = IsFeedOf now peer call
+
+-- Calls lead from one adapter to another. The owner of the device was asked what they ask, in this order, and nothing
+-- else.
+pub record AreAsked {O : Type 0} (answer : O → Asked → Option Reply) (next : O → Asked → O)
+    (first : O) (a : AdapterState) (last : O) (b : AdapterState) : Type 0 where
+  pub calls : List Call
+  pub adapter : b ≡ after_calls a calls
+  pub owner : last ≡ owner_after answer next first (asks_of_calls a calls)

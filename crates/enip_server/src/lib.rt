@@ -9,8 +9,10 @@
 //! - `round` gives each peer that may be ready one turn. A turn first writes what is left of an answer. Once all of it
 //!   is written, it makes one read of at most 4,096 bytes and feeds them frame by frame. Each answer is written before
 //!   the next frame is fed.
-//! - Between rounds, `adapter` reads the objects and connections, and `write_data`, `set_device_status` and
-//!   `set_device_state` write on behalf of the device itself.
+//! - `round_asking` does the same, and asks the owner of the device (`cip_owner::Owner`) about each request to it: its
+//!   reply is the answer to that frame. In `round` such a request is answered "device state conflict" (0x10).
+//! - Between rounds, `adapter` reads the objects and connections, and `write_data`, `write_attribute`,
+//!   `set_device_status` and `set_device_state` write on behalf of the device itself.
 //!
 //! No call after `Peers::new` allocates memory.
 //!
@@ -47,6 +49,23 @@
 //!     let are_new = changes != *seen;
 //!     *seen = changes;
 //!     are_new
+//! }
+//! ```
+//!
+//! If the device has own services or checked attributes, each request for one is asked of the machine behind it, once,
+//! in the turn in which its frame is served:
+//!
+//! ```
+//! fn serve_machine<W: Wire + Drop, O: Owner>(
+//!     peers: &mut Peers<W>,
+//!     now: u64,
+//!     machine: &mut O,
+//!     speed: u16,
+//! ) -> RoundEnd {
+//!     // peers read the speed in attribute 1 of instance 1 of class 112
+//!     peers.write_attribute(112, 1, 1, 0, &speed.to_le_bytes());
+//!     // and the machine executes own services and checks sets
+//!     peers.round_asking(now, machine)
 //! }
 //! ```
 #![tactic(auto)]

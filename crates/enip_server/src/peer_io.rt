@@ -5,11 +5,12 @@ ghost use Rattle.std.specs.Prelude.{◌≡◌, ◌≢◌, ◌≤◌, ◌<◌, []
 ghost use Rattle.std.specs.Io.KnownBytes.{Appends};
 ghost use Rattle.enip_adapter.specs.Calls.{AdapterState};
 ghost use Rattle.enip_server.specs.Rounds.{timeout_at, IsServedPeer};
-ghost use Rattle.enip_server.specs.PeerStates.{peer_state_of, fed_once, closed_at, IsFlushed, AreFed, IsDiscarded, IsTurn, FitsBuffers, FitsCounts, IsWaiting};
+ghost use Rattle.enip_server.specs.PeerStates.{peer_state_of, fed_once, owner_fed, closed_at, IsFlushed, AreFed, IsDiscarded, IsTurn, FitsBuffers, FitsCounts, IsWaiting};
 ghost use Rattle.enip_server.specs.PeerStates.{IsFetched, IsByRead, IsThrough, GoesOn, IsCutShort, is_closed_now, turn_after};
 
 use crate::io_buffer::{IO_BUFFER_SIZE, IoBuffer};
 use crate::wire::{ReadOutcome, Wire};
+use cip_owner::Owner;
 use enip_adapter::{Adapter, Peer};
 
 /// For how long a peer that the adapter closed is still read, in microseconds, so that its last answer is not lost
@@ -102,8 +103,15 @@ impl<W: Wire> PeerIo<W> {
 
     /// Gives the peer a turn if its wire may be ready. Returns whether the peer goes on: not if it timed out, and not
     /// if its stream is over.
-    pub(crate) fn serve(&mut self, adapter: &mut Adapter, now: u64, idle_timeout: u64) -> bool
-        ensures { IsServedPeer W.left W.written W.known W.counts now idle_timeout adapter.old self.old adapter.new self.new result }
+    pub(crate) fn serve<O: Owner>(
+        &mut self,
+        adapter: &mut Adapter,
+        owner: &mut O,
+        now: u64,
+        idle_timeout: u64,
+    ) -> bool
+        ensures { IsServedPeer W.left W.written W.known W.counts O.answer O.after now idle_timeout
+            owner.old adapter.old self.old owner.new adapter.new self.new result }
     {
         if now >= self.timeout_at(idle_timeout) {
             return false;
@@ -111,15 +119,16 @@ impl<W: Wire> PeerIo<W> {
         if !self.ready {
             return true;
         }
-        let turn = self.turn(adapter, now);
+        let turn = self.turn(adapter, owner, now);
         self.ready = turn == Turn::More;
         turn != Turn::Finished
     }
 
     /// One turn: writes what is left of an answer; once all of it is written, makes one read and feeds it.
-    fn turn(&mut self, adapter: &mut Adapter, now: u64) -> Turn
-        ensures turn { IsTurn now self.old.peer (peer_state_of W.left W.written W.known W.counts adapter.old self.old)
-            (peer_state_of W.left W.written W.known W.counts adapter.new self.new) }
+    fn turn<O: Owner>(&mut self, adapter: &mut Adapter, owner: &mut O, now: u64) -> Turn
+        ensures turn { IsTurn O.answer O.after now self.old.peer
+            owner.old (peer_state_of W.left W.written W.known W.counts adapter.old self.old)
+            owner.new (peer_state_of W.left W.written W.known W.counts adapter.new self.new) }
         ensures fits_buffers { FitsBuffers (peer_state_of W.left W.written W.known W.counts adapter.new self.new) result }
         ensures fits_counts { FitsCounts self.old.end_reported (is_closed_now self.old.closed self.new.closed) result
             (W.counts self.old.wire) (W.counts self.new.wire) }
@@ -136,7 +145,7 @@ impl<W: Wire> PeerIo<W> {
         if self.inbox.is_empty() {
             return turn;
         }
-        if let Some(cut_short) = self.feed_all(adapter, now) {
+        if let Some(cut_short) = self.feed_all(adapter, owner, now) {
             return cut_short;
         }
         turn
@@ -166,11 +175,12 @@ impl<W: Wire> PeerIo<W> {
 
     /// Feeds the inbox, frame by frame. Returns `None` if nothing is left. Otherwise it returns the outcome of the
     /// turn: an answer is not written to its end, or the adapter closed the peer.
-    fn feed_all(&mut self, adapter: &mut Adapter, now: u64) -> Option<Turn>
+    fn feed_all<O: Owner>(&mut self, adapter: &mut Adapter, owner: &mut O, now: u64) -> Option<Turn>
         requires out { self.old.outbox ≡ [] }
         requires open { self.old.closed ≡ None }
-        ensures fed { AreFed now self.old.peer (peer_state_of W.left W.written W.known W.counts adapter.old self.old)
-            (peer_state_of W.left W.written W.known W.counts adapter.new self.new) }
+        ensures fed { AreFed O.answer O.after now self.old.peer
+            owner.old (peer_state_of W.left W.written W.known W.counts adapter.old self.old)
+            owner.new (peer_state_of W.left W.written W.known W.counts adapter.new self.new) }
         ensures out { IfNone result ((self.new.outbox ≡ []) × (self.new.inbox ≡ [])) }
         ensures fits_buffers { IfSome result (FitsBuffers (peer_state_of W.left W.written W.known W.counts adapter.new self.new)) }
         ensures goes_on { IfNone result (GoesOn (W.counts self.old.wire) (W.counts self.new.wire)) }
@@ -180,7 +190,7 @@ impl<W: Wire> PeerIo<W> {
         ensures end_reported { self.new.end_reported ≡ self.old.end_reported }
     {
         while !self.inbox.is_empty() {
-            if let Some(unsent) = self.feed_once(adapter, now) {
+            if let Some(unsent) = self.feed_once(adapter, owner, now) {
                 return Some(unsent);
             }
             if self.closed.is_some() {
@@ -190,12 +200,21 @@ impl<W: Wire> PeerIo<W> {
         None
     }
 
-    /// Feeds the inbox up to the end of one frame, and writes the answer. Returns `None` if all of it is written.
-    fn feed_once(&mut self, adapter: &mut Adapter, now: u64) -> Option<Turn>
+    /// Feeds the inbox up to the end of one frame, and writes the answer. The owner is asked if the frame is a request to
+    /// it. Returns `None` if all of the answer is written.
+    fn feed_once<O: Owner>(
+        &mut self,
+        adapter: &mut Adapter,
+        owner: &mut O,
+        now: u64,
+    ) -> Option<Turn>
         requires out { self.old.outbox ≡ [] }
         requires open { self.old.closed ≡ None }
-        ensures fed { IsFlushed (fed_once now self.old.peer (peer_state_of W.left W.written W.known W.counts adapter.old self.old))
+        ensures fed { IsFlushed (fed_once O.answer O.after now self.old.peer owner.old
+            (peer_state_of W.left W.written W.known W.counts adapter.old self.old))
             (peer_state_of W.left W.written W.known W.counts adapter.new self.new) }
+        ensures owner { owner.new ≡ owner_fed O.answer O.after now self.old.peer owner.old
+            (peer_state_of W.left W.written W.known W.counts adapter.old self.old) }
         ensures out { IfNone result (self.new.outbox ≡ []) }
         ensures waits { IfSome result (λ turn. (self.new.outbox ≢ []) × IsWaiting turn) }
         ensures goes_on { IfNone result (GoesOn (W.counts self.old.wire) (W.counts self.new.wire)) }
@@ -206,7 +225,7 @@ impl<W: Wire> PeerIo<W> {
         ensures progress { 0 < length self.old.inbox → self.new.closed ≡ None →
             length self.new.inbox < length self.old.inbox }
     {
-        let fed = adapter.feed(now, &self.peer, self.inbox.as_slice());
+        let fed = adapter.feed_asking(now, &self.peer, self.inbox.as_slice(), owner);
         self.inbox.drop_front(fed.taken);
         self.closed = closed_at(now, fed.close);
         match fed.answer {

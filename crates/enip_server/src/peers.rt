@@ -6,13 +6,15 @@ ghost use Rattle.std.specs.List.{list_any};
 ghost use Rattle.std.specs.Option.{option_map};
 ghost use Rattle.cip_objects.specs.DeviceWrites.{device_write};
 ghost use Rattle.enip_adapter.specs.Discovery.{discovered};
-ghost use Rattle.enip_adapter.specs.OwnWrites.{OwnWrite};
+ghost use Rattle.enip_adapter.specs.OwnWrites.{OwnWrite, attribute_write};
 ghost use Rattle.enip_server.specs.Rounds.{IsSlotServed, AreSlotsServed, IsRound, has_ended, ended_in};
 ghost use Rattle.enip_server.specs.Rounds.{state_of, new_peers, first_free, IsAdded, marked_ready, is_ready, earliest_of, next_moment};
 ghost use Rattle.enip_server.specs.Rounds.{due_with, due_by, moment_or_none, written_by};
+ghost use Rattle.enip_server.specs.Rounds.{nobody, no_answer, same_nobody};
 
 use crate::peer_io::{PeerIo, Turn};
 use crate::wire::Wire;
+use cip_owner::{NoOwner, Owner};
 use enip_adapter::{Adapter, DiscoveryBuffer, Full, LONGEST_ANSWER};
 use std::alloc::{AllocError, Global};
 use std::boxed::BoxedSlice;
@@ -120,9 +122,27 @@ impl<W: Wire + Drop> Peers<W> {
         }
     }
 
-    /// Serves one round at the time `now`: each peer whose wire may be ready has one turn.
+    /// Serves one round at the time `now`: each peer whose wire may be ready has one turn. The device has no owner: a
+    /// request to one is answered "device state conflict" (0x10).
     pub fn round(&mut self, now: u64) -> RoundEnd
-        ensures round { IsRound W.left W.written W.known W.counts now (state_of self.old) (state_of self.new) }
+        ensures round { IsRound W.left W.written W.known W.counts no_answer same_nobody now
+            nobody (state_of self.old) nobody (state_of self.new) }
+        ensures ended { result.ended ≡ ended_in (state_of self.old).slots (state_of self.new).slots }
+        ensures ready { result.ready ≡ list_any is_ready (state_of self.new).slots }
+        ensures next { result.next ≡ next_moment (state_of self.new) }
+    {
+        self.round_asking(now, &mut NoOwner)
+    }
+
+    /// Serves one round at the time `now`, as `round` does, and asks the owner of the device about each request to it,
+    /// once, when its frame is served. The owner's reply is the answer to that frame; then the turn goes on.
+    ///
+    /// ```
+    /// let end = peers.round_asking(now, &mut conveyor);
+    /// ```
+    pub fn round_asking<O: Owner>(&mut self, now: u64, owner: &mut O) -> RoundEnd
+        ensures round { IsRound W.left W.written W.known W.counts O.answer O.after now
+            owner.old (state_of self.old) owner.new (state_of self.new) }
         ensures ended { result.ended ≡ ended_in (state_of self.old).slots (state_of self.new).slots }
         ensures ready { result.ready ≡ list_any is_ready (state_of self.new).slots }
         ensures next { result.next ≡ next_moment (state_of self.new) }
@@ -135,6 +155,7 @@ impl<W: Wire + Drop> Peers<W> {
         let ended = serve_slots(
             &mut self.slots,
             &mut self.adapter,
+            owner,
             now,
             self.idle_timeout,
             &mut due,
@@ -165,9 +186,38 @@ impl<W: Wire + Drop> Peers<W> {
         ensures call { state_of self.new
             ≡ written_by (OwnWrite.WritesData instance offset bytes.now) (state_of self.old) }
         ensures told { result ≡ is_some
-            (device_write (state_of self.old).adapter.state.shared.objects.router instance offset bytes.now) }
+            (device_write (state_of self.old).adapter.state.shared.objects.router.objects instance offset bytes.now) }
     {
         self.adapter.write_data(instance, offset, bytes)
+    }
+
+    /// Writes bytes into an attribute, from `offset` on, on behalf of the device itself: the data of an assembly (class
+    /// 0x04, attribute 3) or an attribute of an application object. Whether peers may set it does not matter. Peers that
+    /// are served later read the bytes.
+    ///
+    /// Returns `false`, and changes nothing, if it is neither or its value cannot hold the bytes: they must end within
+    /// it, and a SHORT_STRING is written as a whole. The write is not counted in `attribute_changes`. No slot, wire,
+    /// buffer or idle timeout changes.
+    ///
+    /// ```
+    /// let speed: u16 = 1_200;
+    /// peers.write_attribute(0x300, 1, 2, 0, &speed.to_le_bytes());
+    /// ```
+    pub fn write_attribute(
+        &mut self,
+        class: u16,
+        instance: u32,
+        attribute: u16,
+        offset: usize,
+        bytes: &[u8],
+    ) -> bool
+        ensures call { state_of self.new
+            ≡ written_by (OwnWrite.WritesAttribute class instance attribute offset bytes.now) (state_of self.old) }
+        ensures told { result ≡ is_some (attribute_write (state_of self.old).adapter.state.shared.objects.router.objects
+            class instance attribute offset bytes.now) }
+    {
+        self.adapter
+            .write_attribute(class, instance, attribute, offset, bytes)
     }
 
     /// Sets the device's status, a WORD: attribute 5 of the Identity object, which ListIdentity shows too. Nothing else
@@ -230,14 +280,16 @@ fn moment_or_none(moment: u64) -> Option<u64>
 
 /// Serves the slots of a round, one after the other. Returns the number of peers that ended. When the others are due
 /// again is added to `due`.
-fn serve_slots<W: Wire + Drop>(
+fn serve_slots<W: Wire + Drop, O: Owner>(
     places: &mut [Option<PeerIo<W>>],
     adapter: &mut Adapter,
+    owner: &mut O,
     now: u64,
     idle_timeout: u64,
     due: &mut Due,
 ) -> usize
-    ensures served { AreSlotsServed W.left W.written W.known W.counts now idle_timeout adapter.old places.old adapter.new places.new }
+    ensures served { AreSlotsServed W.left W.written W.known W.counts O.answer O.after now idle_timeout
+        owner.old adapter.old places.old owner.new adapter.new places.new }
     ensures ended { result ≡ ended_in places.old places.new }
     ensures few { result ≤ length places.old }
     ensures due { due.new ≡ due_by idle_timeout due.old places.new }
@@ -245,26 +297,28 @@ fn serve_slots<W: Wire + Drop>(
     let Some((slot, others)) = places.split_first_mut() else {
         return 0;
     };
-    let ended = serve_slot(slot, adapter, now, idle_timeout, due);
-    usize::from(ended) + serve_slots(others, adapter, now, idle_timeout, due)
+    let ended = serve_slot(slot, adapter, owner, now, idle_timeout, due);
+    usize::from(ended) + serve_slots(others, adapter, owner, now, idle_timeout, due)
 }
 
 /// Serves one slot of a round. Returns whether its peer ended. If not, when it is due again is added to `due`.
-fn serve_slot<W: Wire + Drop>(
+fn serve_slot<W: Wire + Drop, O: Owner>(
     slot: &mut Option<PeerIo<W>>,
     adapter: &mut Adapter,
+    owner: &mut O,
     now: u64,
     idle_timeout: u64,
     due: &mut Due,
 ) -> bool
-    ensures served { IsSlotServed W.left W.written W.known W.counts now idle_timeout adapter.old slot.old adapter.new slot.new }
+    ensures served { IsSlotServed W.left W.written W.known W.counts O.answer O.after now idle_timeout
+        owner.old adapter.old slot.old owner.new adapter.new slot.new }
     ensures ended { result ≡ has_ended slot.old slot.new }
     ensures due { due.new ≡ due_with idle_timeout due.old slot.new }
 {
     let Some(io) = slot else {
         return false;
     };
-    if io.serve(adapter, now, idle_timeout) {
+    if io.serve(adapter, owner, now, idle_timeout) {
         due.ready = due.ready || io.ready;
         due.moment = due.moment.min(io.timeout_at(idle_timeout));
         return false;

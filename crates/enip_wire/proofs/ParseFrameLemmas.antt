@@ -88,3 +88,15 @@ kind-whole bytes head body h front back long is within counted =
     let one : ◌≡◌ {A = Frame} (record { header = h; body = body }) (record { header = header_at bytes; body = drop 24 bytes })
     = same_frame same back in
     ap WholeFrame one ∙ sym (parsed-frame bytes long (omega (arith, says)) (omega (arith, says, size)))
+
+-- bytes that are laid behind those that are held leave them
+pub kept_before : (len n size : ℕ) (items new piece rest : List ℕ) → n ≤ length piece → length new ≡ size → len ≤ length items
+    → take (len + length (take n piece)) new ≡ take len items ++ take n piece
+    → take len (take size (new ++ rest)) ≡ take len items
+kept_before len n size items new piece rest within whole room e =
+    let all : take size (new ++ rest) ≡ new = take_at new rest size whole in
+    let size_is : length (take len items) ≡ len = length-take len items ∙ omega arith in
+    ap (take len) all
+    ∙ sym (take-take len (len + length (take n piece)) new (omega arith))
+    ∙ ap (take len) e
+    ∙ take_at (take len items) (take n piece) len size_is

@@ -1,5 +1,5 @@
 -- Bodies with exactly two items, read at once.
-use Rattle.std.proofs.Common.{◌≡◌, ℕ, ◌+◌, ◌-◌, ◌<◌, ◌≤◌, List, [], ◌∷◌, ◌++◌, length, take, drop, Ok, refl, sym, ap, subst, ◌∙◌, arith, append-nil, length-drop}
+use Rattle.std.proofs.Common.{◌≡◌, ℕ, ◌-◌, ◌≤◌, List, [], ◌∷◌, ◌++◌, length, take, drop, Ok, refl, sym, ap, subst, ◌∙◌, arith, append-nil, length-drop}
 use Rattle.std.proofs.lemmas.List.{take_all}
 use Rattle.cip_bytes.specs.Numbers.{le, number_at, AreBytes}
 use Rattle.enip_wire.specs.Items.{items}

@@ -155,6 +155,31 @@ impl FrameReader {
         (taken, self.state())
     }
 
+    /// Returns what `next` would show of this piece, and takes no byte: afterwards the reader holds the same bytes as
+    /// before.
+    ///
+    /// ```
+    /// if let Held::Frame(frame) = reader.peek(piece) {
+    ///     prepare(frame); // the frame that the piece completes
+    /// }
+    /// let (taken, held) = reader.next(piece); // shows the same frame, and takes its bytes
+    /// ```
+    pub fn peek<'a>(&'a mut self, piece: &'a [u8]) -> Held<'a>
+        ensures* unchanged { sem 𝓛 (Rests the_row self.entry (λ last. last ≡ self.old)) }
+        ensures shown { Shows (held_and_taken self.old piece.now) result }
+        ensures kind { parsed_frame result ≡ parsed (held_and_taken self.old piece.now) }
+    {
+        if self.len == 0 {
+            if let Some(whole) = first_frame(piece) {
+                return Held::Frame(whole);
+            }
+        }
+        let more = taken_size(&self.buffer[..self.len], piece);
+        // These bytes are behind `len`, so the reader does not hold them.
+        copy_behind(&mut self.buffer, self.len, &piece[..more]);
+        parse_frame(&self.buffer[..self.len + more])
+    }
+
     /// The bytes that the reader holds.
     pub fn bytes(&self) -> &[u8]
         ensures lent { result.now ≡ self.now }

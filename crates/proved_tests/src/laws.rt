@@ -1,11 +1,12 @@
-//! The laws of a class 3 connection, of the Connection Manager and of the bench hold for the objects of a device.
-//! Also a target with a router that keeps only the law of the trait.
+//! The laws of a class 3 connection, of the Connection Manager and of the bench hold for the objects of a device, with
+//! and without their owner. Also a target with a router that keeps only the law of the trait.
 
 ghost use Rattle.std.specs.Prelude.{ℕ, List, ◌≡◌, [], ◌∷◌, slice_index};
 
 use crate::same::check_same;
 use cip_class3::{Received, Target};
 use cip_objects::{Objects, ReplyBuf, Router};
+use cip_owner::OwnedObjects;
 use std::process::Abort;
 
 #[test]
@@ -46,8 +47,19 @@ fn the_laws_of_the_bench() {
     enip_bench::laws::frames_accepted_once();
     enip_bench::laws::frames_answered_alike();
     enip_bench::laws::frames_executed_once();
+    enip_bench::laws::frames_asked_once();
     enip_bench::laws::frames_bound_cannot_be_raised();
     enip_bench::laws::ends_just_opened();
+}
+
+/// The objects with their owner are a router as well.
+#[test]
+fn the_laws_with_an_owner() {
+    cip_class3::laws::each_request_once::<OwnedObjects>();
+    cip_class3::laws::execution_foreseen::<OwnedObjects>();
+    cip_manager::laws::execution_foreseen::<OwnedObjects>();
+    cip_ledger::laws::each_command_once::<OwnedObjects>();
+    enip_bench::laws::worlds_agree::<OwnedObjects>();
 }
 
 /// A router whose reply is one byte: the first byte of the previous request.

@@ -1,4 +1,5 @@
-//! Tests of `enip_adapter`: writes of the device, readers and writers that fail, deadlines, and datagrams.
+//! Tests of `enip_adapter`: writes of the device, readers and writers that fail, deadlines, datagrams, and the texts
+//! of errors.
 
 mod caller;
 mod deadline;
@@ -6,3 +7,4 @@ mod device;
 mod discovery;
 mod endings;
 mod serving;
+mod texts;

@@ -1,4 +1,4 @@
-//! Tests of `enip_bench`: the largest connections, an opening that is refused, the numbers of the faults, and the
+//! Tests of `enip_bench`: the largest connections, an opening that is refused, the faults' numbers and texts, and the
 //! device's own writes.
 
 mod faults;

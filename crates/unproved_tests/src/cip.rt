@@ -1,5 +1,5 @@
 //! Tests of the crates from `cip_bytes` to `cip_manager`: results and lengths that no command prints, steps of a
-//! search, and very long runs.
+//! search, very long runs, and the texts of errors.
 
 mod application_objects;
 mod bytes;
@@ -15,4 +15,6 @@ mod manager_find;
 mod manager_openings;
 mod message;
 mod objects;
+mod own_requests;
+mod texts;
 mod words;

@@ -1,5 +1,5 @@
-//! Tests of `enip_commands`, `enip_replay` and `enip_config` together: readers and writers that fail, and a client next
-//! to an adapter.
+//! Tests of `enip_commands`, `enip_replay` and `enip_config` together: readers and writers that fail, a client next to
+//! an adapter, and the texts of errors.
 
 mod answering;
 mod asking;
@@ -13,3 +13,4 @@ mod once;
 mod replaying;
 mod showing;
 mod streams;
+mod texts;

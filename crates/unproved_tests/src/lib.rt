@@ -1,5 +1,5 @@
 //! Tests of the libraries for what the program `enip` cannot show: readers and writers that fail, steps of a search,
-//! and very long runs. What the program can show is tested by `tests/rows`.
+//! very long runs, and the texts of errors. What the program can show is tested by `tests/rows`.
 //!
 //! They are run with checks and are not proved (`tests/tried`): a proof would only say that a test is safe and
 //! returns, and no promise depends on that. Tests that need a proof are in `proved_tests`.
@@ -17,6 +17,8 @@ mod client;
 mod commands;
 #[cfg(test)]
 mod server;
+#[cfg(test)]
+mod texts;
 #[cfg(test)]
 mod values;
 #[cfg(test)]

@@ -1,5 +1,6 @@
 //! Tests of `enip_server`: several peers at once, over scripted wires.
 
 mod caller;
+mod owner;
 mod turns;
 mod wires;

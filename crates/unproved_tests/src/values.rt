@@ -1,6 +1,7 @@
 //! Values of the elementary data types as arguments, bytes and printed text. (Volume 1, data type encoding: two's
 //! complement, IEEE 754 single precision, least byte first.)
 
+use crate::texts::check_texts;
 use cip_values::{
     ElementaryType, Value, ValueFault, ValueType, ValuesText, read_values, write_values,
 };
@@ -551,4 +552,41 @@ fn values_read(rt: HostRuntime) -> Result<(), Fail> {
     let text = read_values(rt.alloc(), type_of("SHORT_STRING")?, &[2, b'h', b'i'])?;
     assert!(rt; text.as_slice() == [Value::Text(b"hi")].as_slice());
     Ok(())
+}
+
+/// Each fault as text. No word is out of range for a BOOL or a SHORT_STRING: it is not of the type, or too long.
+#[test]
+fn texts_of_faults(rt: HostRuntime) -> Result<(), Fail> {
+    let rows = [
+        (ValueFault::Short, "the data end within a value"),
+        (ValueFault::Trailing(1), "1 byte is left over"),
+        (ValueFault::Trailing(12), "12 bytes are left over"),
+        (ValueFault::NotBool(3), "3 is not a BOOL (0 or 1)"),
+        (
+            ValueFault::Count(ElementaryType::Dint, 2),
+            "DINT takes one value, not 2",
+        ),
+        (
+            ValueFault::Form("x", ElementaryType::Real),
+            "x is not of type REAL",
+        ),
+        (
+            ValueFault::Range("256", ElementaryType::Byte),
+            "256 is out of range for BYTE (0x00 to 0xff)",
+        ),
+        (
+            ValueFault::Range("2", ElementaryType::Bool),
+            "2 is out of range for BOOL (0 to 1)",
+        ),
+        (
+            ValueFault::Range("x", ElementaryType::ShortString),
+            "x is out of range for SHORT_STRING (0 to 255 bytes)",
+        ),
+        (
+            ValueFault::TooLong(256),
+            "a SHORT_STRING has at most 255 bytes, not 256",
+        ),
+        (ValueFault::Memory, "memory"),
+    ];
+    check_texts(&rt, rt.alloc(), &rows)
 }

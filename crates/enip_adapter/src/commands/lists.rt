@@ -92,11 +92,11 @@ pub(super) fn list_identity(
     answer: &mut AnswerFrame,
 )
     ensures { answer.new.items
-        ≡ reply asked asked.session Success (identity_text shared.now.listen shared.now.objects.router) }
+        ≡ reply asked asked.session Success (identity_text shared.now.listen shared.now.objects.router.objects) }
 {
     let mut item = Item::new();
     append_socket(shared.listen, &mut item);
-    append_identity(&shared.objects.router, value, &mut item);
+    append_identity(&shared.objects.router.objects, value, &mut item);
     write_identity(asked, item.as_slice(), answer);
 }
 

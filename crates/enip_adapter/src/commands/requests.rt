@@ -23,7 +23,7 @@ use enip_wire::{FrameView, Header, rr_body, rr_body_head};
 
 /// Who answers a request.
 #[derive(Clone, Copy)]
-enum Route<'a> {
+pub(super) enum Route<'a> {
     /// The Connection Manager: a service of its own, and its data.
     Manager(ManagerService, &'a [u8]),
     /// The objects.
@@ -34,7 +34,7 @@ impl<'a> Route<'a> {
     /// The route of a request with these bytes.
     #[inline(always)]
     #[tactic(auto, using(crate::proofs::RouteLemmas::objects_by_service))]
-    fn of(request: &'a [u8]) -> Route<'a>
+    pub(super) fn of(request: &'a [u8]) -> Route<'a>
         requires { 2 ≤ length request.now }
         ensures { route_in result ≡ route_of request.now }
     {

@@ -1,5 +1,6 @@
-//! An opening that is refused, and the numbers of the faults.
+//! An opening that is refused, and the numbers and the texts of the faults.
 
+use crate::texts::check_texts;
 use enip_adapter::Adapter;
 use enip_bench::{Bench, BenchFault};
 use enip_client::{Client, Wants};
@@ -25,4 +26,10 @@ fn faults_have_numbers(rt: HostRuntime) -> Result<(), Fail> {
     assert_eq!(rt; BenchFault::Memory as u8, 1);
     assert_eq!(rt; BenchFault::Setup as u8, 2);
     Ok(())
+}
+
+#[test]
+fn texts_of_enip_bench(rt: HostRuntime) -> Result<(), Fail> {
+    let rows = [(BenchFault::Memory, "memory"), (BenchFault::Setup, "setup")];
+    check_texts(&rt, rt.alloc(), &rows)
 }

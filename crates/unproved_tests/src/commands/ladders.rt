@@ -81,6 +81,10 @@ fn what_moves_no_frame(rt: HostRuntime) -> Result<(), Fail> {
             "shut",
             "             |                            shut                 |\n",
         ),
+        (
+            "owner 255 0a 00",
+            "             |                            owner 255            |\n",
+        ),
     ];
     for (script, line) in rows {
         let text = drawn(rt.alloc(), script)?;
@@ -112,16 +116,28 @@ fn what_is_lost_or_ignored(rt: HostRuntime) -> Result<(), Fail> {
 
 #[test]
 fn a_line_that_is_refused(rt: HostRuntime) -> Result<(), Fail> {
-    let adapter = demo_adapter(rt.alloc())?;
-    let mut written = Vec::new(rt.alloc());
-    let ended = draw_replay(rt.alloc(), adapter, b"giveup\nreach x\n", &mut written);
-    assert_eq!(rt;
-        ended,
-        Err(ReplayFailure::Program(ProgramFault::Line(2, LineFault::Reach)))
-    );
+    let rows = [
+        ("reach x", LineFault::Reach),
+        ("owner", LineFault::Script),
+        ("owner 17 00", LineFault::Owner),
+        ("owner 256", LineFault::Owner),
+        ("owner 0 0", LineFault::Owner),
+        ("owner  0", LineFault::Owner),
+    ];
     let line = "             | giveup                                          |\n";
     let want = format!(in rt.alloc(); "{HEAD}{line}")?;
-    assert_eq!(rt; written.as_slice(), want.as_bytes());
+    for (refused, fault) in rows {
+        let adapter = demo_adapter(rt.alloc())?;
+        let script = format!(in rt.alloc(); "giveup\n{refused}\n")?;
+        let mut written = Vec::new(rt.alloc());
+        let ended = draw_replay(rt.alloc(), adapter, script.as_bytes(), &mut written);
+        assert_eq!(rt;
+            ended,
+            Err(ReplayFailure::Program(ProgramFault::Line(2, fault))),
+            "{refused}"
+        );
+        assert_eq!(rt; written.as_slice(), want.as_bytes());
+    }
     Ok(())
 }
 

@@ -14,7 +14,7 @@ returns-clause-drawn g c =
     let b = g.W.Write.contents c.print_state.new.output in
     let d = g.W.Write.contents c.writeln.new.self in
     let state : Appends a b (ending c.args.bench.now) =
-    subst (λ shown. Appends a b (objects_printed shown.router.router ++ with_newline (final_line shown.stage))) c.seen-seen.ensures.seen
+    subst (λ shown. Appends a b (objects_printed shown.router.router.objects ++ with_newline (final_line shown.stage))) c.seen-seen.ensures.seen
     c.in_ok-print_state.ensures.printed in
     record {
       same = subst (ShowsNumbers c.args.bench.now) c.seen-seen.ensures.seen c.seen-seen.ensures.headline;

@@ -3,7 +3,8 @@ use Rattle.enip_server.proofs.peers.+serve_slots.Goals as goal
 
 pub returns-clause-served : goal.returns-clause-served
 returns-clause-served g t c =
-    places_more g.W.Wire.left g.W.Wire.written g.W.Wire.known g.W.Wire.counts c.args.now c.args.idle_timeout c.args.adapter.now c.args.places.now
-    c.in-Some.slot.now c.in-Some.others.now c.serve_slot-ended.new.adapter c.serve_slots.new.adapter
+    places_more g.W.Wire.left g.W.Wire.written g.W.Wire.known g.W.Wire.counts g.O.Owner.answer g.O.Owner.after c.args.now
+    c.args.idle_timeout c.args.owner.now c.args.adapter.now c.args.places.now c.in-Some.slot.now c.in-Some.others.now
+    c.serve_slot-ended.new.owner c.serve_slots.new.owner c.serve_slot-ended.new.adapter c.serve_slots.new.adapter
     c.serve_slot-ended.new.slot c.serve_slots.new.places c.in-Some.ensures.cases.0
     c.serve_slot-ended.ensures.served c.serve_slots.ensures.served

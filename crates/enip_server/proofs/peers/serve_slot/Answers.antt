@@ -3,11 +3,12 @@ use Rattle.enip_server.proofs.peers.serve_slot.Goals as goal
 
 pub returns-then-serve-clause-served : goal.returns-then-serve-clause-served
 returns-then-serve-clause-served g c =
-    place_goes_on g.W.Wire.left g.W.Wire.written g.W.Wire.known g.W.Wire.counts c.args.now c.args.idle_timeout c.args.adapter.now c.args.slot.now c.in-Some.io
-    c.serve.new.self c.serve.new.adapter c.serve.result c.in-Some.is c.serve.ensures c.if-serve.true
+    place_goes_on g.W.Wire.left g.W.Wire.written g.W.Wire.known g.W.Wire.counts g.O.Owner.answer g.O.Owner.after c.args.now
+    c.args.idle_timeout c.args.owner.now c.args.adapter.now c.args.slot.now c.in-Some.io c.serve.new.self c.serve.new.owner
+    c.serve.new.adapter c.serve.result c.in-Some.is c.serve.ensures c.if-serve.true
 
 pub returns-clause-served : goal.returns-clause-served
 returns-clause-served g c =
-    place_ended g.W.Wire.left g.W.Wire.written g.W.Wire.known g.W.Wire.counts c.args.now c.args.idle_timeout c.args.adapter.now c.args.slot.now c.in-Some.io
-    c.serve.new.self c.serve.new.adapter c.end.new.self c.serve.result c.in-Some.is c.serve.ensures c.if-serve.false
-    c.end.ensures
+    place_ended g.W.Wire.left g.W.Wire.written g.W.Wire.known g.W.Wire.counts g.O.Owner.answer g.O.Owner.after c.args.now
+    c.args.idle_timeout c.args.owner.now c.args.adapter.now c.args.slot.now c.in-Some.io c.serve.new.self c.serve.new.owner
+    c.serve.new.adapter c.end.new.self c.serve.result c.in-Some.is c.serve.ensures c.if-serve.false c.end.ensures

@@ -1,7 +1,7 @@
 use Rattle.std.proofs.Common.{refl, ap, ap₂, subst, ◌∙◌}
-use Rattle.std.specs.Option.{unwrap_or}
+use Rattle.std.specs.Option.{unwrap_or, option_map}
 use Rattle.cip_class3.specs.declared.originator.Stage.TheVariants as stages
-use Rattle.cip_ledger.specs.Device.{device_of}
+use Rattle.enip_bench.specs.Stored.{device_with}
 use Rattle.enip_bench.specs.CountingWorld.{counting_seen}
 use Rattle.enip_bench.specs.Stored.{world_in, acceptances_in}
 use Rattle.enip_bench.proofs.BenchLemmas.{same_seen}
@@ -11,7 +11,9 @@ use Rattle.enip_bench.proofs.bench.Bench.seen.Goals as goal
 
 pub returns-clause-seen : goal.returns-clause-seen
 returns-clause-seen c =
-    same_seen _ (counting_seen (world_in c.self.inside.world)) (ap₂ device_of c.ledger.ensures c.objects.ensures) refl
+    same_seen _ (counting_seen (world_in c.self.inside.world))
+    (ap (λ l. device_with l c.objects.result.now (option_map (λ r. r.now) c.prepared.result)) c.ledger.ensures
+    ∙ ap₂ (device_with c.self.inside.world.adapter.state.shared.objects.ledger) c.objects.ensures c.prepared.ensures) refl
     (ap acceptances_in c.deref.ensures.value)
     (c.unwrap_or.ensures
     ∙ ap (λ o. unwrap_or o stages.Idle) (c.stage.ensures ∙ stage_there (world_in c.self.inside.world) c.self.invariant.reached))

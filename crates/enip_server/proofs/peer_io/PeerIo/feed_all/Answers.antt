@@ -12,22 +12,24 @@ loop-self-init g c = record {
   served = c.requires.open;
   end_reported = refl;
   fits_buffers = still_same (g.W.Wire.counts c.args.self.now.wire) (g.W.Wire.counts c.args.self.now.wire) refl;
-  fed = none_fed c.args.now c.args.self.now.peer _;
+  fed = none_fed g.O.Owner.answer g.O.Owner.after c.args.now c.args.self.now.peer c.args.owner.now _;
 }
 
 pub returns-in-Some-clause-fed : goal.returns-in-Some-clause-fed
 returns-in-Some-clause-fed g c =
-    one_more c.args.now c.args.self.now.peer c.loop-self.self.peer _
+    one_more g.O.Owner.answer g.O.Owner.after c.args.now c.args.self.now.peer c.loop-self.self.peer
+    c.args.owner.now c.loop-self.owner c.feed_once.new.owner _
     (peer_state_of g.W.Wire.left g.W.Wire.written g.W.Wire.known g.W.Wire.counts c.loop-self.adapter c.loop-self.self) _
     c.loop-self.invariant.peer c.loop-self.invariant.fed c.loop-self.invariant.out
-    c.loop-self.invariant.served c.in-Some.ensures.fed
+    c.loop-self.invariant.served c.in-Some.ensures.fed c.in-Some.ensures.owner
 
 pub returns-then-is_some-clause-fed : goal.returns-then-is_some-clause-fed
 returns-then-is_some-clause-fed g c =
-    one_more c.args.now c.args.self.now.peer c.loop-self.self.peer _
+    one_more g.O.Owner.answer g.O.Owner.after c.args.now c.args.self.now.peer c.loop-self.self.peer
+    c.args.owner.now c.loop-self.owner c.feed_once.new.owner _
     (peer_state_of g.W.Wire.left g.W.Wire.written g.W.Wire.known g.W.Wire.counts c.loop-self.adapter c.loop-self.self) _
     c.loop-self.invariant.peer c.loop-self.invariant.fed c.loop-self.invariant.out
-    c.loop-self.invariant.served c.in_default.ensures.fed
+    c.loop-self.invariant.served c.in_default.ensures.fed c.in_default.ensures.owner
 
 pub loop-self-preserved : goal.loop-self-preserved
 loop-self-preserved g c = record {
@@ -38,10 +40,11 @@ loop-self-preserved g c = record {
   fits_buffers = still_after (g.W.Wire.counts c.args.self.now.wire) (g.W.Wire.counts c.loop-self.self.wire)
       (g.W.Wire.counts c.feed_once.new.self.wire) c.loop-self.invariant.fits_buffers c.in_default.ensures.goes_on;
   fed =
-      one_more c.args.now c.args.self.now.peer c.loop-self.self.peer _
+      one_more g.O.Owner.answer g.O.Owner.after c.args.now c.args.self.now.peer c.loop-self.self.peer
+      c.args.owner.now c.loop-self.owner c.feed_once.new.owner _
       (peer_state_of g.W.Wire.left g.W.Wire.written g.W.Wire.known g.W.Wire.counts c.loop-self.adapter c.loop-self.self) _
       c.loop-self.invariant.peer c.loop-self.invariant.fed c.loop-self.invariant.out
-      c.loop-self.invariant.served c.in_default.ensures.fed;
+      c.loop-self.invariant.served c.in_default.ensures.fed c.in_default.ensures.owner;
 }
 
 pub returns-in-Some-clause-fits_counts : goal.returns-in-Some-clause-fits_counts

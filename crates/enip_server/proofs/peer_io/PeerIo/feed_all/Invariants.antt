@@ -9,8 +9,9 @@ invariant-loop-self g l = record {
   served : l.self.closed ≡ None;
   end_reported : l.self.end_reported ≡ l.fn.self.end_reported;
   fits_buffers : GoesOn (g.W.Wire.counts l.fn.self.wire) (g.W.Wire.counts l.self.wire);
-  fed : AreFed l.now l.fn.self.peer (peer_state_of g.W.Wire.left g.W.Wire.written g.W.Wire.known g.W.Wire.counts l.fn.adapter l.fn.self)
-      (peer_state_of g.W.Wire.left g.W.Wire.written g.W.Wire.known g.W.Wire.counts l.adapter l.self);
+  fed : AreFed g.O.Owner.answer g.O.Owner.after l.now l.fn.self.peer
+      l.fn.owner (peer_state_of g.W.Wire.left g.W.Wire.written g.W.Wire.known g.W.Wire.counts l.fn.adapter l.fn.self)
+      l.owner (peer_state_of g.W.Wire.left g.W.Wire.written g.W.Wire.known g.W.Wire.counts l.adapter l.self);
 }
 
 abbrev pub decreases-loop-self : goal.decreases-loop-self

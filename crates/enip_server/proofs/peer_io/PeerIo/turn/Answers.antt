@@ -7,7 +7,7 @@ use Rattle.enip_server.proofs.peer_io.PeerIo.turn.Goals as goal
 
 pub returns-in-Some-clause-turn : goal.returns-in-Some-clause-turn
 returns-in-Some-clause-turn g c =
-    turn_waits c.args.now c.args.self.now.peer _ _ (c.in-Some.ensures.flushed c.args.adapter.now) c.in-Some.ensures.waits.0
+    turn_waits g.O.Owner.answer g.O.Owner.after c.args.now c.args.self.now.peer c.args.owner.now _ _ (c.in-Some.ensures.flushed c.args.adapter.now) c.in-Some.ensures.waits.0
 
 pub returns-in-Some-clause-fits_counts : goal.returns-in-Some-clause-fits_counts
 returns-in-Some-clause-fits_counts g c =
@@ -17,7 +17,8 @@ returns-in-Some-clause-fits_counts g c =
 
 pub returns-then-is_some-clause-turn : goal.returns-then-is_some-clause-turn
 returns-then-is_some-clause-turn g c =
-    turn_thrown c.args.now c.args.self.now.peer _ (peer_state_of g.W.Wire.left g.W.Wire.written g.W.Wire.known g.W.Wire.counts c.args.adapter.now c.flush.new.self) _
+    turn_thrown g.O.Owner.answer g.O.Owner.after c.args.now c.args.self.now.peer c.args.owner.now _
+    (peer_state_of g.W.Wire.left g.W.Wire.written g.W.Wire.known g.W.Wire.counts c.args.adapter.now c.flush.new.self) _
     (c.in_default.ensures.flushed c.args.adapter.now) c.in_default.ensures.out
     (some_there _ (sym c.if-is_some.ensures))
     (c.discard_input.ensures.discarded c.args.adapter.now)
@@ -35,11 +36,12 @@ returns-then-is_some-clause-fits_counts g c =
 
 pub returns-then-is_empty-clause-turn : goal.returns-then-is_empty-clause-turn
 returns-then-is_empty-clause-turn g c =
-    turn_served c.args.now c.args.self.now.peer _ (peer_state_of g.W.Wire.left g.W.Wire.written g.W.Wire.known g.W.Wire.counts c.args.adapter.now c.flush.new.self)
+    turn_served g.O.Owner.answer g.O.Owner.after c.args.now c.args.self.now.peer c.args.owner.now c.args.owner.now _
+    (peer_state_of g.W.Wire.left g.W.Wire.written g.W.Wire.known g.W.Wire.counts c.args.adapter.now c.flush.new.self)
     (peer_state_of g.W.Wire.left g.W.Wire.written g.W.Wire.known g.W.Wire.counts c.args.adapter.now c.fetch-turn.new.self) _
     (c.in_default.ensures.flushed c.args.adapter.now) c.in_default.ensures.out
     (none_there _ (sym c.if-is_some.ensures))
-    (c.fetch-turn.ensures.fetched c.args.adapter.now) (none_fed c.args.now c.args.self.now.peer _)
+    (c.fetch-turn.ensures.fetched c.args.adapter.now) (none_fed g.O.Owner.answer g.O.Owner.after c.args.now c.args.self.now.peer c.args.owner.now _)
 
 pub returns-then-is_empty-clause-fits_buffers : goal.returns-then-is_empty-clause-fits_buffers
 returns-then-is_empty-clause-fits_buffers g c =
@@ -57,12 +59,15 @@ returns-then-is_empty-clause-fits_counts g c =
 
 pub returns-in-Some-feed_all-clause-turn : goal.returns-in-Some-feed_all-clause-turn
 returns-in-Some-feed_all-clause-turn g c =
-    turn_served c.args.now c.args.self.now.peer _ (peer_state_of g.W.Wire.left g.W.Wire.written g.W.Wire.known g.W.Wire.counts c.args.adapter.now c.flush.new.self)
+    turn_served g.O.Owner.answer g.O.Owner.after c.args.now c.args.self.now.peer c.args.owner.now c.feed_all.new.owner _
+    (peer_state_of g.W.Wire.left g.W.Wire.written g.W.Wire.known g.W.Wire.counts c.args.adapter.now c.flush.new.self)
     (peer_state_of g.W.Wire.left g.W.Wire.written g.W.Wire.known g.W.Wire.counts c.args.adapter.now c.fetch-turn.new.self) _
     (c.in_default.ensures.flushed c.args.adapter.now) c.in_default.ensures.out
     (none_there _ (sym c.if-is_some.ensures))
     (c.fetch-turn.ensures.fetched c.args.adapter.now)
-    (subst (λ p. AreFed c.args.now p (peer_state_of g.W.Wire.left g.W.Wire.written g.W.Wire.known g.W.Wire.counts c.args.adapter.now c.fetch-turn.new.self)
+    (subst (λ p. AreFed g.O.Owner.answer g.O.Owner.after c.args.now p c.args.owner.now
+    (peer_state_of g.W.Wire.left g.W.Wire.written g.W.Wire.known g.W.Wire.counts c.args.adapter.now c.fetch-turn.new.self)
+    c.feed_all.new.owner
     (peer_state_of g.W.Wire.left g.W.Wire.written g.W.Wire.known g.W.Wire.counts c.feed_all.new.adapter c.feed_all.new.self))
     (c.fetch-turn.ensures.peer ∙ c.in_default.ensures.peer) c.in-Some-feed_all.ensures.fed)
 
@@ -78,12 +83,15 @@ returns-in-Some-feed_all-clause-fits_counts g c =
 
 pub returns-clause-turn : goal.returns-clause-turn
 returns-clause-turn g c =
-    turn_served c.args.now c.args.self.now.peer _ (peer_state_of g.W.Wire.left g.W.Wire.written g.W.Wire.known g.W.Wire.counts c.args.adapter.now c.flush.new.self)
+    turn_served g.O.Owner.answer g.O.Owner.after c.args.now c.args.self.now.peer c.args.owner.now c.feed_all.new.owner _
+    (peer_state_of g.W.Wire.left g.W.Wire.written g.W.Wire.known g.W.Wire.counts c.args.adapter.now c.flush.new.self)
     (peer_state_of g.W.Wire.left g.W.Wire.written g.W.Wire.known g.W.Wire.counts c.args.adapter.now c.fetch-turn.new.self) _
     (c.in_default.ensures.flushed c.args.adapter.now) c.in_default.ensures.out
     (none_there _ (sym c.if-is_some.ensures))
     (c.fetch-turn.ensures.fetched c.args.adapter.now)
-    (subst (λ p. AreFed c.args.now p (peer_state_of g.W.Wire.left g.W.Wire.written g.W.Wire.known g.W.Wire.counts c.args.adapter.now c.fetch-turn.new.self)
+    (subst (λ p. AreFed g.O.Owner.answer g.O.Owner.after c.args.now p c.args.owner.now
+    (peer_state_of g.W.Wire.left g.W.Wire.written g.W.Wire.known g.W.Wire.counts c.args.adapter.now c.fetch-turn.new.self)
+    c.feed_all.new.owner
     (peer_state_of g.W.Wire.left g.W.Wire.written g.W.Wire.known g.W.Wire.counts c.feed_all.new.adapter c.feed_all.new.self))
     (c.fetch-turn.ensures.peer ∙ c.in_default.ensures.peer) c.in_default-feed_all.ensures.fed)
 

@@ -6,7 +6,7 @@ use Rattle.std.specs.List.{list_any}
 use Rattle.cip_manager.specs.Connection.{earliest_deadline}
 use Rattle.enip_server.specs.Rounds.{earliest_of, is_ready, moment_or_none}
 use Rattle.enip_server.proofs.RoundLemmas.{due_ready, due_moment, earliest_after}
-use Rattle.enip_server.proofs.peers.Peers.round.Goals as goal
+use Rattle.enip_server.proofs.peers.Peers.round_asking.Goals as goal
 
 pub returns-clause-ready : goal.returns-clause-ready
 returns-clause-ready g c =

@@ -1,0 +1,123 @@
+-- What the objects do with a request before the owner's reply is given.
+use Rattle.std.proofs.Common.{◌≡◌, ℕ, Bool, true, false, if◌then◌else◌, Option, Some, None, Result, List, slice_index, ap, sym, subst, refl, ◌∙◌, inl, inr, ◌⊎◌, arith}
+use Rattle.std.proofs.lemmas.Bool.Decides.{nat_tests}
+use Rattle.cip_objects.specs.declared.status.Refusal.{Refusal}
+use Rattle.cip_objects.specs.Contents.{Contents}
+use Rattle.cip_objects.specs.Execution.{exec}
+use Rattle.cip_objects.specs.OwnRequests.{Asked, own_request}
+use Rattle.cip_objects.specs.Router.{general_status}
+use Rattle.cip_objects.proofs.OwnRequests.{own_is_refused}
+use Rattle.cip_objects.proofs.Refused.{refused}
+use Rattle.cip_owner.specs.Replies.{Reply}
+use Rattle.cip_owner.specs.Owned.{OwnedState, exec_owned, by_owner, own_executed, is_left, IsDone, is_fit, given}
+use Rattle.cip_owner.specs.Owned.{answered, after_reply, answer_with, refused_with, NOT_PREPARED}
+use Rattle.cip_owner.specs.OwnedLaws.{exec_owned_plain}
+
+-- A request to the owner is executed by its own definition.
+pub exec_owned_own : (w : OwnedState) (max_size : ℕ) (text : List ℕ) (own : Result Asked Refusal)
+    → own_request w.objects text ≡ Some own
+    → exec_owned w max_size text ≡ own_executed w max_size (slice_index text 0) own
+unfolding exec_owned
+exec_owned_own w max_size text own e = ap (by_owner w max_size text) e
+
+left_not_success : (status : ℕ) → is_left status ≡ true → status ≡ 0x00 → ⊥
+left_not_success status e f = grind (arith, nat_tests)
+
+left_not_partial : (status : ℕ) → is_left status ≡ true → status ≡ 0x0a → ⊥
+left_not_partial status e f = grind (arith, nat_tests)
+
+not_left : (status : ℕ) → is_left status ≡ false → (status ≡ 0x08) ⊎ (status ≡ 0x0e) → ⊥
+not_left status e (inl x) = grind (arith, nat_tests)
+not_left status e (inr x) = grind (arith, nat_tests)
+
+-- What a refusal with one of the two statuses leaves.
+pub unchanged : (m : Contents) (max_size : ℕ) (text : List ℕ)
+    → is_left (general_status (exec m max_size text).answer) ≡ true → (exec m max_size text).after ≡ m
+unchanged m max_size text e =
+    (refused m max_size text (left_not_success (general_status (exec m max_size text).answer) e)
+    (left_not_partial (general_status (exec m max_size text).answer) e)).1
+
+-- A reply with another status is to no request to the owner.
+pub plain : (m : Contents) (max_size : ℕ) (text : List ℕ)
+    → is_left (general_status (exec m max_size text).answer) ≡ false → own_request m text ≡ None
+plain m max_size text e = by_own (own_request m text) refl
+  where
+    by_own : (own : Option (Result Asked Refusal)) → own_request m text ≡ own → own_request m text ≡ None
+    by_own None is = is
+    by_own (Some own) is =
+        absurd (not_left (general_status (exec m max_size text).answer) e (own_is_refused m max_size text (λ none. absurd (cc))).0)
+
+-- The state and the reply after an execution.
+pub record AreExecuted (w : OwnedState) (max_size : ℕ) (text : List ℕ) (after : OwnedState) (new : List ℕ) : Type 0 where
+  pub state : after ≡ (exec_owned w max_size text).after
+  pub reply : new ≡ (exec_owned w max_size text).answer
+
+pub executed_plain : (w : OwnedState) (max_size : ℕ) (text : List ℕ) → own_request w.objects text ≡ None
+    → AreExecuted w max_size text (record w { objects = (exec w.objects max_size text).after }) (exec w.objects max_size text).answer
+executed_plain w max_size text e = record {
+  state = sym (ap (λ x. x.after) (exec_owned_plain w max_size text e));
+  reply = sym (ap (λ x. x.answer) (exec_owned_plain w max_size text e));
+}
+
+by_own_request : (w : OwnedState) (max_size : ℕ) (text : List ℕ) (own : Option (Result Asked Refusal))
+    (after : OwnedState) (new : List ℕ) → own_request w.objects text ≡ own
+    → (exec w.objects max_size text).after ≡ w.objects
+    → IsDone (record w { objects = (exec w.objects max_size text).after }) max_size text (exec w.objects max_size text).answer own after new
+    → AreExecuted w max_size text after new
+by_own_request w max_size text None after new e same done =
+    let p = executed_plain w max_size text e in
+    record { state = done.0 ∙ p.state; reply = done.1 ∙ p.reply }
+by_own_request w max_size text (Some own) after new e same done =
+    let is : (record w { objects = (exec w.objects max_size text).after }) ≡ w = ap (λ m. record w { objects = m }) same in
+    record {
+      state = done.0 ∙ (ap (λ v. (own_executed v max_size (slice_index text 0) own).after) is ∙ sym (ap (λ x. x.after) (exec_owned_own w max_size text own e)));
+      reply = done.1 ∙ (ap (λ v. (own_executed v max_size (slice_index text 0) own).answer) is ∙ sym (ap (λ x. x.answer) (exec_owned_own w max_size text own e)));
+    }
+
+-- A request that may be to the owner.
+pub executed_own : (w : OwnedState) (max_size : ℕ) (text : List ℕ) (after : OwnedState) (new : List ℕ)
+    → is_left (general_status (exec w.objects max_size text).answer) ≡ true
+    → IsDone (record w { objects = (exec w.objects max_size text).after }) max_size text (exec w.objects max_size text).answer
+    (own_request (exec w.objects max_size text).after text) after new
+    → AreExecuted w max_size text after new
+executed_own w max_size text after new e done =
+    let same = unchanged w.objects max_size text e in
+    by_own_request w max_size text (own_request w.objects text) after new refl same
+    (subst (λ own. IsDone (record w { objects = (exec w.objects max_size text).after }) max_size text (exec w.objects max_size text).answer own after new)
+    (ap (λ m. own_request m text) same) done)
+
+-- The same, for contents and a reply that a call of the objects left.
+pub left_executed : (w : OwnedState) (max_size : ℕ) (text : List ℕ) (m : Contents) (first : List ℕ) (after : OwnedState)
+    (new : List ℕ) → m ≡ (exec w.objects max_size text).after → first ≡ (exec w.objects max_size text).answer
+    → is_left (general_status first) ≡ true
+    → IsDone (record w { objects = m }) max_size text first (own_request m text) after new
+    → AreExecuted w max_size text after new
+left_executed w max_size text m first after new em ef e done =
+    executed_own w max_size text after new (subst (λ f. is_left (general_status f) ≡ true) ef e)
+    (subst (λ f. IsDone (record w { objects = (exec w.objects max_size text).after }) max_size text f (own_request (exec w.objects max_size text).after text) after new) ef
+    (subst (λ n. IsDone (record w { objects = n }) max_size text first (own_request n text) after new) em done))
+
+pub other_executed : (w : OwnedState) (max_size : ℕ) (text : List ℕ) (m : Contents) (first : List ℕ)
+    → m ≡ (exec w.objects max_size text).after → first ≡ (exec w.objects max_size text).answer
+    → is_left (general_status first) ≡ false → AreExecuted w max_size text (record w { objects = m }) first
+other_executed w max_size text m first em ef e =
+    let p = executed_plain w max_size text (plain w.objects max_size text (subst (λ f. is_left (general_status f) ≡ false) ef e)) in
+    record { state = ap (λ n. record w { objects = n }) em ∙ p.state; reply = ef ∙ p.reply }
+
+-- What becomes of a prepared reply: it is given if it can be.
+by_fit : (w : OwnedState) (service : ℕ) (asked : Asked) (p : Reply) (fit : Bool) → is_fit asked p ≡ fit
+    → given w service asked (Some p)
+    ≡ (if fit then answered (record { objects = after_reply w.objects asked p.status; prepared = None }) (answer_with service p.status p.content)
+    else refused_with (record w { prepared = None }) service NOT_PREPARED)
+by_fit w service asked p fit e =
+    ap (λ b. if b then answered (record { objects = after_reply w.objects asked p.status; prepared = None }) (answer_with service p.status p.content)
+    else refused_with (record w { prepared = None }) service NOT_PREPARED) e
+
+pub given_fit : (w : OwnedState) (service : ℕ) (asked : Asked) (p : Reply) → w.prepared ≡ Some p → is_fit asked p ≡ true
+    → given w service asked w.prepared
+    ≡ answered (record { objects = after_reply w.objects asked p.status; prepared = None }) (answer_with service p.status p.content)
+given_fit w service asked p e f = ap (given w service asked) e ∙ by_fit w service asked p true f
+
+pub given_unfit : (w : OwnedState) (service : ℕ) (asked : Asked) (p : Reply) → w.prepared ≡ Some p → is_fit asked p ≡ false
+    → given w service asked w.prepared ≡ refused_with (record w { prepared = None }) service NOT_PREPARED
+given_unfit w service asked p e f = ap (given w service asked) e ∙ by_fit w service asked p false f

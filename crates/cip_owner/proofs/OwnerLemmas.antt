@@ -1,0 +1,69 @@
+-- The laws of the owner's replies.
+use Rattle.std.proofs.Common.{◌≡◌, ℕ, ◌+◌, Bool, true, false, cond, nat_lt, Option, Some, None, Result, Ok, Err, List, slice_index, ap, refl, ◌∙◌}
+use Rattle.cip_objects.specs.declared.status.Refusal.{Refusal}
+use Rattle.cip_objects.specs.OwnRequests.{Asked, own_request}
+use Rattle.cip_objects.specs.Router.{RepliesWellFormed, REPLY_TOO_LARGE}
+use Rattle.cip_owner.specs.Owned.{OwnedState, Executed, exec_owned, asks, asked_within, given as given_to, by_owner, refused_with}
+use Rattle.cip_owner.specs.OwnedLaws.{exec_owned_begins, exec_owned_within}
+use Rattle.cip_owner.specs.OwnerLaws.{with_prepared, given_law, unasked_law, unprepared_law, asked_alike_law}
+use Rattle.cip_owner.proofs.OwnedLemmas.{given_fit}
+
+pub well_formed : RepliesWellFormed (λ (w : OwnedState) max_size text. (exec_owned w max_size text).answer)
+well_formed = record {
+  begins = λ w max_size text least enough. exec_owned_begins w max_size text;
+  within = λ w max_size text least enough. exec_owned_within w max_size text least;
+}
+
+-- A request that asks, by what it is and whether there is room.
+by_room : (w : OwnedState) (max_size service : ℕ) (q asked : Asked) (short : Bool)
+    → cond {A = Option Asked} short None (Some q) ≡ Some asked
+    → cond {A = Executed} short (refused_with w service REPLY_TOO_LARGE) (given_to w service q w.prepared)
+    ≡ given_to w service asked w.prepared
+by_room w max_size service q asked true e = absurd (cc)
+by_room w max_size service q asked false e = ap (λ x. given_to w service x w.prepared) (same q asked e)
+  where
+    same : (x y : Asked) → ◌≡◌ {A = Option Asked} (Some x) (Some y) → x ≡ y
+    same x y is = cc
+
+by_own : (w : OwnedState) (max_size : ℕ) (text : List ℕ) (asked : Asked) (own : Option (Result Asked Refusal))
+    → asked_within max_size own ≡ Some asked
+    → by_owner w max_size text own ≡ given_to w (slice_index text 0) asked w.prepared
+by_own w max_size text asked None e = absurd (cc)
+by_own w max_size text asked (Some (Err refusal)) e = absurd (cc)
+by_own w max_size text asked (Some (Ok q)) e =
+    by_room w max_size (slice_index text 0) q asked (nat_lt max_size (4 + q.reply_limit)) e
+
+-- A request that asks takes what is prepared.
+pub asking : (w : OwnedState) (max_size : ℕ) (text : List ℕ) (asked : Asked) → asks w.objects max_size text ≡ Some asked
+    → exec_owned w max_size text ≡ given_to w (slice_index text 0) asked w.prepared
+unfolding asks exec_owned
+asking w max_size text asked e = by_own w max_size text asked (own_request w.objects text) e
+
+pub given : given_law
+given w max_size text asked reply e fit =
+    asking (with_prepared w (Some reply)) max_size text asked e
+    ∙ given_fit (with_prepared w (Some reply)) (slice_index text 0) asked reply refl fit
+
+pub unprepared : unprepared_law
+unprepared w max_size text asked e none =
+    asking w max_size text asked e ∙ ap (given_to w (slice_index text 0) asked) none
+
+unasked_room : (w : OwnedState) (service : ℕ) (q : Asked) (short : Bool) → cond {A = Option Asked} short None (Some q) ≡ None
+    → (cond {A = Executed} short (refused_with w service REPLY_TOO_LARGE)
+    (given_to w service q w.prepared)).after.prepared ≡ w.prepared
+unasked_room w service q true e = refl
+unasked_room w service q false e = absurd (cc)
+
+unasked_by : (w : OwnedState) (max_size : ℕ) (text : List ℕ) (own : Option (Result Asked Refusal))
+    → asked_within max_size own ≡ None → (by_owner w max_size text own).after.prepared ≡ w.prepared
+unasked_by w max_size text None e = refl
+unasked_by w max_size text (Some (Err refusal)) e = refl
+unasked_by w max_size text (Some (Ok q)) e =
+    unasked_room w (slice_index text 0) q (nat_lt max_size (4 + q.reply_limit)) e
+
+pub unasked : unasked_law
+unfolding asks exec_owned
+unasked w max_size text e = unasked_by w max_size text (own_request w.objects text) e
+
+pub alike : asked_alike_law
+alike w prepared max_size text = refl

@@ -1,0 +1,4 @@
+pub mod Replies
+pub mod Owned
+pub mod OwnedLaws
+pub mod OwnerLaws

@@ -1,0 +1,122 @@
+//! Feeds that ask the owner of the device.
+//! Text: docs/PROTOCOL.md, "A peer".
+
+ghost use Rattle.std.specs.Prelude.{◌≡◌, ◌<◌, ◌≤◌, length, false, IfSome, is_some, is_none};
+ghost use Rattle.std.specs.Borrow.{sem};
+ghost use Rattle.std.specs.Io.BufRead.{Rests};
+ghost use Rattle.cip_ledger.specs.Reaching.{listed};
+ghost use Rattle.enip_adapter.specs.Adapter.{feed_output};
+
+use super::lend;
+use crate::adapter::{Adapter, Fed};
+use crate::asked_request::AskedRequest;
+use crate::peer::Peer;
+use crate::reply::LONGEST_ANSWER;
+use cip_owner::{Owner, OwnerReply};
+
+impl Adapter {
+    ghost use Rattle.enip_adapter.specs.Asks.{asks_of_call, prepared_feed, with_reply};
+    ghost use Rattle.enip_adapter.specs.Asks.{after_asking, asking_adapter, owner_after};
+    ghost use Rattle.enip_adapter.specs.Calls.{Call, call_meaning, call_answer, after_call};
+    ghost use Rattle.enip_adapter.specs.Runs.{after_calls};
+    ghost use Rattle.enip_adapter.specs.contracts.adapter.Adapter.{the_row};
+
+    /// What the owner of the device would be asked if these bytes were fed now: the own request of the frame that they
+    /// complete, if it would reach the objects. `None` if nothing would be asked. Takes the time into account as `tick`
+    /// does; nothing else changes.
+    ///
+    /// A repeat of a request on a connection asks nothing, and neither does a command that the ledger has executed.
+    ///
+    /// ```
+    /// let fed = match adapter.asked(now, &peer, piece) {
+    ///     Some(request) => {
+    ///         let reply = conveyor.answer(&request.lent());
+    ///         adapter.feed_prepared(now, &peer, piece, reply)
+    ///     }
+    ///     None => adapter.feed(now, &peer, piece),
+    /// };
+    /// ```
+    pub fn asked(&mut self, now: u64, peer: &Peer, piece: &[u8]) -> Option<AskedRequest>
+        ensures state { self.new ≡ after_call self.old (Call.Ticks now) }
+        ensures asked { listed result ≡ asks_of_call self.old (Call.Feeds now peer.now piece.now) }
+        ensures ticked { listed result ≡ asks_of_call self.new (Call.Feeds now peer.now piece.now) }
+    {
+        self.shared.advance(now);
+        self.places.asked(&self.shared, peer.handle, piece)
+    }
+
+    /// Feeds bytes as `feed` does, with the owner's reply to the request that they ask. `None` is answered 0x10, as a
+    /// request to the owner is without this call. Afterwards no reply is prepared, whether the bytes asked or not.
+    pub fn feed_prepared(
+        &mut self,
+        now: u64,
+        peer: &Peer,
+        piece: &[u8],
+        reply: Option<OwnerReply>,
+    ) -> Fed<'_>
+        ensures* state { sem 𝓛 (Rests the_row self.entry (λ last. last
+            ≡ after_calls self.old (prepared_feed now peer.now piece.now reply))) }
+        ensures taken { result.taken
+            ≡ (call_meaning (with_reply self.old reply) (Call.Feeds now peer.now piece.now)).taken }
+        ensures answer { feed_output result.answer result.no_reply_reason
+            ≡ (call_answer (with_reply self.old reply) (Call.Feeds now peer.now piece.now)).output }
+        ensures no_reply_reason { is_some result.no_reply_reason ≡ is_none result.answer }
+        ensures close { result.close
+            ≡ (call_answer (with_reply self.old reply) (Call.Feeds now peer.now piece.now)).close }
+        ensures within { result.taken ≤ length piece.now }
+        ensures progress { 0 < length piece.now → result.close ≡ false → 0 < result.taken }
+        ensures fits { IfSome result.answer (λ frame. length frame.now ≤ LONGEST_ANSWER) }
+    {
+        self.prepare(reply);
+        self.shared.advance(now);
+        let (taken, reaction) = self.places.feed(
+            &mut self.shared,
+            peer.handle,
+            piece,
+            &mut self.reply,
+            &mut self.answer,
+        );
+        // A reply that this feed did not take must not go to another request.
+        self.shared.objects.router.prepared = None;
+        lend(&self.answer, taken, reaction)
+    }
+
+    /// Feeds bytes as `feed` does, and asks the owner if they have a request to it. A request is asked once: neither a
+    /// repeat on its connection nor a command that the ledger has executed asks again.
+    ///
+    /// ```
+    /// let fed = adapter.feed_asking(now, &peer, piece, &mut conveyor);
+    /// ```
+    pub fn feed_asking<O: Owner>(
+        &mut self,
+        now: u64,
+        peer: &Peer,
+        piece: &[u8],
+        owner: &mut O,
+    ) -> Fed<'_>
+        ensures* state { sem 𝓛 (Rests the_row self.entry (λ last. last
+            ≡ after_asking O.answer O.after self.old owner.old now peer.now piece.now)) }
+        ensures owner { owner.new
+            ≡ owner_after O.answer O.after owner.old (asks_of_call self.old (Call.Feeds now peer.now piece.now)) }
+        ensures taken { result.taken ≡ (call_meaning (asking_adapter O.answer O.after self.old owner.old now peer.now
+            piece.now) (Call.Feeds now peer.now piece.now)).taken }
+        ensures answer { feed_output result.answer result.no_reply_reason
+            ≡ (call_answer (asking_adapter O.answer O.after self.old owner.old now peer.now piece.now)
+            (Call.Feeds now peer.now piece.now)).output }
+        ensures no_reply_reason { is_some result.no_reply_reason ≡ is_none result.answer }
+        ensures close { result.close
+            ≡ (call_answer (asking_adapter O.answer O.after self.old owner.old now peer.now piece.now)
+            (Call.Feeds now peer.now piece.now)).close }
+        ensures within { result.taken ≤ length piece.now }
+        ensures progress { 0 < length piece.now → result.close ≡ false → 0 < result.taken }
+        ensures fits { IfSome result.answer (λ frame. length frame.now ≤ LONGEST_ANSWER) }
+    {
+        match self.asked(now, peer, piece) {
+            Some(request) => {
+                let reply = owner.answer(&request.lent());
+                self.feed_prepared(now, peer, piece, reply)
+            }
+            None => self.feed(now, peer, piece),
+        }
+    }
+}

@@ -1,0 +1,117 @@
+//! What the owner of the device would be asked by a frame.
+//! Text: docs/PROTOCOL.md, "A peer".
+
+ghost use Rattle.std.specs.Prelude.{◌≡◌, ◌≤◌, [], ◌∷◌, find, length};
+ghost use Rattle.std.specs.Option.{option_map};
+ghost use Rattle.cip_ledger.specs.Reaching.{listed};
+ghost use Rattle.cip_manager.specs.Connection.{is_named};
+ghost use Rattle.enip_wire.specs.Bodies.{rr_body_of, unit_body_of};
+ghost use Rattle.enip_wire.specs.Stream.{frame_of};
+ghost use Rattle.enip_adapter.specs.Asks.{request_lent, asks_by_requests};
+ghost use Rattle.enip_adapter.specs.DeviceRuns as runs;
+ghost use Rattle.enip_adapter.specs.SendRRData.{route_of};
+
+use super::requests::Route;
+use crate::asked_request::AskedRequest;
+use crate::peer::Session;
+use crate::shared::Shared;
+use cip_bytes::protocol::{Command, SEQUENCE_COUNT_SIZE, UNCONNECTED_LIMIT};
+use enip_wire::{FrameView, rr_body, unit_body};
+
+/// What the owner would be asked if a whole frame were served. `None` if the frame has no request to the owner, or
+/// none that would be executed now.
+pub(crate) fn asked(shared: &Shared, session: Session, frame: FrameView<'_>) -> Option<AskedRequest>
+    ensures { listed result
+        ≡ asks_by_requests shared.now.objects (runs.requests_in_frame shared.now session (frame_of frame.entry)) }
+{
+    let (request, max_size) = request_in_frame(shared, session, frame)?;
+    asked_by_request(shared, request, max_size)
+}
+
+/// What the owner would be asked by a request to the device, whose reply may have `max_size` bytes.
+fn asked_by_request(shared: &Shared, request: &[u8], max_size: usize) -> Option<AskedRequest>
+    ensures { listed result ≡ asks_by_requests shared.now.objects ((max_size, request.now) ∷ []) }
+{
+    let (reaching, limit) = shared.objects.reaching(request, max_size)?;
+    let own = shared.objects.router.asks(reaching, limit)?;
+    Some(AskedRequest::of(own))
+}
+
+/// The request that would reach the device if a whole frame were served, and the limit on its reply.
+fn request_in_frame<'a>(
+    shared: &Shared,
+    session: Session,
+    frame: FrameView<'a>,
+) -> Option<(&'a [u8], usize)>
+    ensures { listed (option_map request_lent result)
+        ≡ runs.requests_in_frame shared.now session (frame_of frame.entry) }
+{
+    let header = frame.header;
+    // A frame with options or with a status is discarded.
+    if header.options != 0 {
+        return None;
+    }
+    if header.status != 0 {
+        return None;
+    }
+    match Command::of(header.command) {
+        Some(Command::SendRRData) if session.is_registered_as(header.session) => {
+            request_in_rr(frame.body)
+        }
+        Some(Command::SendUnitData) if session.is_registered_as(header.session) => {
+            request_in_unit(shared, session, frame.body)
+        }
+        _ => None,
+    }
+}
+
+/// The request of a SendRRData, if it is not to the Connection Manager.
+fn request_in_rr(body: &[u8]) -> Option<(&[u8], usize)>
+    ensures { listed (option_map request_lent result) ≡ runs.requests_in_rr (rr_body_of body.now) }
+{
+    match rr_body(body) {
+        Ok(request) if request.len() >= 2 => request_by_route(request),
+        _ => None,
+    }
+}
+
+/// An unconnected request, if it is not to the Connection Manager.
+fn request_by_route(request: &[u8]) -> Option<(&[u8], usize)>
+    requires { 2 ≤ length request.now }
+    ensures { listed (option_map request_lent result)
+        ≡ runs.requests_by_route request.now (route_of request.now) }
+{
+    match Route::of(request) {
+        Route::Manager(..) => None,
+        Route::Objects => Some((request, UNCONNECTED_LIMIT)),
+    }
+}
+
+/// The request of a SendUnitData, if its item would be executed.
+fn request_in_unit<'a>(
+    shared: &Shared,
+    session: Session,
+    body: &'a [u8],
+) -> Option<(&'a [u8], usize)>
+    ensures { listed (option_map request_lent result)
+        ≡ runs.requests_in_unit shared.now session (unit_body_of body.now) }
+{
+    match unit_body(body) {
+        Ok((id, item)) => request_of_item(shared, session, id, item),
+        Err(_) => None,
+    }
+}
+
+/// The request of an item, if the connection with this O->T ID would execute it. A repeat is not executed.
+fn request_of_item<'a>(
+    shared: &Shared,
+    session: Session,
+    id: u32,
+    item: &'a [u8],
+) -> Option<(&'a [u8], usize)>
+    ensures { listed (option_map request_lent result) ≡ runs.requests_by_connection item.now
+        (find (is_named session.handle id) shared.now.manager.connections) }
+{
+    let max_size = shared.manager.would_execute(session.handle, id, item)?;
+    Some((&item[SEQUENCE_COUNT_SIZE..], max_size))
+}
