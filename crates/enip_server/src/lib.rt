@@ -70,6 +70,7 @@
 //! ```
 #![tactic(auto)]
 
+mod held_wire;
 mod io_buffer;
 pub mod laws;
 mod peer_io;
@@ -77,6 +78,7 @@ mod peers;
 mod wire;
 mod wire_counts;
 
+pub use held_wire::HeldWire;
 pub use io_buffer::IO_BUFFER_SIZE;
 pub use peer_io::LINGER;
 pub use peers::{NO_IDLE_TIMEOUT, Peers, RoundEnd};
