@@ -17,7 +17,7 @@ use Rattle.enip_server.specs.PeerStates.{fed_once}
 use Rattle.enip_server.specs.PeerStates.AreFed.{None_fed, One_more_fed}
 use Rattle.enip_server.specs.Rounds.{ServerState, TakesTurn, IsServedPeer, IsServedAt, IsLeft, IsSlotServed}
 use Rattle.enip_server.specs.Rounds.{AreSlotsServed, IsRound, timeout_at}
-use Rattle.enip_server.specs.Held.{IsReleased, IsPeerReleased, IsSlotReleased, AreSlotsReleased, AreReleased}
+use Rattle.enip_server.specs.Held.{held_written, IsReleased, IsPeerReleased, IsSlotReleased, AreSlotsReleased, AreReleased}
 use Rattle.enip_server.specs.Runs.{IsStill, IsStillAt, AreStill, IsStep}
 use Rattle.enip_server.specs.Runs.IsStep.{Releases}
 use Rattle.enip_server.proofs.TurnMoves.{not_out}
@@ -149,11 +149,8 @@ module _ {W : Type 0} (left written : W → Option (List ℕ)) (known : W → Op
   abbrev held_left : HeldWire W → Option (List ℕ)
   held_left w = left w.wire
 
-  abbrev held_written : HeldWire W → Option (List ℕ)
-  held_written w = append_known (written w.wire) w.held
-
   peer_still : (io after : PeerIo (HeldWire W)) → IsPeerReleased left written known counts io after
-      → IsStill held_left held_written io after
+      → IsStill held_left (held_written written) io after
   peer_still io after r = record {
     unread = r.wire.unread;
     kept = append_known-moved (written io.wire.wire) (written after.wire.wire) r.wire.gone after.wire.held io.wire.held
@@ -162,13 +159,13 @@ module _ {W : Type 0} (left written : W → Option (List ℕ)) (known : W → Op
   }
 
   slot_still : (slot place : Option (PeerIo (HeldWire W))) → IsSlotReleased left written known counts slot place
-      → IsStillAt held_left held_written slot place
+      → IsStillAt held_left (held_written written) slot place
   slot_still None place is = is
   slot_still (Some io) None is = is
   slot_still (Some io) (Some after) is = peer_still io after is
 
   slots_still : (slots places : List (Option (PeerIo (HeldWire W)))) → AreSlotsReleased left written known counts slots places
-      → AreStill held_left held_written slots places
+      → AreStill held_left (held_written written) slots places
   slots_still [] [] is = tt
   slots_still [] (place ∷ places) is = is
   slots_still (slot ∷ slots) [] is = is
@@ -178,6 +175,6 @@ module _ {W : Type 0} (left written : W → Option (List ℕ)) (known : W → Op
   pub release_is_step : {O : Type 0} (held_known : HeldWire W → Option KnownCalls) (held_counts : HeldWire W → WireCounts)
       (answer : O → Asked → Option Reply) (next : O → Asked → O) (old new : ServerState (HeldWire W))
       → AreReleased left written known counts old new
-      → IsStep held_left held_written held_known held_counts answer next old new
+      → IsStep held_left (held_written written) held_known held_counts answer next old new
   release_is_step held_known held_counts answer next old new r =
       Releases (slots_still old.slots new.slots r.slots) r.same

@@ -1,13 +1,23 @@
 -- Wires that hold back what is written to them, and what a release does to them and to the peers that have them.
-use Rattle.std.specs.Prelude.{ℕ, zero, suc, min, length, ◌-◌, ◌≡◌, ◌≢◌, ◌++◌, ◌||◌, List, [], ◌∷◌, Bool, true, false, Option, Some, None, ⊤}
+use Rattle.std.specs.Prelude.{ℕ, zero, suc, min, length, take, ◌-◌, ◌≡◌, ◌≢◌, ◌++◌, ◌||◌, List, [], ◌∷◌, Bool, true, false, Option, Some, None, ⊤}
 use Rattle.std.specs.Option.{option_map}
-use Rattle.std.specs.Io.KnownBytes.{Appends}
+use Rattle.std.specs.Io.KnownBytes.{Appends, append_known}
 use Rattle.enip_server.specs.declared.held_wire.HeldWire.{HeldWire}
 use Rattle.enip_server.specs.declared.peer_io.PeerIo.{PeerIo}
+use Rattle.enip_server.specs.declared.wire.ReadOutcome.{ReadOutcome}
+use Rattle.enip_server.specs.declared.wire.ReadOutcome.TheVariants.{WouldBlock, Failed}
 use Rattle.enip_server.specs.declared.wire_counts.WireCounts.{WireCounts}
 use Rattle.enip_server.specs.PeerStates.{GoesOn}
 use Rattle.enip_server.specs.Rounds.{ServerState}
-use Rattle.enip_server.specs.Wires.{KnownCalls, one_more, with_shut}
+use Rattle.enip_server.specs.Wires.{KnownCalls, one_more, after_read, size_taken, with_asked, with_shut}
+
+-- What was written to a held wire is what was written to the wire inside, followed by what is held.
+abbrev pub held_written : {W : Type 0} → (W → Option (List ℕ)) → HeldWire W → Option (List ℕ)
+held_written written w = append_known (written w.wire) w.held
+
+-- A held wire knows its calls. The bytes that it released are those that were written to the wire inside.
+abbrev pub held_known : {W : Type 0} → (W → Option (List ℕ)) → HeldWire W → Option KnownCalls
+held_known written w = Some (record { asked = w.asked; is_shut = w.is_shut; released = written w.wire })
 
 -- A write to a held wire: as many of the bytes are held as there is capacity left for. It fails if the wire inside has.
 abbrev pub size_held : {W : Type 0} → HeldWire W → List ℕ → ℕ
@@ -22,6 +32,23 @@ abbrev pub would_block : Option ℕ → Bool
 would_block None = false
 would_block (Some zero) = true
 would_block (Some (suc n)) = false
+
+-- The state after a write of which this many bytes were taken.
+abbrev pub after_hold : {W : Type 0} → Option ℕ → List ℕ → HeldWire W → HeldWire W
+after_hold taken bytes w = record w {
+  held = w.held ++ take (size_taken taken) bytes;
+  was_deferred = w.was_deferred || would_block taken;
+}
+
+-- A read of a held wire that is given so many bytes to fill. If the wire inside has failed, so does the read. While bytes
+-- are held it would block, and is deferred. Otherwise the wire inside is read.
+pub record IsReadInside {W : Type 0} (known : W → Option KnownCalls) (counts : W → WireCounts) (size : ℕ)
+    (old new : HeldWire W) (outcome : ReadOutcome) : Type 0 where
+  pub failed : old.has_failed ≡ true → (outcome ≡ Failed) × (new ≡ old)
+  pub deferred : old.has_failed ≡ false → old.held ≢ [] → (outcome ≡ WouldBlock) × (new ≡ record old { was_deferred = true })
+  pub made : old.has_failed ≡ false → old.held ≡ [] → (new ≡ record old { wire = new.wire })
+      × (counts new.wire ≡ after_read outcome (counts old.wire))
+      × (known new.wire ≡ option_map (with_asked size) (known old.wire))
 
 -- What is known of a wire after its writing side was shut down, if a shutdown waits for the release.
 abbrev pub shut_if : Bool → Option KnownCalls → Option KnownCalls

@@ -1,7 +1,7 @@
 //! A wire that holds back what is written to it.
 
-ghost use Rattle.std.specs.Prelude.{◌≡◌, ◌≢◌, ◌<◌, ◌++◌, ◌||◌, [], Some, true, false, length, take};
-ghost use Rattle.std.specs.Io.KnownBytes.{append_known};
+ghost use Rattle.std.specs.Prelude.{◌≡◌, ◌≤◌, ◌<◌, [], IfSome, true, false, length, take};
+ghost use Rattle.std.specs.Io.KnownBytes.{Appends};
 ghost use Rattle.std.specs.Option.{option_map};
 
 use crate::io_buffer::IoBuffer;
@@ -70,8 +70,8 @@ impl<W> HeldWire<W> {
 }
 
 impl<W: Wire> HeldWire<W> {
-    ghost use Rattle.enip_server.specs.Held.{IsReleased, held_unless, shut_if, size_held, would_block};
-    ghost use Rattle.enip_server.specs.Wires.{IsRead, after_read, size_taken, with_asked};
+    ghost use Rattle.enip_server.specs.Held.{IsReadInside, IsReleased, after_hold, held_unless, shut_if, size_held};
+    ghost use Rattle.enip_server.specs.Wires.{IsRead};
 
     /// Writes what is held to the wire inside, until that would block or fails. What it does not take stays held. Once
     /// nothing is held, makes a shutdown that waits. Returns whether the peer of this wire may have a turn now: a call
@@ -115,13 +115,7 @@ impl<W: Wire> HeldWire<W> {
         ensures read { IsRead (W.left self.old.wire) (W.left self.new.wire) result into.new }
         ensures written { W.written self.new.wire ≡ W.written self.old.wire }
         ensures same { self.new ≡ record self.old { wire = self.new.wire; was_deferred = self.new.was_deferred } }
-        ensures failed { self.old.has_failed ≡ true → (result ≡ ReadOutcome.Failed) × (self.new ≡ self.old) }
-        ensures held { self.old.has_failed ≡ false → self.old.held ≢ [] →
-            (result ≡ ReadOutcome.WouldBlock) × (self.new ≡ record self.old { was_deferred = true }) }
-        ensures empty { self.old.has_failed ≡ false → self.old.held ≡ [] →
-            (W.counts self.new.wire ≡ after_read result (W.counts self.old.wire))
-            × (W.known self.new.wire ≡ option_map (with_asked (length into.old)) (W.known self.old.wire))
-            × (self.new ≡ record self.old { wire = self.new.wire }) }
+        ensures inside { IsReadInside W.known W.counts (length into.old) self.old self.new result }
     {
         if self.has_failed {
             return ReadOutcome::Failed;
@@ -136,10 +130,7 @@ impl<W: Wire> HeldWire<W> {
     /// Holds a front of these bytes, unless the wire inside has failed.
     fn hold(&mut self, from: &[u8]) -> Option<usize>
         ensures taken { result ≡ held_unless self.old.has_failed (size_held self.old from.now) }
-        ensures held { self.new ≡ record self.old {
-          held = self.old.held ++ take (size_taken result) from.now;
-          was_deferred = self.old.was_deferred || would_block result;
-        } }
+        ensures held { self.new ≡ after_hold result from.now self.old }
     {
         if self.has_failed {
             return None;
@@ -163,28 +154,57 @@ impl<W: Wire> PeerIo<HeldWire<W>> {
 }
 
 impl<W: Wire> Wire for HeldWire<W> {
+    ghost use Rattle.enip_server.specs.Held.{IsReadInside, after_hold, held_known, held_unless, held_written, size_held};
+    ghost use Rattle.enip_server.specs.Wires.{IsRead, after_read, after_write, size_taken, with_asked, with_shut};
+
     ghost left = { λ w. W.left w.wire };
 
-    ghost written = { λ w. append_known (W.written w.wire) w.held };
+    ghost written = { held_written W.written };
 
-    ghost known = { λ w. Some (record { asked = w.asked; is_shut = w.is_shut; released = W.written w.wire }) };
+    ghost known = { held_known W.written };
 
     ghost counts = { λ w. w.counts };
 
-    fn read(&mut self, into: &mut [u8]) -> ReadOutcome {
+    fn read(&mut self, into: &mut [u8]) -> ReadOutcome
+        requires { 0 < length into.old }
+        ensures read { IsRead (W.left self.old.wire) (W.left self.new.wire) result into.new }
+        ensures written { held_written W.written self.new ≡ held_written W.written self.old }
+        ensures known { held_known W.written self.new
+            ≡ option_map (with_asked (length into.old)) (held_known W.written self.old) }
+        ensures counts { self.new.counts ≡ after_read result self.old.counts }
+        ensures inside { IsReadInside W.known W.counts (length into.old) (record self.old { asked = length into.old })
+            (record self.new { counts = self.old.counts }) result }
+    {
         self.asked = into.len();
         let outcome = self.read_inside(into);
         self.counts.add_read(outcome);
         outcome
     }
 
-    fn write(&mut self, from: &[u8]) -> Option<usize> {
+    fn write(&mut self, from: &[u8]) -> Option<usize>
+        ensures size { IfSome result (λ n. n ≤ length from.now) }
+        ensures written { Appends (held_written W.written self.old) (held_written W.written self.new)
+            (take (size_taken result) from.now) }
+        ensures left { W.left self.new.wire ≡ W.left self.old.wire }
+        ensures known { held_known W.written self.new ≡ held_known W.written self.old }
+        ensures counts { self.new.counts ≡ after_write result self.old.counts }
+        ensures taken { result ≡ held_unless self.old.has_failed (size_held self.old from.now) }
+        ensures held { self.new ≡ record (after_hold result from.now self.old) {
+          counts = after_write result self.old.counts;
+        } }
+    {
         let taken = self.hold(from);
         self.counts.add_write(taken);
         taken
     }
 
-    fn shut(&mut self) {
+    fn shut(&mut self)
+        ensures written { held_written W.written self.new ≡ held_written W.written self.old }
+        ensures left { W.left self.new.wire ≡ W.left self.old.wire }
+        ensures known { held_known W.written self.new ≡ option_map with_shut (held_known W.written self.old) }
+        ensures counts { self.new.counts ≡ self.old.counts }
+        ensures waits { self.new ≡ record self.old { is_shut = true; shut_waits = true } }
+    {
         self.is_shut = true;
         self.shut_waits = true;
     }

@@ -281,7 +281,8 @@ impl<W: Wire + Drop> Peers<HeldWire<W>> {
     ///
     /// ```
     /// let end = peers.round(now);
-    /// let end = RoundEnd { ready: peers.release(), ..end };
+    /// let ready = peers.release();
+    /// let end = RoundEnd { ready, ..end };
     /// ```
     pub fn release(&mut self) -> bool
         ensures released { AreReleased W.left W.written W.known W.counts (state_of self.old) (state_of self.new) }
