@@ -24,11 +24,11 @@
 mod device;
 mod entry;
 mod keeper;
-
+mod lives;
 mod server;
 
 pub use device::Device;
 pub use entry::{Entry, KeepError};
 pub use keeper::{Keeper, Restart};
-
+pub use lives::{Event, live};
 pub use server::Server;

@@ -93,7 +93,11 @@ impl<D: Device + Drop, K: Restart + Drop> Server<D, K> {
     /// # Errors
     ///
     /// At any error the server serves nothing until a start.
-    pub fn restart(&mut self, alloc: Global, configuration: &D::Configuration) -> Result<(), KeepError>
+    pub fn restart(
+        &mut self,
+        alloc: Global,
+        configuration: &D::Configuration,
+    ) -> Result<(), KeepError>
         ensures ready { IsReady K.doubt K.is_up K.kept D.contents D.known_kept D.kept_part self.new }
         ensures serving { OnOk result (IsTrue self.new.is_serving) }
         ensures stops { OnErr result (self.new.is_serving ≡ false) }
