@@ -1,9 +1,9 @@
 -- What a list of events leaves, with one more event.
-use Rattle.std.proofs.Common.{◌≡◌, ◌⊎◌, inl, inr, ℕ, Bool, true, false, IsTrue, List, [], ◌∷◌, ◌++◌, length, refl, sym, ap, subst, ◌∙◌, ◌+◌, arith, length-append}
+use Rattle.std.proofs.Common.{◌≡◌, ◌⊎◌, inl, inr, Bool, true, false, IsTrue, List, [], ◌∷◌, ◌++◌, length, refl, sym, ap, subst, ◌∙◌, ◌+◌, arith, length-append}
 use Rattle.enip_keep.specs.declared.lives.Event.{Event}
 use Rattle.enip_keep.specs.declared.lives.Event.TheVariants.{Round, Restart}
 use Rattle.enip_keep.specs.Kept.{Kept}
-use Rattle.enip_keep.specs.Lives.{Step, Executed, Restarted, after, Begins, IsStepOf, AreStepsOf, AreAfter, IsKeptAfter, Makes}
+use Rattle.enip_keep.specs.Lives.{Step, Executed, Restarted, after, IsStepOf, AreStepsOf, AreAfter, IsKeptAfter, Makes}
 
 -- as many, with one more each
 pub one_more_each : {A B : Type 0} (xs : List A) (ys : List B) (x : A) (y : B) → length xs ≡ length ys

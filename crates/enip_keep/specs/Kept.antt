@@ -1,5 +1,5 @@
 -- What is kept, and what a commit makes of it.
-use Rattle.std.specs.Prelude.{ℕ, ◌<◌, ◌^◌, ◌==◌, nat_lt, if◌then◌else◌, List, [], ◌∷◌, map}
+use Rattle.std.specs.Prelude.{ℕ, ◌<◌, ◌^◌, ◌==◌, nat_lt, if◌then◌else◌, List, [], ◌∷◌, length, map}
 use Rattle.enip_keep.specs.declared.entry.Entry.{Entry}
 
 -- keys, each with its bytes, in the order of the keys
@@ -23,6 +23,6 @@ abbrev pub set_all : Kept → Kept → Kept
 set_all [] kept = kept
 set_all (c ∷ cs) kept = set_all cs (set c.0 c.1 kept)
 
--- a signed number of 64 bits holds the key
-abbrev pub HasSmallKey : Entry → Type 0
-HasSmallKey e = e.key < 2 ^ 63
+-- small enough to be kept: the key is a signed number of 64 bits, and there are at most 65,535 bytes
+abbrev pub IsKeepable : Entry → Type 0
+IsKeepable e = (e.key < 2 ^ 63) × (length e.bytes.items < 2 ^ 16)

@@ -1,5 +1,5 @@
 -- What rounds, crashes and starts make of the contents, and what of it survives.
-use Rattle.std.specs.Prelude.{◌≡◌, ◌⊎◌, ℕ, Bool, true, false, List, [], ◌∷◌}
+use Rattle.std.specs.Prelude.{◌≡◌, ◌⊎◌, Bool, true, false, List, [], ◌∷◌}
 use Rattle.enip_keep.specs.declared.lives.Event.{Event}
 use Rattle.enip_keep.specs.declared.lives.Event.TheVariants.{Round, Restart}
 use Rattle.enip_keep.specs.Kept.{Kept}

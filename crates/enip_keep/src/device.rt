@@ -1,6 +1,7 @@
 //! What serves requests, and whose state is kept.
-ghost use Rattle.std.specs.Prelude.{◌≡◌, ◌<◌, ◌^◌, List, All, IfOk, OnOk};
-ghost use Rattle.enip_keep.specs.Kept.{Kept, pairs_of, set_all, HasSmallKey};
+ghost use Rattle.std.specs.Prelude.{◌≡◌, ◌⊎◌, List, All, IfOk, IfErr, OnOk};
+ghost use Rattle.enip_keep.specs.declared.entry.KeepError.TheVariants.{Memory, Refused};
+ghost use Rattle.enip_keep.specs.Kept.{Kept, pairs_of, set_all, IsKeepable};
 
 use crate::{Entry, KeepError};
 use std::alloc::Global;
@@ -32,6 +33,9 @@ pub trait Device {
     // What a start makes of the entries that are kept.
     ghost started: { Self.Configuration → Kept → Contents };
 
+    // These entries are not those of a device with this configuration.
+    ghost refuses: { Self.Configuration → Kept → Type 0 };
+
     // The requests that may come in a round with this input.
     ghost brings: { Self.Input → Requests → Type 0 };
 
@@ -60,7 +64,10 @@ pub trait Device {
         entries: &[Entry],
     ) -> Result<Self, KeepError>
         ensures contents { IfOk result (λ d. contents d ≡ started configuration.now (pairs_of entries.now)) }
-        ensures known { IfOk result (λ d. known_kept d ≡ pairs_of entries.now) };
+        ensures known { IfOk result (λ d. known_kept d ≡ pairs_of entries.now) }
+        ensures accepted { OnOk result (¬ refuses configuration.now (pairs_of entries.now)) }
+        ensures cause { IfErr result (λ e. (e ≡ Memory)
+            ⊎ ((e ≡ Refused) × refuses configuration.now (pairs_of entries.now))) };
 
     /// Serves the requests of a round, and holds their answers back.
     ///
@@ -72,12 +79,13 @@ pub trait Device {
             × (contents self.new ≡ executed (contents self.old) requests)
             × holds_answers self.old requests self.new) }
         ensures known { known_kept self.new ≡ known_kept self.old }
-        ensures silent { sends_nothing self.old self.new };
+        ensures silent { sends_nothing self.old self.new }
+        ensures cause { IfErr result (λ e. e ≡ Memory) };
 
     /// The entries that differ from what is kept.
     fn changes(&self) -> &[Entry]
         ensures changes { set_all (pairs_of result.now) (known_kept self.now) ≡ kept_part (contents self.now) }
-        ensures keys { All HasSmallKey result.now };
+        ensures keys { All IsKeepable result.now };
 
     /// Takes the changes to be kept from now on, and lets the answers leave that were held back.
     fn release(&mut self)

@@ -1,6 +1,7 @@
 //! What keeps entries over a crash.
-ghost use Rattle.std.specs.Prelude.{◌≡◌, ◌⊎◌, ◌≤◌, ◌<◌, ◌^◌, ℕ, List, All, IfOk, OnOk};
-ghost use Rattle.enip_keep.specs.Kept.{Kept, pairs_of, set_all, HasSmallKey};
+ghost use Rattle.std.specs.Prelude.{◌≡◌, ◌⊎◌, ◌≤◌, ◌<◌, ◌^◌, ℕ, List, All, IfOk, IfErr, OnOk};
+ghost use Rattle.enip_keep.specs.Causes.{IsCause};
+ghost use Rattle.enip_keep.specs.Kept.{Kept, pairs_of, set_all, IsKeepable};
 
 use crate::{Entry, KeepError};
 use std::alloc::Global;
@@ -22,18 +23,19 @@ pub trait Keeper {
     // 0 as long as no wrong answer of the storage was taken for a right one. It never falls, and no call returns it.
     ghost doubt: { Self → ℕ };
 
-    // How often the storage has failed or refused.
+    // How often the storage has failed or refused, counted up to 2^64 - 1.
     ghost faults: { Self → ℕ };
 
     /// Returns all entries that are kept, in the order of their keys.
     ///
     /// # Errors
     ///
-    /// Any error requires a new start.
+    /// `Memory` if memory is refused, `Storage` if the storage fails. Any error requires a new start.
     fn load(&mut self, alloc: Global) -> Result<Vec<Entry>, KeepError>
         requires { doubt self.old ≡ 0 → is_up self.old }
         ensures pairs { doubt self.new ≡ 0 → IfOk result (λ all. pairs_of all.items ≡ kept self.old) }
         ensures same { doubt self.new ≡ 0 → OnOk result (is_up self.new × (kept self.new ≡ kept self.old)) }
+        ensures cause { doubt self.new ≡ 0 → IfErr result (IsCause (faults self.old) (faults self.new)) }
         ensures crash { doubt self.new ≡ 0 → (c : Kept) → may_leave self.new c → may_leave self.old c }
         ensures doubt { doubt self.old ≤ doubt self.new }
         ensures faults { faults self.old ≤ faults self.new };
@@ -42,12 +44,14 @@ pub trait Keeper {
     ///
     /// # Errors
     ///
-    /// Any error requires a new start. The changes are then kept, all of them, or none is.
+    /// `Memory` if memory is refused, `Storage` if the storage fails or is full. Any error requires a new start, which
+    /// finds all of the changes or none.
     fn commit(&mut self, changes: &[Entry]) -> Result<(), KeepError>
         requires up { doubt self.old ≡ 0 → is_up self.old }
-        requires keys { All HasSmallKey changes.now }
+        requires keys { All IsKeepable changes.now }
         ensures done { doubt self.new ≡ 0 → OnOk result
             (is_up self.new × (kept self.new ≡ set_all (pairs_of changes.now) (kept self.old))) }
+        ensures cause { doubt self.new ≡ 0 → IfErr result (IsCause (faults self.old) (faults self.new)) }
         ensures crash { doubt self.new ≡ 0 → (c : Kept) → may_leave self.new c
             → may_leave self.old c ⊎ (c ≡ set_all (pairs_of changes.now) (kept self.old)) }
         ensures doubt { doubt self.old ≤ doubt self.new }

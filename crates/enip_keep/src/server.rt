@@ -1,6 +1,7 @@
 //! A server that releases the answers of a round once its changes are kept.
-ghost use Rattle.std.specs.Prelude.{◌≡◌, ◌⊎◌, ◌≤◌, ◌<◌, ◌^◌, ℕ, true, false, List, All, IsTrue, IfOk, OnOk, OnErr};
-ghost use Rattle.enip_keep.specs.Kept.{Kept, pairs_of, set_all, HasSmallKey};
+ghost use Rattle.std.specs.Prelude.{◌≡◌, ◌⊎◌, ◌≤◌, ◌<◌, ◌^◌, ℕ, true, false, List, All, IsTrue, IfOk, IfErr, OnOk, OnErr};
+ghost use Rattle.enip_keep.specs.Causes.{IsCause, IsStartCause};
+ghost use Rattle.enip_keep.specs.Kept.{Kept, pairs_of, set_all, IsKeepable};
 ghost use Rattle.enip_keep.specs.Server.{IsKept, IsReady, IsServed, IsKeptOfRound};
 ghost use Rattle.enip_keep.specs.declared.entry.KeepError.TheVariants.{Stopped};
 
@@ -67,6 +68,8 @@ impl<D: Device + Drop, K: Keeper + Drop> Server<D, K> {
         ensures durable { K.doubt self.new.keeper ≡ 0 → OnOk result ((c : Kept) → K.may_leave self.new.keeper c
             → c ≡ D.kept_part (D.contents self.new.device)) }
         ensures silent { OnErr result (D.sends_nothing self.old.device self.new.device) }
+        ensures cause { K.doubt self.new.keeper ≡ 0 → IsTrue self.old.is_serving → IfErr result
+            (IsCause (K.faults self.old.keeper) (K.faults self.new.keeper)) }
         ensures stops { OnErr result (self.new.is_serving ≡ false) }
         ensures stopped { self.old.is_serving ≡ false → (result ≡ Err Stopped) × (self.new ≡ self.old) }
         ensures crash { K.doubt self.new.keeper ≡ 0 → (c : Kept) → K.may_leave self.new.keeper c
@@ -128,6 +131,8 @@ fn start_device<D: Device + Drop, K: Keeper + Drop>(
     ensures kept { K.doubt keeper.new ≡ 0 → IfOk result (λ d. IsKept (K.is_up keeper.new) (K.kept keeper.new) (D.known_kept d) (D.kept_part (D.contents d))) }
     ensures crash { K.doubt keeper.new ≡ 0 → (c : Kept) → K.may_leave keeper.new c
         → K.may_leave keeper.old c ⊎ (c ≡ D.kept_part (D.started configuration.now (K.kept keeper.old))) }
+    ensures cause { K.doubt keeper.new ≡ 0 → IfErr result (IsStartCause (D.refuses configuration.now (K.kept keeper.old))
+        (K.faults keeper.old) (K.faults keeper.new)) }
     ensures doubt { K.doubt keeper.old ≤ K.doubt keeper.new }
     ensures faults { K.faults keeper.old ≤ K.faults keeper.new }
 {
@@ -141,11 +146,12 @@ fn start_device<D: Device + Drop, K: Keeper + Drop>(
 /// Commits changes, if there are any.
 fn keep<K: Keeper>(keeper: &mut K, changes: &[Entry]) -> Result<(), KeepError>
     requires up { K.doubt keeper.old ≡ 0 → K.is_up keeper.old }
-    requires keys { All HasSmallKey changes.now }
+    requires keys { All IsKeepable changes.now }
     ensures done { K.doubt keeper.new ≡ 0 → OnOk result
         (K.is_up keeper.new × (K.kept keeper.new ≡ set_all (pairs_of changes.now) (K.kept keeper.old))) }
     ensures crash { K.doubt keeper.new ≡ 0 → (c : Kept) → K.may_leave keeper.new c
         → K.may_leave keeper.old c ⊎ (c ≡ set_all (pairs_of changes.now) (K.kept keeper.old)) }
+    ensures cause { K.doubt keeper.new ≡ 0 → IfErr result (IsCause (K.faults keeper.old) (K.faults keeper.new)) }
     ensures doubt { K.doubt keeper.old ≤ K.doubt keeper.new }
     ensures faults { K.faults keeper.old ≤ K.faults keeper.new }
 {

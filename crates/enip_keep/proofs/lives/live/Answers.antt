@@ -1,5 +1,4 @@
-use Rattle.std.proofs.Common.{rules, ◌≡◌, ◌≤◌, ℕ, Bool, List, [], ◌∷◌, ◌++◌, length, refl, sym, ap, subst, ◌∙◌, arith, IsTrue}
-use Rattle.enip_keep.specs.Kept.{Kept}
+use Rattle.std.proofs.Common.{rules, ◌≡◌, [], ◌∷◌, ◌++◌, length, sym, ap, subst, ◌∙◌, arith, IsTrue}
 use Rattle.enip_keep.specs.Lives.{AreAfter, IsKeptAfter}
 use Rattle.enip_keep.proofs.LivesLemmas.{one_more_each, made_after, left_after}
 use Rattle.enip_keep.proofs.lives.live.Goals as goal

@@ -1,4 +1,4 @@
-use Rattle.std.proofs.Common.{◌≡◌, ◌≤◌, ℕ, List, length, IsTrue}
+use Rattle.std.proofs.Common.{◌≡◌, ◌≤◌, length, IsTrue}
 use Rattle.enip_keep.specs.Kept.{Kept}
 use Rattle.enip_keep.specs.Server.{IsReady}
 use Rattle.enip_keep.specs.Lives.{AreAfter, IsKeptAfter}
