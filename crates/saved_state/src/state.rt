@@ -87,9 +87,12 @@ impl<'a> SavedState<'a> {
     pub fn find(&self, key: u64) -> Option<&'a [u8]>
         ensures { option_copied result ≡ kept_under key self.now.entries }
     {
-        self.entries()
-            .find(|entry| entry.key == key)
-            .map(|entry| entry.bytes)
+        for entry in self.entries() {
+            if entry.key == key {
+                return Some(entry.bytes);
+            }
+        }
+        None
     }
 }
 
