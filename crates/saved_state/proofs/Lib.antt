@@ -1,3 +1,5 @@
 pub mod NumberLemmas
 pub mod EntryLemmas
 pub mod ReadLemmas
+pub mod EntryRows
+pub mod SpelledLemmas
