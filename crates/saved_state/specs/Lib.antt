@@ -2,3 +2,4 @@ pub mod Numbers
 pub mod Checksum
 pub mod States
 pub mod Reading
+pub mod Writing

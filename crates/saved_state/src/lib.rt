@@ -15,9 +15,9 @@ mod fault;
 pub mod laws;
 mod numbers;
 mod state;
-
+mod writing;
 
 pub use entry::{Entries, EntryView};
 pub use fault::{StateFault, WriteFault};
 pub use state::SavedState;
-
+pub use writing::{EntryList, EntrySource, saved_size, write};
