@@ -3,3 +3,4 @@ pub mod EntryLemmas
 pub mod ReadLemmas
 pub mod EntryRows
 pub mod SpelledLemmas
+pub mod WriteLemmas
