@@ -129,10 +129,11 @@ fn write_state<S: EntrySource>(source: &S, generation: u64, buffer: &mut [u8])
     requires limit { size (S.entries source.now) < 2 ^ 32 }
     ensures { buffer.new ≡ spelled (record { generation = generation; entries = S.entries source.now }) }
 {
-    let end = buffer.len() - CHECKSUM;
+    let size = buffer.len();
+    let end = size - CHECKSUM;
     put_ulint(buffer, 0, MARK);
     put_udint(buffer, 8, VERSION);
-    put_udint(buffer, 12, buffer.len() as u32);
+    put_udint(buffer, 12, size as u32);
     put_ulint(buffer, 16, generation);
     put_udint(buffer, 24, source.count() as u32);
     write_entries(source, &mut buffer[HEAD..end]);
