@@ -4,3 +4,4 @@ pub mod ReadLemmas
 pub mod EntryRows
 pub mod SpelledLemmas
 pub mod WriteLemmas
+pub mod LawLemmas

@@ -1,10 +1,11 @@
 -- Numbers of four and of eight bytes, and their bytes.
 use Rattle.std.proofs.Common.{◌≡◌, ℕ, zero, suc, ◌+◌, ◌-◌, ◌*◌, ◌/◌, ◌%◌, ◌^◌, ◌<◌, ◌≤◌, List, [], ◌∷◌, ◌++◌, length, take, drop, slice_index, codes, refl, sym, ap, ◌∙◌, arith, add-zero, length-take, length-drop, append-nil, lit<}
 use Rattle.std.proofs.Math.Nat.{mod-lt}
+use Rattle.std.proofs.Math.Seq.{take-append_seam}
 use Rattle.std.proofs.lemmas.List.{drop-drop, drop_at, take_at, take-append-drop}
 use Rattle.std.specs.Int.{byte_at, bytes_low_first}
 use Rattle.byteorder.specs.Endian.{little_from, little_number}
-use Rattle.byteorder.specs.Numbers.{length-bytes_low_first, little_number-reads_back, little_from-lt, little_from-cons, little_from-append}
+use Rattle.byteorder.specs.Numbers.{length-bytes_low_first, little_number-reads_back, little_from-lt, little_from-cons, little_from-append, little_from-take}
 use Rattle.cip_bytes.specs.Numbers.{le, number_at, AreBytes}
 use Rattle.cip_bytes.proofs.Bytes.{number_behind, rest_slice, AreBytes-drop, AreBytes-take, AreBytes-tail}
 use Rattle.saved_state.specs.Numbers.{udint, ulint, udint_at, ulint_at}
@@ -131,3 +132,16 @@ ulint_part k b fits long =
 pub mark_spelled : ulint 0x54504b49424d4f53 ≡ codes "SOMBIKPT"
 unfolding ulint
 mark_spelled = refl
+
+-- bytes behind a number do not change it
+number_at-append : (n k : ℕ) (xs ys : List ℕ) → k + n ≤ length xs → little_from k n (xs ++ ys) ≡ little_from k n xs
+number_at-append n k xs ys h =
+    sym (little_from-take k n (length xs) (xs ++ ys) h) ∙ ap (little_from k n) (take-append_seam xs ys)
+
+pub udint_at-append : (k : ℕ) (xs ys : List ℕ) → k + 4 ≤ length xs → udint_at k (xs ++ ys) ≡ udint_at k xs
+unfolding udint_at
+udint_at-append k xs ys h = number_at-append 4 k xs ys h
+
+pub ulint_at-append : (k : ℕ) (xs ys : List ℕ) → k + 8 ≤ length xs → ulint_at k (xs ++ ys) ≡ ulint_at k xs
+unfolding ulint_at
+ulint_at-append k xs ys h = number_at-append 8 k xs ys h

@@ -69,28 +69,28 @@ headed text e =
       sized = omega arith;
     }
 
-fails : (b : Bool) (x y : Option StateFault) → b ≡ false → (if b then x else y) ≡ y
+pub fails : (b : Bool) (x y : Option StateFault) → b ≡ false → (if b then x else y) ≡ y
 fails true x y e = absurd cc
 fails false x y e = refl
 
-holds : (b : Bool) (x y : Option StateFault) → b ≡ true → (if b then x else y) ≡ x
+pub holds : (b : Bool) (x y : Option StateFault) → b ≡ true → (if b then x else y) ≡ x
 holds true x y e = refl
 holds false x y e = absurd cc
 
-marked : (text : List ℕ) → 8 ≤ length text → ulint_at 0 text ≡ MARK
+pub marked : (text : List ℕ) → 8 ≤ length text → ulint_at 0 text ≡ MARK
     → (nat_lt (length text) 8 || not (ulint_at 0 text == MARK)) ≡ false
 marked text long mark = grind (arith, nat_tests)
 
-is_below : (a b : ℕ) → a < b → nat_lt a b ≡ true
+pub is_below : (a b : ℕ) → a < b → nat_lt a b ≡ true
 is_below a b h = grind (arith, nat_tests)
 
-is_not_below : (a b : ℕ) → b ≤ a → nat_lt a b ≡ false
+pub is_not_below : (a b : ℕ) → b ≤ a → nat_lt a b ≡ false
 is_not_below a b h = grind (arith, nat_tests)
 
-is_same : (a b : ℕ) → a ≡ b → not (a == b) ≡ false
+pub is_same : (a b : ℕ) → a ≡ b → not (a == b) ≡ false
 is_same a b h = grind (arith, nat_tests)
 
-both_false : (a b : Bool) → a ≡ false → b ≡ false → (a || b) ≡ false
+pub both_false : (a b : Bool) → a ≡ false → b ≡ false → (a || b) ≡ false
 both_false a b p q = rw p q
 
 pub head_right : (text : List ℕ) → Headed text → head_fault text ≡ None
@@ -196,7 +196,7 @@ spells text fits e =
 -- ---- a state is read as it was spelled
 
 -- a state's bytes, field by field
-fields : (s : State) → spelled s
+pub fields : (s : State) → spelled s
     ≡ ulint MARK ++ (udint 1 ++ (udint (size s.entries) ++ (ulint s.generation ++ (udint (length s.entries)
     ++ (entries s.entries ++ ulint (checksum (body s)))))))
 fields s =
@@ -205,7 +205,7 @@ fields s =
     ∙ append_assoc _ (entries s.entries) (ulint (checksum (body s)))
     ∙ sym (regroup (ulint MARK) (udint 1) (udint (size s.entries)) (ulint s.generation) (udint (length s.entries)) _)
 
-first_two : (a b r : List ℕ) → a ++ (b ++ r) ≡ (a ++ b) ++ r
+pub first_two : (a b r : List ℕ) → a ++ (b ++ r) ≡ (a ++ b) ++ r
 first_two a b r = simp append_assoc
 
 first_three : (a b c r : List ℕ) → a ++ (b ++ (c ++ r)) ≡ (a ++ (b ++ c)) ++ r
