@@ -1,17 +1,16 @@
 -- The laws of states.
-use Rattle.std.proofs.Common.{◌≡◌, ◌≢◌, Option, Some, None, Bool, true, false, not, ◌||◌, ◌==◌, nat_lt, if◌then◌else◌, Ok, Err, ℕ, ◌+◌, ◌-◌, ◌^◌, ◌<◌, ◌≤◌, List, [], ◌∷◌, ◌++◌, length, take, drop, codes, refl, sym, ap, ◌∙◌, inl, inr, arith, append_assoc, append-nil, length-append, lit<}
+use Rattle.std.proofs.Common.{◌≡◌, ◌≢◌, Option, Some, Bool, true, false, not, ◌||◌, ◌==◌, nat_lt, if◌then◌else◌, Ok, ℕ, ◌+◌, ◌-◌, ◌^◌, ◌<◌, ◌≤◌, List, [], ◌++◌, length, codes, refl, sym, ap, ◌∙◌, inl, inr, arith, append_assoc, append-nil, length-append, lit<}
 use Rattle.std.proofs.lemmas.List.{take_at}
 use Rattle.std.proofs.lemmas.Bool.{cases_lt}
 use Rattle.std.proofs.lemmas.Bool.Decides.{nat_tests}
-use Rattle.std.proofs.Math.Seq.{take-append_seam}
 use Rattle.saved_state.specs.declared.fault.StateFault.{StateFault}
 use Rattle.saved_state.specs.declared.fault.StateFault.TheVariants.{NotAState, Version, Cut, TooLong, Checksum}
 use Rattle.saved_state.specs.Checksum.{checksum}
-use Rattle.saved_state.specs.Numbers.{udint, ulint, udint_at, ulint_at}
+use Rattle.saved_state.specs.Numbers.{udint, ulint, ulint_at}
 use Rattle.saved_state.specs.States.{State, IsState, entries, size, body, spelled}
-use Rattle.saved_state.specs.Reading.{MARK, version_in, size_in, body_in, checksum_in, head_fault, content_fault, entries_fault, count_in, entries_in, fault_of, first_of, state_of}
+use Rattle.saved_state.specs.Reading.{MARK, version_in, size_in, body_in, checksum_in, head_fault, content_fault, fault_of, first_of, state_of}
 use Rattle.saved_state.proofs.NumberLemmas.{length-udint, length-ulint, udint_field, ulint_field, udint_at-append, ulint_at-append, mark_spelled}
-use Rattle.saved_state.proofs.SpelledLemmas.{Headed, Fields, fields_of, fields, head_right, length-spelled, length-body, fails, holds, marked, is_below, is_not_below, is_same, both_false, read_again_lem, first_two}
+use Rattle.saved_state.proofs.SpelledLemmas.{Fields, fields_of, fields, head_right, length-spelled, length-body, fails, holds, marked, is_below, is_not_below, is_same, both_false, read_again_lem}
 
 ok_is : (s t : State) → ◌≡◌ {A = Rattle.std.specs.declared.result.Result.TheVariants.the_data State StateFault} (Ok s) (Ok t) → s ≡ t
 ok_is s t e = cc

@@ -1,5 +1,5 @@
 -- What reading gives, from what its steps found.
-use Rattle.std.proofs.Common.{◌≡◌, ℕ, ◌+◌, ◌-◌, ◌==◌, not, if◌then◌else◌, List, length, take, drop, Option, Some, None, Ok, Err, refl, sym, ap, ◌∙◌, arith}
+use Rattle.std.proofs.Common.{◌≡◌, ℕ, ◌-◌, ◌==◌, not, if◌then◌else◌, List, length, take, drop, Option, Some, None, Ok, Err, sym, ap, ◌∙◌, arith}
 use Rattle.std.proofs.lemmas.Bool.Decides.{nat_tests}
 use Rattle.cip_bytes.proofs.Bytes.{rest_slice}
 use Rattle.saved_state.specs.declared.fault.StateFault.{StateFault}

@@ -1,15 +1,15 @@
 -- Bytes that spell a state, and bytes that spell none.
 use Rattle.std.specs.Prelude.{◌↔◌}
-use Rattle.std.proofs.Common.{◌≡◌, ◌⊎◌, inl, inr, Option, Some, None, Bool, true, false, not, ◌||◌, ◌==◌, nat_lt, if◌then◌else◌, Result, Ok, Err, ℕ, zero, suc, ◌+◌, ◌-◌, ◌*◌, ◌%◌, ◌^◌, ◌<◌, ◌≤◌, List, [], ◌∷◌, ◌++◌, length, take, drop, codes, fold, bit_xor, refl, sym, ap, subst, ◌∙◌, arith, append_assoc, append-nil, length-append, length-take, length-drop, lit<}
+use Rattle.std.proofs.Common.{◌≡◌, Option, Some, None, Bool, true, false, not, ◌||◌, ◌==◌, nat_lt, if◌then◌else◌, Result, Ok, Err, ℕ, ◌+◌, ◌-◌, ◌*◌, ◌^◌, ◌<◌, ◌≤◌, List, [], ◌∷◌, ◌++◌, length, take, drop, fold, bit_xor, refl, sym, ap, subst, ◌∙◌, arith, append_assoc, append-nil, length-append, length-take, length-drop, lit<}
 use Rattle.std.proofs.Math.Nat.{mod-lt}
-use Rattle.std.proofs.lemmas.List.{take-append-drop, take-take, take_at, drop_at, drop-drop, drop_all}
+use Rattle.std.proofs.lemmas.List.{take-append-drop, take-take, take_at, drop_at, drop_all}
 use Rattle.std.proofs.lemmas.Bool.Decides.{nat_tests}
 use Rattle.cip_bytes.specs.Numbers.{AreBytes}
 use Rattle.cip_bytes.proofs.Bytes.{AreBytes-drop, AreBytes-take}
 use Rattle.saved_state.specs.declared.fault.StateFault.{StateFault}
 use Rattle.saved_state.specs.declared.fault.StateFault.TheVariants.{NotAState, Version, Cut, TooLong, Checksum}
 use Rattle.saved_state.specs.Checksum.{hashed, checksum}
-use Rattle.saved_state.specs.Numbers.{udint, ulint, udint_at, ulint_at}
+use Rattle.saved_state.specs.Numbers.{udint, ulint, ulint_at}
 use Rattle.saved_state.specs.States.{Entry, State, entries, size, head, body, spelled, IsState}
 use Rattle.saved_state.specs.Reading.{MARK, version_in, size_in, generation_in, count_in, body_in, entries_in, checksum_in, state_in}
 use Rattle.saved_state.specs.Reading.{first_entries, head_fault, content_fault, entries_fault, fault_of, first_of, unless, state_of}
@@ -317,17 +317,15 @@ Spells text s = IsState s × (text ≡ spelled s)
 pub read_iff : (text : List ℕ) (result : Result State StateFault) (s : State) → AreBytes text → result ≡ state_of text
     → (result ≡ Ok s) ↔ (IsState s × (text ≡ spelled s))
 unfolding Spells
-read_iff text result s fits is =
-    (
-      (λ e. let both = unless_ok (fault_of text) (state_in text) s (sym is ∙ e) in
-        subst (Spells text) both.1 (spells text fits both.0)),
-      (λ h. is ∙ ap state_of h.1 ∙ read_again_lem s h.0),
-    )
+read_iff text result s fits is = (
+  (λ e. let both = unless_ok (fault_of text) (state_in text) s (sym is ∙ e) in
+      subst (Spells text) both.1 (spells text fits both.0)),
+  (λ h. is ∙ ap state_of h.1 ∙ read_again_lem s h.0),
+)
 
 pub refused_iff : (text : List ℕ) (result : Result State StateFault) (fault : StateFault) → result ≡ state_of text
     → (result ≡ Err fault) ↔ (fault_of text ≡ Some fault)
-refused_iff text result fault is =
-    (
-      (λ e. unless_err (fault_of text) (state_in text) fault (sym is ∙ e)),
-      (λ h. is ∙ ap (λ f. unless f (state_in text)) h),
-    )
+refused_iff text result fault is = (
+  (λ e. unless_err (fault_of text) (state_in text) fault (sym is ∙ e)),
+  (λ h. is ∙ ap (λ f. unless f (state_in text)) h),
+)

@@ -1,5 +1,5 @@
 -- Writing part after part.
-use Rattle.std.proofs.Common.{◌≡◌, ◌⊎◌, inl, inr, ℕ, ◌+◌, ◌-◌, ◌^◌, ◌<◌, ◌≤◌, List, [], ◌∷◌, ◌++◌, length, take, drop, get_or, refl, sym, ap, ◌∙◌, arith, append_assoc, append-nil, length-append, length-take, length-drop}
+use Rattle.std.proofs.Common.{◌≡◌, ℕ, ◌+◌, ◌-◌, ◌<◌, ◌≤◌, List, [], ◌∷◌, ◌++◌, length, take, drop, refl, sym, ap, ◌∙◌, arith, append_assoc, append-nil, length-append, length-take, length-drop}
 use Rattle.std.proofs.lemmas.Grind.{flat_map-append}
 use Rattle.std.proofs.lemmas.List.{take_at, take_all, take_more, take-append-drop, drop-drop, drop_all}
 use Rattle.std.proofs.lemmas.Slice.{take-put_mid}
@@ -7,7 +7,7 @@ use borrow.Rule.Slice.PartMut.{put_mid, post_of}
 use Rattle.cip_bytes.proofs.Bytes.{rest_slice}
 use Rattle.saved_state.specs.Checksum.{checksum}
 use Rattle.saved_state.specs.Numbers.{udint, ulint}
-use Rattle.saved_state.specs.States.{Entry, State, entry, entries, size, head, body, spelled}
+use Rattle.saved_state.specs.States.{Entry, State, entry, entries, size, body, spelled}
 use Rattle.saved_state.specs.Reading.{MARK}
 use Rattle.saved_state.specs.Writing.{entry_number}
 use Rattle.saved_state.proofs.NumberLemmas.{length-udint, length-ulint, mark_spelled}
@@ -88,10 +88,10 @@ pub size_more : (i n len : ℕ) (es : List Entry) → i < length es → n ≡ le
     → len ≡ length (entry_number i es).bytes → n + 12 + len ≡ length (entries (take (i + 1) es))
 size_more i n len es below e l =
     omega (
-    arith,
-    ap length (entries_more i es below),
-    length-append (entries (take i es)) (entry (entry_number i es)),
-    length-entry (entry_number i es),
+      arith,
+      ap length (entries_more i es below),
+      length-append (entries (take i es)) (entry (entry_number i es)),
+      length-entry (entry_number i es),
     )
 
 pub size_within : (i n len : ℕ) (es : List Entry) → i < length es → n ≡ length (entries (take i es))
@@ -155,9 +155,9 @@ state_written s old n1 n2 n3 n4 n5 n6 n7 written end sum total count p1 p2 p3 p4
     let sums : sum ≡ checksum (body s)
     = c ∙ ap (λ k. checksum (take k n6)) (sym body_long) ∙ ap checksum (b6.is ∙ is_body) in
     whole n7 _ b7 (long ∙ omega (
-    arith,
-    body_long,
-    length-append (((((ulint MARK ++ udint 1) ++ udint total) ++ ulint s.generation) ++ udint count) ++ written) (ulint sum),
-    length-ulint sum,
+      arith,
+      body_long,
+      length-append (((((ulint MARK ++ udint 1) ++ udint total) ++ ulint s.generation) ++ udint count) ++ written) (ulint sum),
+      length-ulint sum,
     ))
     ∙ ap (λ b. b ++ ulint sum) is_body ∙ ap (λ k. body s ++ ulint k) sums

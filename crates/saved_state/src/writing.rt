@@ -10,8 +10,8 @@ ghost use Rattle.saved_state.specs.Writing.{entry_number, entries_refusal, write
 use crate::checksum::checksum;
 use crate::entry::{ENTRY_HEAD, EntryView, KEY_END};
 use crate::fault::WriteFault;
-use crate::state::{CHECKSUM, HEAD, MARK, VERSION};
 use crate::numbers::{put_udint, put_ulint};
+use crate::state::{CHECKSUM, HEAD, MARK, VERSION};
 
 /// The most bytes of the entries of a state.
 const ENTRIES_LIMIT: usize = u32::MAX as usize - HEAD - CHECKSUM;

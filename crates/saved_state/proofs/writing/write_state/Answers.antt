@@ -1,4 +1,4 @@
-use Rattle.std.proofs.Common.{refl, arith, ◌∙◌}
+use Rattle.std.proofs.Common.{refl, arith}
 use Rattle.saved_state.specs.States.{State}
 use Rattle.saved_state.proofs.EntryRows.{count_below}
 use Rattle.saved_state.proofs.WriteLemmas.{state_written}
