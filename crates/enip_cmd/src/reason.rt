@@ -99,7 +99,7 @@ pub(crate) enum Reason<'a> {
     #[error("{0}: the device has not executed the command yet")]
     StillPending(&'a str),
     /// The device does not know whether it executed the command.
-    #[error("{0}: the device does not know whether it executed the command, until its owner settles that")]
+    #[error("{0}: the device does not know whether it executed the command, and its owner has to settle that")]
     InDoubt(&'a str),
     /// Memory was refused.
     #[error("out of memory")]
