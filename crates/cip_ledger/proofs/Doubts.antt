@@ -1,17 +1,17 @@
 -- Commands in doubt: their answers, and what settling them does.
-use Rattle.std.proofs.Common.{◌≡◌, ◌≢◌, inl, ℕ, ◌+◌, ◌≤◌, ◌<◌, ◌==◌, ◌&&◌, nat_lt, nat_le, not, Bool, true, false, if◌then◌else◌, Option, Some, None, unwrap_or, List, [], ◌∷◌, length, refl, ap, sym, ◌∙◌, subst, arith}
+use Rattle.std.proofs.Common.{◌≡◌, inl, inr, ℕ, ◌+◌, ◌≤◌, ◌<◌, ◌==◌, ◌&&◌, not, Bool, true, false, if◌then◌else◌, Option, Some, None, unwrap_or, List, [], ◌∷◌, length, refl, ap, sym, ◌∙◌, subst, arith}
 use Rattle.std.specs.Prelude.{option_map, is_some}
 use Rattle.std.proofs.lemmas.Bool.{eq-eqb, eqb-true, eqb-false, le-ltb, and_parts}
 use Rattle.cip_ledger.specs.declared.router.LedgerRouter.{LedgerRouter}
 use Rattle.cip_ledger.specs.declared.service.TheConstants as services
-use Rattle.cip_ledger.specs.Doubt.{is_doubtful, is_in_doubt_at, is_in_doubt, is_kept_reply, can_settle, with_last, settled}
+use Rattle.cip_ledger.specs.Doubt.{is_in_doubt_at, is_in_doubt, is_kept_reply, can_settle, with_last, settled}
 use Rattle.cip_ledger.specs.DoubtLaws.{IsGiven}
 use Rattle.cip_ledger.specs.Laws.{UntilFreed}
 use Rattle.cip_ledger.specs.Ledger.{LedgerState, SlotState, slot_of}
 use Rattle.cip_ledger.specs.Requests.{LedgerRequest, Command, ledger_request}
 use Rattle.cip_ledger.specs.Runs.{Request, slot_in, command_by, command_given, turn_at, journal}
-use Rattle.cip_ledger.specs.Services.{Action, Replies, success, within, reply_to, last_content, IN_DOUBT, DONE, HEAD_SIZE, do_command, do_by_slot, do_new, action_of}
-use Rattle.cip_ledger.specs.Turn.{Fate, Served, fate, fate_of, turn_of, turn_by}
+use Rattle.cip_ledger.specs.Services.{Replies, success, within, reply_to, last_content, IN_DOUBT, DONE, HEAD_SIZE, do_command, do_by_slot, action_of}
+use Rattle.cip_ledger.specs.Turn.{Served, fate, fate_of, turn_of, turn_by}
 use Rattle.cip_ledger.proofs.SlotLemmas.{slot_of-with_slot, slot_of-with_other}
 use Rattle.cip_ledger.proofs.Answered.{gives}
 use Rattle.cip_ledger.proofs.Executions.{new_request}
@@ -113,6 +113,28 @@ settled-numbers ledger originator number reply any = go (can_settle ledger origi
     go true is =
         after_settling (originator == any) refl
         (and_parts (is_kept_reply reply) (is_in_doubt ledger originator number) is).1
+
+-- ---- what was settled stays so if a command is settled
+
+by_number : (number : ℕ) (kept : Option (List ℕ)) (new old : Option SlotState) →
+    option_map (λ (slot : SlotState). slot.number) new ≡ option_map (λ (slot : SlotState). slot.number) old →
+    Settled number kept old → (other : Option (List ℕ)) × Settled number other new
+by_number number kept new None same is = absurd is
+by_number number kept None (Some old) same is = absurd (cc)
+by_number number kept (Some new) (Some old) same is =
+    let equal : new.number ≡ old.number = ap (λ o. unwrap_or o new.number) same in
+    (new.reply, go equal is)
+  where
+    go : new.number ≡ old.number → Settled number kept (Some old) → Settled number new.reply (Some new)
+    go equal (inl both) = inl (equal ∙ both.0, refl)
+    go equal (inr greater) = inr (omega (arith, equal, greater))
+
+pub settled-stays : (ledger : LedgerState) (by given : ℕ) (reply : List ℕ) (originator number : ℕ) (kept : Option (List ℕ)) →
+    Settled number kept (slot_of originator ledger.taken) →
+    (other : Option (List ℕ)) × Settled number other (slot_of originator (settled ledger by given reply).taken)
+settled-stays ledger by given reply originator number kept is =
+    by_number number kept (slot_of originator (settled ledger by given reply).taken) (slot_of originator ledger.taken)
+    (settled-numbers ledger by given reply originator) is
 
 -- ---- the laws
 

@@ -282,12 +282,16 @@ impl Ledger {
             return;
         };
         let [first, second, third, fourth] = slot.number().to_le_bytes();
-        let (state, kept) = match slot.reply() {
-            Some(kept) => (DONE, kept),
-            None => (IN_DOUBT, &[]),
-        };
-        let front = [first, second, third, fourth, state];
-        answer(GET_LAST, &front, kept, max_size, reply);
+        match slot.reply() {
+            Some(kept) => {
+                let front = [first, second, third, fourth, DONE];
+                answer(GET_LAST, &front, kept, max_size, reply);
+            }
+            None => {
+                let front = [first, second, third, fourth, IN_DOUBT];
+                answer(GET_LAST, &front, &[], max_size, reply);
+            }
+        }
     }
 
     /// Forget: frees the slot of an originator, if its last command has this number.
