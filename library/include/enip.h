@@ -450,11 +450,12 @@ enum {
 
 /* What enip_once_receive learned about the pending command. */
 enum {
-    ENIP_ONCE_NOTHING = 0,  /* no command is pending */
-    ENIP_ONCE_DONE = 1,     /* the command was executed, once; it is not pending any more */
-    ENIP_ONCE_PENDING = 2,  /* the device has taken the command and not executed it yet */
-    ENIP_ONCE_REFUSED = 3,  /* the device refused the command; it is still pending */
-    ENIP_ONCE_MALFORMED = 4 /* not a reply to a command; it is still pending */
+    ENIP_ONCE_NOTHING = 0,   /* no command is pending */
+    ENIP_ONCE_DONE = 1,      /* the command was executed, once; it is not pending any more */
+    ENIP_ONCE_PENDING = 2,   /* the device has taken the command and not executed it yet */
+    ENIP_ONCE_REFUSED = 3,   /* the device refused the command; it is still pending */
+    ENIP_ONCE_MALFORMED = 4, /* not a reply to a command; it is still pending */
+    ENIP_ONCE_IN_DOUBT = 5   /* the device does not know whether it executed the command; it is still pending */
 };
 
 /* The result of enip_once_receive. */

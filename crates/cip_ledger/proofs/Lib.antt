@@ -4,6 +4,7 @@ pub mod Fates
 pub mod Settled
 pub mod Answered
 pub mod Executions
+pub mod Doubts
 pub mod Lives
 pub mod Forms
 pub mod Words

@@ -1,11 +1,12 @@
--- The command ledger's state: for each originator the greatest number that was executed, and its reply.
+-- The command ledger's state: for each originator the greatest number that was executed or is in doubt, and its reply.
 use Rattle.std.specs.Prelude.{ℕ, ◌==◌, if◌then◌else◌, Option, List, [], ◌∷◌, find, filter, not}
 
--- an originator's slot: the last of its commands that was executed, and the reply to it
+-- an originator's slot: the last of its commands, and the reply to it; without a reply the command is in doubt, that is,
+-- the device does not know whether it was executed
 pub record SlotState : Type 0 where
   pub originator : ℕ
   pub number : ℕ
-  pub reply : List ℕ
+  pub reply : Option (List ℕ)
 
 -- how many slots there are, the number of the device's life, and the slots that are taken, one for each originator
 pub record LedgerState : Type 0 where

@@ -9,7 +9,9 @@ pub mod Turn
 pub mod Verdicts
 pub mod Views
 pub mod TooLarge
+pub mod Doubt
 pub mod Laws
+pub mod DoubtLaws
 pub mod Runs
 pub mod Reaching
 pub mod Device

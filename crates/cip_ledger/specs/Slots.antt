@@ -20,7 +20,7 @@ pub record HasSlots (limit : ℕ) (taken : Vec SlotState) : Type 0 where
 -- the slot at an index keeps this reply
 pub record IsKeptAt (taken : List SlotState) (index : ℕ) (reply : List ℕ) : Type 0 where
   pub there : index < length taken
-  pub is : (default : SlotState) → (slice_index_or taken index default).reply ≡ reply
+  pub is : (default : SlotState) → (slice_index_or taken index default).reply ≡ Some reply
 
 -- an originator has no slot, and a new one goes behind all others
 pub record IsMissing (taken : List SlotState) (originator : ℕ) : Type 0 where

@@ -20,6 +20,7 @@
 #![tactic(auto)]
 
 mod attributes;
+mod doubt;
 pub mod laws;
 mod ledger;
 mod reply;
@@ -30,6 +31,7 @@ mod slot;
 mod slots;
 mod status;
 
+pub use doubt::DoubtfulCommand;
 pub use ledger::Ledger;
 pub use request::LEDGER;
 pub use router::LedgerRouter;
