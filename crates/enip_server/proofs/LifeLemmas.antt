@@ -31,7 +31,7 @@ use Rattle.enip_server.proofs.TransferLemmas.{MovesBy, moves_by_then, moves_by_w
 use Rattle.enip_server.proofs.RoundMoves.{round_moves, sound_round, other_goes_on}
 
 -- what a list holds at an index after another index was set
-get_set_other : {X : Type 0} → (xs : List X) (i j : ℕ) (x : X) → i ≢ j → slice_get (slice_set xs i x) j ≡ slice_get xs j
+pub get_set_other : {X : Type 0} → (xs : List X) (i j : ℕ) (x : X) → i ≢ j → slice_get (slice_set xs i x) j ≡ slice_get xs j
 get_set_other [] i j x differs = refl
 get_set_other (y ∷ ys) zero zero x differs = absurd (differs refl)
 get_set_other (y ∷ ys) zero (suc j) x differs = refl
@@ -39,7 +39,7 @@ get_set_other (y ∷ ys) (suc i) zero x differs = refl
 get_set_other (y ∷ ys) (suc i) (suc j) x differs = get_set_other ys i j x (λ same. differs (ap suc same))
 
 -- and at that index, if it exists
-get_set_same : {X : Type 0} → (xs : List X) (i : ℕ) (x y : X) → slice_get xs i ≡ Some y
+pub get_set_same : {X : Type 0} → (xs : List X) (i : ℕ) (x y : X) → slice_get xs i ≡ Some y
     → slice_get (slice_set xs i x) i ≡ Some x
 get_set_same [] i x y there = cc
 get_set_same (z ∷ zs) zero x y there = refl
@@ -52,7 +52,7 @@ got (y ∷ ys) (suc i) d x there = got ys i d x there
 
 module _ {W : Type 0} where
   -- the first free slot is not one that holds a peer
-  free_elsewhere : (slots : List (Option (PeerIo W))) (free slot : ℕ) (io : PeerIo W) → first_free slots ≡ Some free
+  pub free_elsewhere : (slots : List (Option (PeerIo W))) (free slot : ℕ) (io : PeerIo W) → first_free slots ≡ Some free
       → slice_get slots slot ≡ Some (Some io) → free ≢ slot
   free_elsewhere slots free slot io is there same =
       let none : is_none (get_or slots free (Some io)) ≡ true
