@@ -4,6 +4,7 @@ ghost use Rattle.std.specs.Prelude.{◌≡◌, ◌≤◌, [], ◌∷◌, length,
 ghost use Rattle.std.specs.Option.{option_map};
 ghost use Rattle.cip_objects.specs.OwnRequests.{asked_in};
 ghost use Rattle.cip_owner.specs.Replies.{Reply};
+ghost use Rattle.enip_adapter.specs.Asks.{asks_of_call};
 ghost use Rattle.enip_adapter.specs.Calls.{Call, after_call};
 ghost use Rattle.enip_c.specs.OwnerCalls.{asks_kept, returned_asked, is_unfit, prepared_status};
 ghost use Rattle.enip_c.specs.OwnerCalls.{IsFedPrepared, IsFedPreparedKept};
@@ -57,12 +58,27 @@ pub extern "C" fn enip_core_adapter_asked(
         ≡ returned_asked (asks_kept kept.old.value (Call.Feeds now peer piece.now)) asked.old buffer.old }
 {
     let mut adapter = kept.take(alloc);
-    let status = match adapter.asked(now, &Peer::of(peer), piece) {
-        Some(request) => return_asked(request.lent(), buffer, asked),
-        None => Status::Absent.number(),
-    };
+    let status = asked_by(&mut adapter, now, peer, piece, buffer, asked);
     *kept = KeptAdapter::of(adapter);
     status
+}
+
+fn asked_by(
+    adapter: &mut Adapter,
+    now: u64,
+    peer: u32,
+    piece: &[u8],
+    buffer: &mut [u8],
+    asked: &mut CAsked,
+) -> u32
+    ensures state { adapter.new ≡ after_call adapter.old (Call.Ticks now) }
+    ensures returned { record { status = result; asked = asked.new; buffer = buffer.new }
+        ≡ returned_asked (asks_of_call adapter.old (Call.Feeds now peer piece.now)) asked.old buffer.old }
+{
+    match adapter.asked(now, &Peer::of(peer), piece) {
+        Some(request) => return_asked(request, buffer, asked),
+        None => Status::Absent.number(),
+    }
 }
 
 /// Copies a request to the owner to the buffer and to `asked`. If the data do not fit, nothing changes.
