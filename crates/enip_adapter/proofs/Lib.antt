@@ -27,4 +27,5 @@ pub mod AskLemmas
 pub mod OwnerLemmas
 pub mod AskedLemmas
 pub mod WrittenLemmas
+pub mod SettleLemmas
 pub mod RouteLemmas
