@@ -47,6 +47,7 @@ use Rattle.enip_adapter.proofs.DeviceLemmas.{objects-end, events-end, commands-o
 use Rattle.enip_adapter.proofs.ListLemmas.{both}
 use Rattle.enip_adapter.proofs.PeerLemmas.{at_state}
 use Rattle.enip_adapter.proofs.WrittenLemmas.{own-alike}
+use Rattle.enip_adapter.proofs.SettleLemmas.{Reaches, written-reaches}
 
 -- ---- at most one
 
@@ -247,11 +248,12 @@ one-asked a now peer piece =
 
 -- ---- what is asked does not depend on what is prepared or written
 
-reached-alike : (device other : Device) (requests : List Request) → other.ledger ≡ device.ledger
+reached-alike : (device other : Device) (requests : List Request)
+    → ((request : Request) → Reaches request other.ledger device.ledger)
     → reached_of other requests ≡ reached_of device requests
 reached-alike device other [] e = refl
 reached-alike device other (request ∷ requests) e =
-    ap (λ ledger. reached_by objects_after objects_answer (fate ledger request.0 request.1) request ++ []) e
+    ap (λ requests. requests ++ []) (e request)
 
 asks-within : (write : OwnWrite) (owned : OwnedState) (limit : ℕ) (text : List ℕ) → HadValue owned.objects write
     → asks (objects_written write owned).objects limit text ≡ asks owned.objects limit text
@@ -272,7 +274,8 @@ pub asked-alike : (a : AdapterState) (write : OwnWrite) (now peer : ℕ) (piece 
 asked-alike a write now peer piece had =
     feed-asks (after_call a (Writes write)) now peer piece
     ∙ (ap (asks_of (objects_written write (owned_in a)).objects)
-    (reached-alike a.state.shared.objects (device_written write a.state.shared.objects) (feed_requests a now peer piece) refl)
+    (reached-alike a.state.shared.objects (device_written write a.state.shared.objects) (feed_requests a now peer piece)
+    (λ request. written-reaches write a.state.shared.objects.ledger request))
     ∙ (asks-alike write (owned_in a) (feed_reached a now peer piece) had ∙ sym (feed-asks a now peer piece)))
 
 -- ---- a repeat
@@ -402,7 +405,7 @@ given-feed a now peer piece asked reply e fit =
     feed-objects (with_reply a (Some reply)) now peer piece
     ∙ (ap (λ requests. objects_after_steps (with_given (owned_in a).objects reply) (map Requested requests))
     (reached-alike a.state.shared.objects (with_reply a (Some reply)).state.shared.objects
-    (feed_requests a now peer piece) refl)
+    (feed_requests a now peer piece) (λ request. refl))
     ∙ given-few (owned_in a).objects (feed_reached a now peer piece) asked reply (few-feed a now peer piece)
     (sym (feed-asks a now peer piece) ∙ e) fit)
 

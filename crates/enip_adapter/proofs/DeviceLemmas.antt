@@ -47,6 +47,7 @@ use Rattle.enip_adapter.specs.Turn.{State, Event, TurnResult, turn, begun, end_f
 use Rattle.enip_adapter.specs.Turn.Event.{Begin, End, At, Framed, Long, Written}
 use Rattle.enip_adapter.proofs.EventLemmas.{state-events}
 use Rattle.enip_adapter.proofs.ListLemmas.{both}
+use Rattle.enip_adapter.proofs.SettleLemmas.{written-settled}
 
 -- The device after these requests.
 abbrev Ends : Device → Device → List Request → Type 0
@@ -307,7 +308,8 @@ above-steps (Requested request ∷ steps) device originator number reply settled
     (λ kept. above-steps steps (device_after_step device (Requested request)) originator number reply
     (settled-run objects_after objects_answer (request ∷ []) device originator number reply settled kept))
 above-steps (WrittenBy write ∷ steps) device originator number reply settled =
-    above-steps steps (device_written write device) originator number reply settled
+    let after = written-settled write device.ledger originator number reply settled in
+    above-steps steps (device_written write device) originator number after.0 after.1
 
 rises-by : (f : Fate) (device : Device) (request : Request) (steps : List DeviceStep) → Means device.ledger request f
     → Rises (journal_by_steps (next_by objects_after objects_answer f device request) steps)

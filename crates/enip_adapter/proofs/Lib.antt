@@ -27,5 +27,6 @@ pub mod AskLemmas
 pub mod OwnerLemmas
 pub mod AskedLemmas
 pub mod WrittenLemmas
+pub mod SettleLemmas
 pub mod RouteLemmas
 pub mod NothingAskedLemmas

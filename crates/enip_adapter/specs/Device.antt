@@ -1,5 +1,6 @@
 -- What the device itself does with its adapter, apart from its peers' frames.
 use Rattle.std.specs.Prelude.{Option}
+use Rattle.cip_ledger.specs.Ledger.{LedgerState}
 use Rattle.cip_objects.specs.Contents.{Contents}
 use Rattle.cip_owner.specs.Owned.{OwnedState}
 use Rattle.cip_owner.specs.Replies.{Reply}
@@ -12,6 +13,15 @@ with_router a owned =
     record a {
       state = record a.state {
         shared = record a.state.shared { objects = record a.state.shared.objects { router = owned } };
+      };
+    }
+
+-- The adapter with another ledger, or none, and all else unchanged.
+abbrev pub with_ledger : AdapterState → Option LedgerState → AdapterState
+with_ledger a ledger =
+    record a {
+      state = record a.state {
+        shared = record a.state.shared { objects = record a.state.shared.objects { ledger = ledger } };
       };
     }
 

@@ -1,21 +1,24 @@
--- What the device itself writes, apart from the frames of its peers: values of its objects, and the next reply of its
--- owner.
-use Rattle.std.specs.Prelude.{ℕ, ◌==◌, ◌&&◌, if◌then◌else◌, List, Option, unwrap_or}
+-- What the device itself writes, apart from the frames of its peers: values of its objects, the next reply of its owner,
+-- and the reply to a command in doubt.
+use Rattle.std.specs.Prelude.{ℕ, ◌==◌, ◌&&◌, Bool, false, if◌then◌else◌, List, Option, Some, None, option_map, unwrap_or}
 use Rattle.cip_bytes.specs.declared.protocol.TheConstants.{ASSEMBLY}
 use Rattle.cip_ledger.specs.Device.{Device}
+use Rattle.cip_ledger.specs.Doubt.{can_settle, settled}
+use Rattle.cip_ledger.specs.Ledger.{LedgerState}
 use Rattle.cip_objects.specs.Contents.{Contents}
 use Rattle.cip_objects.specs.DeviceWrites.{device_write, object_write, with_device_status, with_device_state}
 use Rattle.cip_owner.specs.Owned.{OwnedState}
 use Rattle.cip_owner.specs.Replies.{Reply}
 
--- Bytes of an assembly's data or of an attribute, from an offset on; the device's status, or its state; or the reply
--- that the next request to the owner takes.
+-- Bytes of an assembly's data or of an attribute, from an offset on; the device's status, or its state; the reply that
+-- the next request to the owner takes; or the reply with which an originator's command in doubt is settled.
 pub data OwnWrite : Type 0 where
   WritesData : (instance offset : ℕ) → (bytes : List ℕ) → OwnWrite
   WritesAttribute : (class instance attribute offset : ℕ) → (bytes : List ℕ) → OwnWrite
   SetsStatus : (status : ℕ) → OwnWrite
   SetsState : (state : ℕ) → OwnWrite
   Prepares : (reply : Option Reply) → OwnWrite
+  Settles : (originator number : ℕ) → (reply : List ℕ) → OwnWrite
 
 -- The objects after the device wrote bytes into an attribute, from an offset on. The attribute is the data of an
 -- assembly or an attribute of an application object. None if it is neither, or if its value cannot hold the bytes.
@@ -38,7 +41,26 @@ objects_written (WritesAttribute class instance attribute offset bytes) owned =
 objects_written (SetsStatus status) owned = with_contents owned (with_device_status owned.objects status)
 objects_written (SetsState state) owned = with_contents owned (with_device_state owned.objects state)
 objects_written (Prepares reply) owned = record owned { prepared = reply }
+objects_written (Settles originator number reply) owned = owned
 
--- The device after it. A ledger does not change.
+-- The ledger after it, if there is one. Only settling a command changes it.
+abbrev pub ledger_written : OwnWrite → Option LedgerState → Option LedgerState
+ledger_written (WritesData instance offset bytes) ledger = ledger
+ledger_written (WritesAttribute class instance attribute offset bytes) ledger = ledger
+ledger_written (SetsStatus status) ledger = ledger
+ledger_written (SetsState state) ledger = ledger
+ledger_written (Prepares reply) ledger = ledger
+ledger_written (Settles originator number reply) ledger =
+    option_map (λ ledger. settled ledger originator number reply) ledger
+
+-- Whether a command of the ledger, if there is one, can be settled with this reply.
+abbrev pub can_settle_in : Option LedgerState → ℕ → ℕ → List ℕ → Bool
+can_settle_in None originator number reply = false
+can_settle_in (Some ledger) originator number reply = can_settle ledger originator number reply
+
+-- The device after it.
 abbrev pub device_written : OwnWrite → Device → Device
-device_written write device = record device { router = objects_written write device.router }
+device_written write device = record {
+  ledger = ledger_written write device.ledger;
+  router = objects_written write device.router;
+}

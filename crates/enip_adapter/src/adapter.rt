@@ -12,12 +12,13 @@ ghost use Rattle.cip_manager.specs.Connection.{earliest_deadline, has_id};
 ghost use Rattle.cip_manager.specs.ConnectionInfo.{connection_info};
 ghost use Rattle.enip_adapter.specs.Turn.{session_of, sent};
 ghost use Rattle.cip_ledger.specs.Device.{device_of};
+ghost use Rattle.cip_ledger.specs.Doubt.{settled};
 ghost use Rattle.cip_objects.specs.Changes.{changes_of, changes_at};
 ghost use Rattle.cip_objects.specs.DeviceWrites.{device_write, with_device_status, with_device_state};
 ghost use Rattle.cip_objects.specs.ObjectMap.{key};
 ghost use Rattle.enip_adapter.specs.Adapter.{full_number, feed_output};
-ghost use Rattle.enip_adapter.specs.Device.{with_objects, with_prepared};
-ghost use Rattle.enip_adapter.specs.OwnWrites.{OwnWrite, attribute_write};
+ghost use Rattle.enip_adapter.specs.Device.{with_objects, with_prepared, with_ledger};
+ghost use Rattle.enip_adapter.specs.OwnWrites.{OwnWrite, attribute_write, can_settle_in};
 ghost use Rattle.enip_adapter.specs.Replies.{written};
 ghost use Rattle.enip_adapter.specs.Discovery.{discovered};
 
@@ -415,6 +416,28 @@ impl Adapter {
         ensures call { self.new ≡ after_call self.old (Call.Writes (OwnWrite.Prepares reply)) }
     {
         self.shared.objects.router.prepared = reply;
+    }
+
+    /// Settles a command in doubt of the command ledger: a repeat of it gets this reply from now on. `reply` is the whole
+    /// reply that its embedded request should have had. The ledger lists the commands in doubt (`Ledger::in_doubt`).
+    ///
+    /// Returns `false`, and changes nothing, if the adapter has no ledger, if this command of this originator is not in
+    /// doubt, or if the reply does not have 4 to 480 bytes. Nothing else of the adapter changes.
+    ///
+    /// ```
+    /// adapter.settle(originator, number, &[0xb2, 0, 0, 0]); // the machine did move
+    /// ```
+    pub fn settle(&mut self, originator: u64, number: u32, reply: &[u8]) -> bool
+        ensures written { self.new ≡ with_ledger self.old (option_map
+            (λ ledger. settled ledger originator number reply.now) self.old.state.shared.objects.ledger) }
+        ensures told { result
+            ≡ can_settle_in self.old.state.shared.objects.ledger originator number reply.now }
+        ensures call { self.new ≡ after_call self.old (Call.Writes (OwnWrite.Settles originator number reply.now)) }
+    {
+        match &mut self.shared.objects.ledger {
+            Some(ledger) => ledger.settle(originator, number, reply),
+            None => false,
+        }
     }
 
     /// The reply that the next request to the owner takes, if one is prepared.
