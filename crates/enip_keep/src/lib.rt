@@ -25,10 +25,12 @@ mod device;
 mod entry;
 mod keeper;
 mod lives;
+mod memory;
 mod server;
 
 pub use device::Device;
 pub use entry::{Entry, KeepError};
 pub use keeper::{Keeper, Restart};
 pub use lives::{Event, live};
+pub use memory::MemoryKeeper;
 pub use server::Server;

@@ -19,6 +19,10 @@ pub struct Server<D: Device + Drop, K: Keeper + Drop> {
 
 impl<D: Device + Drop, K: Keeper + Drop> Server<D, K> {
     /// Loads what is kept, makes the device from it, and keeps what the start has changed.
+    ///
+    /// # Errors
+    ///
+    /// `Memory` if memory is refused. `Storage` if the storage fails. `Refused` if the device refuses what is kept.
     pub fn start(
         alloc: Global,
         mut keeper: K,
@@ -29,6 +33,8 @@ impl<D: Device + Drop, K: Keeper + Drop> Server<D, K> {
         ensures serving { IfOk result (λ s. IsTrue s.is_serving) }
         ensures contents { IfOk result (λ s. K.doubt s.keeper ≡ 0
             → D.contents s.device ≡ D.started configuration.now (K.kept keeper)) }
+        ensures cause { IfErr result (λ e. (after : K) × (K.doubt keeper ≤ K.doubt after) × (K.doubt after ≡ 0
+            → IsStartCause (D.refuses configuration.now (K.kept keeper)) (K.faults keeper) (K.faults after) e)) }
         ensures doubt { IfOk result (λ s. K.doubt keeper ≤ K.doubt s.keeper) }
     {
         let device = start_device(alloc, &mut keeper, configuration)?;

@@ -37,6 +37,7 @@ puts_then a b c ps qs h k =
       is_open = k.is_open ∙ h.is_open;
       committed = k.committed ∙ h.committed;
       shape = k.shape ∙ h.shape;
+      reals = k.reals ∙ h.reals;
     }
 
 pub calm_then : {S : Type 0} (view : S → View) (faults : S → ℕ) (recovers : S → Trees → Type 0) (a b c : S) → IsCalm view faults recovers a b → IsCalm view faults recovers b c → IsCalm view faults recovers a c
@@ -123,6 +124,7 @@ commits old mid new ps up puts did =
         sound = ap (λ (v : View). v.is_broken) did.is ∙ did.sound;
         same = trees ∙ sym committed;
         shape = ap (λ (v : View). v.shape 0) did.is ∙ ap (λ (shape : ℕ → Shape). shape 0) puts.shape ∙ up.shape;
+        reals = ap (λ (v : View). v.reals 0) did.is ∙ ap (λ (reals : ℕ → ℕ). reals 0) puts.reals ∙ up.reals;
         ours = ours;
       },
       ap (λ (t : Trees). pairs_in (t 0)) committed ∙ put_pairs old mid ps up puts,
@@ -150,13 +152,14 @@ all_ours (e ∷ es) = (refl, all_ours es)
 
 -- a store whose rows were read is at rest
 pub at_rest : (old new : View) (all : List Entry) → Looks old new → old.is_broken ≡ false → (old.is_open ≡ false → IsTrue old.is_broken) → (IsTrue old.is_open → old.trees ≡ old.committed)
-    → old.shape 0 ≡ kinds.Table → map (λ e. row_of (pair_of e)) all ≡ old.trees 0 → IsAtRest new
-at_rest old new all looks sound shut same shape rows =
+    → old.shape 0 ≡ kinds.Table → old.reals 0 ≡ 0 → map (λ e. row_of (pair_of e)) all ≡ old.trees 0 → IsAtRest new
+at_rest old new all looks sound shut same shape reals rows =
     let is_open : IsTrue old.is_open = open_if_sound old old.is_open refl sound shut in
     record {
       is_open = subst (λ (v : View). IsTrue v.is_open) (sym looks) is_open;
       sound = ap (λ (v : View). v.is_broken) looks ∙ sound;
       same = ap (λ (v : View). v.trees) looks ∙ same is_open ∙ sym (ap (λ (v : View). v.committed) looks);
       shape = ap (λ (v : View). v.shape 0) looks ∙ shape;
+      reals = ap (λ (v : View). v.reals 0) looks ∙ reals;
       ours = subst (AllByRecursion IsOurs) (rows ∙ sym (ap (λ (v : View). v.trees 0) looks)) (all_ours all);
     }

@@ -15,6 +15,7 @@ pub record IsAtRest (v : View) : Type 0 where
   pub sound : v.is_broken ≡ false
   pub same : v.trees ≡ v.committed
   pub shape : v.shape 0 ≡ kinds.Table
+  pub reals : v.reals 0 ≡ 0
   pub ours : AllByRecursion IsOurs (v.trees 0)
 
 -- the pairs are put, and nothing is committed
@@ -24,6 +25,7 @@ pub record Puts (old new : View) (pairs : Kept) : Type 0 where
   pub is_open : new.is_open ≡ old.is_open
   pub committed : new.committed ≡ old.committed
   pub shape : new.shape ≡ old.shape
+  pub reals : new.reals ≡ old.reals
 
 -- no doubt and no fault is forgotten, and a crash has no new outcome
 pub record IsCalm {S : Type 0} (view : S → View) (faults : S → ℕ) (recovers : S → Trees → Type 0) (old new : S) : Type 0 where
@@ -39,3 +41,7 @@ Looks old new = new ≡ record old { cursors = new.cursors }
 abbrev pub Gives : View → View → Option Entry → Type 0
 Gives old new None = old.cursors 0 ≡ Some []
 Gives old new (Some entry) = (rest : List Row) × (old.cursors 0 ≡ Some (row_of (pair_of entry) ∷ rest)) × (new.cursors 0 ≡ Some rest)
+
+-- the row at the cursor is not one that this keeper writes
+abbrev pub IsForeignAt : View → Type 0
+IsForeignAt v = (row : Row) × (rest : List Row) × (v.cursors 0 ≡ Some (row ∷ rest)) × (¬ IsOurs row)

@@ -1,11 +1,12 @@
-// Reads the rows, and finds whether this keeper wrote them.
-ghost use Rattle.std.specs.Prelude.{◌≡◌, ◌≤◌, pos, false, map, List, IfOk, OnOk, IfSome, IsSome};
+//! Reads the rows, and finds out whether this keeper wrote them.
+ghost use Rattle.std.specs.Prelude.{◌≡◌, ◌≤◌, pos, false, map, List, IsTrue, IfOk, IfErr, OnOk, IfSome, IfNone, IsSome};
 ghost use Rattle.std.specs.List.{AllByRecursion};
 ghost use Rattle.sqlite_trees.specs.View.{IsClean};
 ghost use Rattle.sqlite_trees.specs.declared.store.Shape.TheVariants as kinds;
 ghost use Rattle.enip_keep.specs.Kept.{pair_of, pairs_of};
 ghost use Rattle.enip_keep_sqlite.specs.Pairs.{row_of, pair_in, pairs_in, IsOurs};
-ghost use Rattle.enip_keep_sqlite.specs.Rows.{IsCalm, Looks, Gives};
+ghost use Rattle.enip_keep_sqlite.specs.Rows.{IsCalm, Looks, Gives, IsForeignAt};
+ghost use Rattle.enip_keep_sqlite.specs.Causes.{IsRowCause};
 
 use crate::write::keep_error;
 use enip_keep::{Entry, KeepError};
@@ -14,10 +15,13 @@ use sqlite_value::row::Row;
 use sqlite_value::value::ValueRef;
 use std::alloc::{AllocError, Global};
 
+/// The cursor that reads them.
 const CURSOR: u16 = 0;
 
+/// The entry that is stored as this row. `None` if this keeper does not write such a row.
 fn entry_in(alloc: Global, row: &Row) -> Result<Option<Entry>, AllocError>
-    ensures { IfOk result (λ found. IfSome found (λ entry. row.now ≡ row_of (pair_of entry))) }
+    ensures ours { IfOk result (λ found. IfSome found (λ entry. row.now ≡ row_of (pair_of entry))) }
+    ensures foreign { IfOk result (λ found. IfNone found (¬ IsOurs row.now)) }
 {
     if row.len() != 3 {
         return Ok(None);
@@ -34,7 +38,7 @@ fn entry_in(alloc: Global, row: &Row) -> Result<Option<Entry>, AllocError>
     }
 }
 
-/// The entry at the cursor, or none at the end. A row that this keeper doesn't write is refused.
+/// The entry at the cursor, which then moves on. `None` at the end. A row that this keeper does not write is refused.
 fn next_entry<S: Store>(
     alloc: Global,
     store: &mut S,
@@ -44,6 +48,8 @@ fn next_entry<S: Store>(
     ensures live { OnOk result (IsSome ((S.view store.new).cursors 0)) }
     ensures ok { IsClean (S.view store.new) → IfOk result (Gives (S.view store.old) (S.view store.new)) }
     ensures looks { IsClean (S.view store.new) → OnOk result (Looks (S.view store.old) (S.view store.new)) }
+    ensures cause { IsClean (S.view store.new) → IfErr result (IsRowCause (IsTrue (S.view store.old).is_broken)
+        (IsForeignAt (S.view store.old)) (S.faults store.old) (S.faults store.new)) }
     ensures calm { IsCalm S.view S.faults S.recovers store.old store.new }
 {
     match store.next(CURSOR, row) {
@@ -57,12 +63,15 @@ fn next_entry<S: Store>(
     }
 }
 
+/// Places the cursor at the first row.
 fn start<S: Store>(alloc: Global, store: &mut S) -> Result<(), KeepError>
     requires shape { IsClean (S.view store.old) → (S.view store.old).shape 0 ≡ kinds.Table }
     ensures live { OnOk result (IsSome ((S.view store.new).cursors 0)) }
     ensures ok { IsClean (S.view store.new) → OnOk result ((S.view store.new).cursors 0 ≡ Some ((S.view store.old).trees 0)) }
     ensures looks { IsClean (S.view store.new) → OnOk result (Looks (S.view store.old) (S.view store.new)) }
     ensures sound { IsClean (S.view store.new) → OnOk result ((S.view store.old).is_broken ≡ false) }
+    ensures cause { IsClean (S.view store.new) → IfErr result
+        (IsRowCause (IsTrue (S.view store.old).is_broken) ⊥ (S.faults store.old) (S.faults store.new)) }
     ensures calm { IsCalm S.view S.faults S.recovers store.old store.new }
 {
     let first = Row::new(alloc);
@@ -72,12 +81,14 @@ fn start<S: Store>(alloc: Global, store: &mut S) -> Result<(), KeepError>
     }
 }
 
-/// All entries, in the order of their keys. A table with a row that this keeper doesn't write is refused.
+/// All entries, in the order of their keys. A table with a row that this keeper does not write is refused.
 pub(crate) fn read_all<S: Store>(alloc: Global, store: &mut S) -> Result<Vec<Entry>, KeepError>
     requires shape { IsClean (S.view store.old) → (S.view store.old).shape 0 ≡ kinds.Table }
     ensures rows { IsClean (S.view store.new) → IfOk result (λ all. map (λ e. row_of (pair_of e)) all.items ≡ (S.view store.old).trees 0) }
     ensures looks { IsClean (S.view store.new) → OnOk result (Looks (S.view store.old) (S.view store.new)) }
     ensures sound { IsClean (S.view store.new) → OnOk result ((S.view store.old).is_broken ≡ false) }
+    ensures cause { IsClean (S.view store.new) → IfErr result (IsRowCause (IsTrue (S.view store.old).is_broken)
+        (¬ AllByRecursion IsOurs ((S.view store.old).trees 0)) (S.faults store.old) (S.faults store.new)) }
     ensures calm { IsCalm S.view S.faults S.recovers store.old store.new }
 {
     start(alloc, store)?;
@@ -89,5 +100,6 @@ pub(crate) fn read_all<S: Store>(alloc: Global, store: &mut S) -> Result<Vec<Ent
         };
         all.push(entry)?;
     }
-    Err(KeepError::Foreign)
+    // no memory holds as many
+    Err(KeepError::Memory)
 }

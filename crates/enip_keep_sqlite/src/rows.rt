@@ -1,4 +1,4 @@
-// The keeper.
+//! The keeper.
 ghost use Rattle.std.specs.Prelude.{◌≡◌, ◌≤◌, ℕ, List, IsTrue, IfOk, OnOk};
 ghost use Rattle.sqlite_trees.specs.Tree.{Trees};
 ghost use Rattle.sqlite_trees.specs.View.{doubt, IsClean};
@@ -14,15 +14,20 @@ use enip_keep::{Entry, KeepError, Keeper, Restart};
 use sqlite_trees::store::{Reopen, Store};
 use std::alloc::Global;
 
-/// Keeps entries as the rows of the first table of a store.
+/// Keeps entries as the rows of the first table of a store, in a transaction for each commit.
 #[derive(Drop)]
 pub struct Rows<S: Store + Drop> {
-    pub store: S,
-    pub alloc: Global,
+    store: S,
+    alloc: Global,
 }
 
 impl<S: Store + Drop> Rows<S> {
-    /// Over a store in which nothing is under way. It refuses one that holds something else.
+    /// A keeper over a store in which no transaction is open.
+    ///
+    /// # Errors
+    ///
+    /// `Foreign` if the first table has a row that is not an entry, or if there is no table. `Storage` if the storage
+    /// fails. `Memory` if memory is refused.
     pub fn over(alloc: Global, store: S) -> Result<Rows<S>, KeepError>
         requires same { IsClean (S.Store.view store) → IsTrue (S.Store.view store).is_open → (S.Store.view store).trees ≡ (S.Store.view store).committed }
         ensures up { IfOk result (λ k. IsClean (S.Store.view k.store) → IsAtRest (S.Store.view k.store)) }

@@ -9,4 +9,5 @@ returns-clause-rest g c clean =
     let old = g.S.Store.view c.args.store.now in
     let sure : IsClean old = omega (arith, clean, c.read_all.ensures.calm.clean) in
     let shape : old.shape 0 ≡ kinds.Table = search rules in
-    at_rest old (g.S.Store.view c.read_all.new.store) c.in_ok-read_all.field-0.items (c.in_ok-read_all.ensures.looks clean) (c.in_ok-read_all.ensures.sound clean) (g.met.S.Store.broken_if_shut c.args.store.now) (c.requires.same sure) shape (c.in_ok-read_all.ensures.rows clean)
+    let reals : old.reals 0 ≡ 0 = search rules in
+    at_rest old (g.S.Store.view c.read_all.new.store) c.in_ok-read_all.field-0.items (c.in_ok-read_all.ensures.looks clean) (c.in_ok-read_all.ensures.sound clean) (g.met.S.Store.broken_if_shut c.args.store.now) (c.requires.same sure) shape reals (c.in_ok-read_all.ensures.rows clean)
