@@ -1,9 +1,8 @@
 -- Rounds over wires that hold back what is written to them, and releases.
-use Rattle.std.proofs.Common.{◌≡◌, ◌≢◌, ◌<◌, ◌≤◌, ℕ, zero, suc, List, [], ◌∷◌, ◌++◌, slice_get, Bool, true, false}
-use Rattle.std.proofs.Common.{ltb, ltb-true, ltb-false, Option, Some, None, refl, sym, ap, subst, ◌∙◌, arith}
+use Rattle.std.proofs.Common.{◌≡◌, ◌≢◌, ◌<◌, ◌≤◌, ℕ, zero, suc, List, [], ◌∷◌, slice_get, Bool, true, false}
+use Rattle.std.proofs.Common.{ltb, ltb-true, ltb-false, Option, Some, None, refl, sym, ap, subst, ◌∙◌}
 use Rattle.std.proofs.KnownBytes.{append_known-moved}
 use Rattle.std.specs.Option.{option_map}
-use Rattle.std.specs.Io.KnownBytes.{Appends, Keeps, append_known}
 use Rattle.cip_objects.specs.OwnRequests.{Asked}
 use Rattle.cip_owner.specs.Replies.{Reply}
 use Rattle.enip_adapter.specs.Calls.{AdapterState, after_call}
@@ -12,12 +11,11 @@ use Rattle.enip_server.specs.declared.held_wire.HeldWire.{HeldWire}
 use Rattle.enip_server.specs.declared.peer_io.PeerIo.{PeerIo}
 use Rattle.enip_server.specs.declared.wire_counts.WireCounts.{WireCounts}
 use Rattle.enip_server.specs.Wires.{KnownCalls, with_asked, with_shut}
-use Rattle.enip_server.specs.PeerStates.{PeerState, peer_state_of, IsFlushed, AreFed, IsFetched, IsServed, IsDiscarded, IsTurn}
-use Rattle.enip_server.specs.PeerStates.{fed_once}
+use Rattle.enip_server.specs.PeerStates.{PeerState, peer_state_of, AreFed, IsFetched, IsServed, IsDiscarded, IsTurn}
 use Rattle.enip_server.specs.PeerStates.AreFed.{None_fed, One_more_fed}
-use Rattle.enip_server.specs.Rounds.{ServerState, TakesTurn, IsServedPeer, IsServedAt, IsLeft, IsSlotServed}
+use Rattle.enip_server.specs.Rounds.{ServerState, IsServedPeer, IsServedAt, IsLeft, IsSlotServed}
 use Rattle.enip_server.specs.Rounds.{AreSlotsServed, IsRound, timeout_at}
-use Rattle.enip_server.specs.Held.{held_written, IsReleased, IsPeerReleased, IsSlotReleased, AreSlotsReleased, AreReleased}
+use Rattle.enip_server.specs.Held.{held_known, held_written, IsPeerReleased, IsSlotReleased, AreSlotsReleased, AreReleased}
 use Rattle.enip_server.specs.Runs.{IsStill, IsStillAt, AreStill, IsStep}
 use Rattle.enip_server.specs.Runs.IsStep.{Releases}
 use Rattle.enip_server.proofs.TurnMoves.{not_out}
@@ -138,10 +136,10 @@ round_released left written known counts answer next now slot first last old new
     slots_released left written known counts answer next now old.idle_timeout first (after_call old.adapter (Ticks now))
     old.slots last new.adapter new.slots round.places slot io after there stays
 
-pub same_released : (a b : Option (List ℕ)) (first last : KnownCalls) → first.released ≡ a → last.released ≡ b
-    → released (Some last) ≡ released (Some first) → b ≡ a
-same_released a b first last is_first is_last same =
-    let found : last.released ≡ first.released = cc in sym is_last ∙ found ∙ is_first
+pub same_released : {W : Type 0} (written : W → Option (List ℕ)) (first last : HeldWire W)
+    → released (held_known written last) ≡ released (held_known written first)
+    → written last.wire ≡ written first.wire
+same_released written first last same = cc
 
 -- ---- a release
 

@@ -1,16 +1,15 @@
 -- A release of one wire.
-use Rattle.std.proofs.Common.{◌≡◌, ◌≢◌, ◌<◌, ℕ, List, [], ◌++◌, length, take, drop, Bool, true, false, Option, Some, None}
+use Rattle.std.proofs.Common.{◌≡◌, ◌<◌, ℕ, List, [], ◌++◌, length, take, drop, Bool, true, false, Option, None}
 use Rattle.std.proofs.Common.{refl, sym, ap, subst, ◌∙◌, take-append-drop}
 use Rattle.std.proofs.KnownBytes.{Appends-nil}
 use Rattle.std.specs.Io.KnownBytes.{Appends}
-use Rattle.std.specs.Prelude.{IfSome}
 use Rattle.enip_server.specs.declared.held_wire.HeldWire.{HeldWire}
 use Rattle.enip_server.specs.declared.peer_io.Turn.{Turn}
 use Rattle.enip_server.specs.declared.peer_io.Turn.TheVariants.{More, UntilReadable, UntilWritable, Finished}
 use Rattle.enip_server.specs.declared.wire_counts.WireCounts.{WireCounts}
 use Rattle.enip_server.specs.contracts.peer_io.Turn.{the_type}
-use Rattle.enip_server.specs.Held.{IsReleased, IsStopped, Stops}
-use Rattle.enip_server.specs.PeerStates.{IsCutShort, IsWaiting}
+use Rattle.enip_server.specs.Held.{IsReleased, Stops}
+use Rattle.enip_server.specs.PeerStates.{IsCutShort}
 use Rattle.enip_server.specs.Wires.{KnownCalls}
 use Rattle.enip_server.proofs.FlushLemmas.{waits_here}
 use denote.Enum.Bare.{sameb}

@@ -109,9 +109,7 @@ module _ {W : Type 0} (left written : W → Option (List ℕ)) where
   round_sends_nothing : (now : ℕ) (old new : ServerState (HeldWire W)) → IsHeldRound left written now old new
       → SendsNothing written old new
   round_sends_nothing now old new round slot io after there stays =
-      same_released (written io.wire.wire) (written after.wire.wire)
-      (record { asked = io.wire.asked; is_shut = io.wire.is_shut; released = written io.wire.wire })
-      (record { asked = after.wire.asked; is_shut = after.wire.is_shut; released = written after.wire.wire }) refl refl
+      same_released written io.wire after.wire
       (round_released (λ w. left w.wire) (held_written written) (held_known written) (λ w. w.counts) no_answer
       same_nobody now slot nobody nobody old new io after round there stays)
 
