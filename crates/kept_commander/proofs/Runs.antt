@@ -1,15 +1,15 @@
 -- What follows from a run.
-use Rattle.std.proofs.Common.{◌≡◌, ◌⊎◌, inl, inr, ℕ, Bool, true, false, ◌+◌, ◌<◌, ◌≤◌, Option, None, Some, option_map, unwrap_or, List, [], ◌∷◌, ◌++◌, All, AllPairs, slice_index_or, ⊤, refl, sym, ap, subst, ◌∙◌, arith}
-use Rattle.std.specs.Option.{ForSome}
+use Rattle.std.proofs.Common.{◌≡◌, ◌⊎◌, inl, inr, ℕ, Bool, true, false, ◌<◌, Option, None, Some, option_map, unwrap_or, List, [], ◌∷◌, ◌++◌, All, AllPairs, slice_index_or, refl, sym, ap, subst, ◌∙◌, arith}
+use Rattle.std.specs.Prelude.{⊤}
 use Rattle.std.proofs.lemmas.List.Elements.{All-cons, All-nil, All-head, All-tail}
 use Rattle.std.proofs.lemmas.List.Kept.{AllPairs-cons}
 use Rattle.cip_commander.specs.Outcome.{Outcome, Done, StillPending, Refused, Malformed, NotPending, outcome_of_text}
 use Rattle.cip_commander.specs.declared.refusal.CommandRefused.{CommandRefused}
-use Rattle.cip_commander.specs.CommanderRule.{CommanderState, first_refusal, pending_message, outcome_at, after_outcome, after_reply, abandoned}
+use Rattle.cip_commander.specs.CommanderRule.{CommanderState, first_refusal, pending_message, outcome_at, after_outcome}
 use Rattle.kept_commander.specs.declared.lives.CommandEvent.{CommandEvent}
 use Rattle.kept_commander.specs.declared.lives.CommandEvent.TheVariants.{Give, Send, Accept, Abandon, Restart}
 use Rattle.kept_commander.specs.declared.lives.Sent.{Sent}
-use Rattle.kept_commander.specs.Lives.{IsMessageOf, IsOfPending, IsGiven, IsLost, IsStep, IsRun, IsLater, HasUsed, KeepsPending, IsNeverDropped}
+use Rattle.kept_commander.specs.Lives.{IsMessageOf, IsOfPending, IsStep, IsRun, IsLater, HasUsed, KeepsPending, IsNeverDropped}
 
 -- ---- one more event
 

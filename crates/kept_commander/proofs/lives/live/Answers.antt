@@ -1,6 +1,6 @@
-use Rattle.std.proofs.Common.{rules, ◌≡◌, true, [], ◌∷◌, ◌++◌, sym, subst, refl, ◌∙◌, arith, le_refl}
+use Rattle.std.proofs.Common.{◌≡◌, true, [], ◌∷◌, ◌++◌, sym, subst, refl, ◌∙◌, arith, le_refl}
 use Rattle.cip_commander.specs.CommanderRule.{CommanderState}
-use Rattle.kept_commander.specs.Lives.{IsRun, IsStep}
+use Rattle.kept_commander.specs.Lives.{IsRun, IsNeverDropped}
 use Rattle.kept_commander.proofs.Runs.{run-append, one-more, run-all_used, run-later, run-never_dropped}
 use Rattle.kept_commander.proofs.lives.live.Goals as goal
 
@@ -14,6 +14,7 @@ loop-event-init g c =
       is_finite = tt;
       ready = c.requires.ready;
       doubt = le_refl (k.doubt client.keeper);
+      never_dropped = λ clean last may. subst (λ ms. IsNeverDropped [] ms last) (sym c.requires.fresh) tt;
       one = λ clean. (first, subst (λ ms. IsRun [] ms first first) (sym c.requires.fresh) refl);
       run = λ clean last may.
           let kept = c.requires.ready clean c.requires.serving in
@@ -46,6 +47,8 @@ loop-event-preserved g c =
       doubt = omega (arith, before.invariant.doubt, c.happen.ensures.doubt);
       one = λ clean. subst (λ ms. (last : CommanderState) × IsRun (before.yielded ++ event ∷ []) ms first last) (sym pushed)
           (one-more before.yielded before.sent.items event sent first new.is_serving c.in_ok-handed_out.ensures.silent (serving clean) (before.invariant.one (sure clean)));
+      never_dropped = λ clean last may. subst (λ ms. IsNeverDropped (before.yielded ++ event ∷ []) ms last) (sym pushed)
+          (run-never_dropped (before.yielded ++ event ∷ []) (before.sent.items ++ sent ∷ []) first last (runs clean last may));
       run = λ clean last may. subst (λ ms. IsRun (before.yielded ++ event ∷ []) ms first last) (sym pushed) (runs clean last may);
     }
 
@@ -57,9 +60,3 @@ returns-clause-later g c = λ clean.
 pub returns-clause-used : goal.returns-clause-used
 returns-clause-used g c = λ clean last may.
     run-all_used c.loop-event.yielded c.loop-event.sent.items c.args.client.now.commander last (c.loop-event.invariant.run clean last may)
-
-pub returns-clause-never_dropped : goal.returns-clause-never_dropped
-returns-clause-never_dropped g c = λ clean last may.
-    let run : IsRun c.args.events.items c.loop-event.sent.items c.args.client.now.commander last =
-    let of = c.loop-event.invariant.run clean last may in search rules in
-    run-never_dropped c.args.events.items c.loop-event.sent.items c.args.client.now.commander last run

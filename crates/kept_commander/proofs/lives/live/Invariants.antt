@@ -1,7 +1,7 @@
 use Rattle.std.proofs.Common.{◌≡◌, ◌≤◌}
 use Rattle.cip_commander.specs.CommanderRule.{CommanderState}
 use Rattle.kept_commander.specs.Calls.{IsReady}
-use Rattle.kept_commander.specs.Lives.{IsRun}
+use Rattle.kept_commander.specs.Lives.{IsRun, IsNeverDropped}
 use Rattle.kept_commander.proofs.lives.live.Given as goal
 
 -- the events so far have a run, and one to each commander that a crash may leave
@@ -14,5 +14,6 @@ invariant-loop-event g l =
       ready : IsReady k.doubt k.is_up k.kept l.client;
       doubt : k.doubt l.fn.client.keeper ≤ k.doubt l.client.keeper;
       one : k.doubt l.client.keeper ≡ 0 → (c : CommanderState) × IsRun l.yielded l.sent.items l.fn.client.commander c;
+      never_dropped : k.doubt l.client.keeper ≡ 0 → (c : CommanderState) → k.may_leave l.client.keeper c → IsNeverDropped l.yielded l.sent.items c;
       run : k.doubt l.client.keeper ≡ 0 → (c : CommanderState) → k.may_leave l.client.keeper c → IsRun l.yielded l.sent.items l.fn.client.commander c;
     }
