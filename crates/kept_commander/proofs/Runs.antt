@@ -1,5 +1,5 @@
 -- What follows from a run.
-use Rattle.std.proofs.Common.{◌≡◌, ◌⊎◌, inl, inr, ℕ, Bool, true, false, ◌<◌, Option, None, Some, option_map, unwrap_or, List, [], ◌∷◌, ◌++◌, All, AllPairs, slice_index_or, refl, sym, ap, subst, ◌∙◌, arith}
+use Rattle.std.proofs.Common.{◌≡◌, ◌⊎◌, inl, inr, ℕ, Bool, true, false, ◌<◌, Option, None, Some, option_map, unwrap_or, List, [], ◌∷◌, ◌++◌, All, AllPairs, slice_index_or, refl, sym, ap, subst, subst₂, ◌∙◌, true≢false, arith}
 use Rattle.std.specs.Prelude.{⊤}
 use Rattle.std.proofs.lemmas.List.Elements.{All-cons, All-nil, All-head, All-tail}
 use Rattle.std.proofs.lemmas.List.Kept.{AllPairs-cons}
@@ -9,35 +9,41 @@ use Rattle.cip_commander.specs.CommanderRule.{CommanderState, first_refusal, pen
 use Rattle.kept_commander.specs.declared.lives.CommandEvent.{CommandEvent}
 use Rattle.kept_commander.specs.declared.lives.CommandEvent.TheVariants.{Give, Send, Accept, Abandon, Restart}
 use Rattle.kept_commander.specs.declared.lives.Sent.{Sent}
-use Rattle.kept_commander.specs.Lives.{IsMessageOf, IsOfPending, IsStep, IsRun, IsLater, HasUsed, KeepsPending, IsNeverDropped}
+use Rattle.kept_commander.specs.Lives.{IsMessageOf, IsOfPending, MayMake, IsStep, IsRun, IsLater, HasUsed, KeepsPending, IsNeverDropped}
 
 -- ---- one more event
 
-pub run-append : (es : List CommandEvent) (ms : List (Option Sent)) (e : CommandEvent) (m : Option Sent) (first before last : CommanderState)
-    → IsRun es ms first before → IsStep e m before last → IsRun (es ++ e ∷ []) (ms ++ m ∷ []) first last
-run-append [] [] e m first before last run step = (last, subst (λ c. IsStep e m c last) run step, refl)
-run-append [] (s ∷ ms) e m first before last run step = absurd run
-run-append (x ∷ es) [] e m first before last run step = absurd run
-run-append (x ∷ es) (s ∷ ms) e m first before last run step =
-    (run.0, run.1, run-append es ms e m run.0 before last run.2 step)
+pub run-append : (es : List CommandEvent) (ms : List (Option Sent)) (e : CommandEvent) (m : Option Sent)
+    (s t u : Bool) (first before last : CommanderState)
+    → IsRun es ms s first t before → IsStep e m t before u last → IsRun (es ++ e ∷ []) (ms ++ m ∷ []) s first u last
+run-append [] [] e m s t u first before last run step =
+    (u, last, subst₂ (λ r c. IsStep e m r c u last) run.0 run.1 step, (refl, refl))
+run-append [] (n ∷ ms) e m s t u first before last run step = absurd run
+run-append (x ∷ es) [] e m s t u first before last run step = absurd run
+run-append (x ∷ es) (n ∷ ms) e m s t u first before last run step =
+    (run.0, run.1, run.2, run-append es ms e m run.0 t u run.1 before last run.3 step)
 
 -- an event may be lost
-lost_step : (e : CommandEvent) (c : CommanderState) → IsStep e None c c
-lost_step (Give life request) c = inl (refl, refl)
-lost_step Send c = (refl, tt)
-lost_step (Accept reply) c = inl (refl, refl)
-lost_step Abandon c = inl (refl, refl)
-lost_step Restart c = (refl, refl)
+may_be_lost : (e : CommandEvent) (c : CommanderState) → MayMake e None c c
+may_be_lost (Give life request) c = inl (refl, refl)
+may_be_lost Send c = (refl, tt)
+may_be_lost (Accept reply) c = inl (refl, refl)
+may_be_lost Abandon c = inl (refl, refl)
+may_be_lost Restart c = (refl, refl)
+
+lost_step : (e : CommandEvent) (m : Option Sent) (s : Bool) (c : CommanderState) → m ≡ None → IsStep e m s c false c
+lost_step e m s c none = record {
+  may = subst (λ n. MayMake e n c c) (sym none) (may_be_lost e c);
+  does = λ serves. absurd (true≢false (sym serves));
+}
 
 -- one more event has a run: if the client serves after it, one to what is kept; else the event may be lost
-pub one-more : (es : List CommandEvent) (ms : List (Option Sent)) (e : CommandEvent) (m : Option Sent) (first : CommanderState) (serves : Bool)
-    → (serves ≡ false → m ≡ None) → (serves ≡ true → (last : CommanderState) × IsRun (es ++ e ∷ []) (ms ++ m ∷ []) first last)
-    → ((last : CommanderState) × IsRun es ms first last) → (last : CommanderState) × IsRun (es ++ e ∷ []) (ms ++ m ∷ []) first last
-one-more es ms e m first true silent run before = run refl
-one-more es ms e m first false silent run before = (
-    before.0,
-    run-append es ms e m first before.0 before.0 before.1 (subst (λ n. IsStep e n before.0 before.0) (sym (silent refl)) (lost_step e before.0)),
-)
+pub one-more : (es : List CommandEvent) (ms : List (Option Sent)) (e : CommandEvent) (m : Option Sent) (s t u : Bool) (first : CommanderState)
+    → (u ≡ false → m ≡ None) → (u ≡ true → (last : CommanderState) × IsRun (es ++ e ∷ []) (ms ++ m ∷ []) s first u last)
+    → ((last : CommanderState) × IsRun es ms s first t last) → (last : CommanderState) × IsRun (es ++ e ∷ []) (ms ++ m ∷ []) s first u last
+one-more es ms e m s t true first silent run before = run refl
+one-more es ms e m s t false first silent run before =
+    (before.0, run-append es ms e m s t false first before.0 before.0 before.1 (lost_step e m t before.0 (silent refl)))
 
 -- ---- one event
 
@@ -52,7 +58,7 @@ outcome_moves c (Refused status) = inl refl
 outcome_moves c Malformed = inl refl
 outcome_moves c NotPending = inl refl
 
-step_moves : (e : CommandEvent) (m : Option Sent) (a b : CommanderState) → IsStep e m a b → Moves a b
+step_moves : (e : CommandEvent) (m : Option Sent) (a b : CommanderState) → MayMake e m a b → Moves a b
 step_moves (Give life request) m a b (inl lost) = inl lost.0
 step_moves (Give life request) m a b (inr is) =
     inr (inl (subst (λ n. a.last_number < n) (sym (ap (λ c. c.last_number) is.taken)) (omega arith)))
@@ -67,7 +73,7 @@ of_nothing : (c : CommanderState) (m : Option Sent) → m ≡ None → IsOfPendi
 of_nothing c m none = subst (IsOfPending c) (sym none) tt
 
 -- what an event hands out is of the command that is pending after it
-step_sends : (e : CommandEvent) (m : Option Sent) (a b : CommanderState) → IsStep e m a b → IsOfPending b m
+step_sends : (e : CommandEvent) (m : Option Sent) (a b : CommanderState) → MayMake e m a b → IsOfPending b m
 step_sends (Give life request) m a b (inl lost) = of_nothing b m lost.1
 step_sends (Give life request) m a b (inr is) = is.message
 step_sends Send m a b step = subst (λ c. IsOfPending c m) (sym step.0) step.1
@@ -95,12 +101,12 @@ used_after a b (Some s) (inr (inr ended)) (inr last) =
     inr (last.0 ∙ sym ended.0, λ message is. absurd (no_message (sym (not_pending b ended.1) ∙ is)))
 
 
-run-used : (es : List CommandEvent) (ms : List (Option Sent)) (a b : CommanderState) (m : Option Sent) → IsRun es ms a b → HasUsed a m → HasUsed b m
-run-used [] [] a b m run used = subst (λ c. HasUsed c m) (sym run) used
-run-used [] (s ∷ ms) a b m run used = absurd run
-run-used (e ∷ es) [] a b m run used = absurd run
-run-used (e ∷ es) (s ∷ ms) a b m run used =
-    run-used es ms run.0 b m run.2 (used_after a run.0 m (step_moves e s a run.0 run.1) used)
+run-used : (es : List CommandEvent) (ms : List (Option Sent)) (p q : Bool) (a b : CommanderState) (m : Option Sent) → IsRun es ms p a q b → HasUsed a m → HasUsed b m
+run-used [] [] p q a b m run used = subst (λ c. HasUsed c m) (sym run.1) used
+run-used [] (s ∷ ms) p q a b m run used = absurd run
+run-used (e ∷ es) [] p q a b m run used = absurd run
+run-used (e ∷ es) (s ∷ ms) p q a b m run used =
+    run-used es ms run.0 q run.1 b m run.3 (used_after a run.1 m (step_moves e s a run.1 run.2.may) used)
 
 unwrapped : {X : Type 0} (x y : X) → Some x ≡ Some y → x ≡ y
 unwrapped x y is = ap (λ o. unwrap_or o x) is
@@ -110,14 +116,14 @@ used_of_pending c None is = tt
 used_of_pending c (Some s) is =
     inr (is.number, λ message pending. unwrapped message s.message.items (sym pending ∙ is.message))
 
-pub run-all_used : (es : List CommandEvent) (ms : List (Option Sent)) (a b : CommanderState) → IsRun es ms a b → All (HasUsed b) ms
-run-all_used [] [] a b run = All-nil (HasUsed b)
-run-all_used [] (s ∷ ms) a b run = absurd run
-run-all_used (e ∷ es) [] a b run = absurd run
-run-all_used (e ∷ es) (s ∷ ms) a b run =
+pub run-all_used : (es : List CommandEvent) (ms : List (Option Sent)) (p q : Bool) (a b : CommanderState) → IsRun es ms p a q b → All (HasUsed b) ms
+run-all_used [] [] p q a b run = All-nil (HasUsed b)
+run-all_used [] (s ∷ ms) p q a b run = absurd run
+run-all_used (e ∷ es) [] p q a b run = absurd run
+run-all_used (e ∷ es) (s ∷ ms) p q a b run =
     All-cons (HasUsed b) s ms
-    (run-used es ms run.0 b s run.2 (used_of_pending run.0 s (step_sends e s a run.0 run.1)))
-    (run-all_used es ms run.0 b run.2)
+    (run-used es ms run.0 q run.1 b s run.3 (used_of_pending run.1 s (step_sends e s a run.1 run.2.may)))
+    (run-all_used es ms run.0 q run.1 b run.3)
 
 -- ---- of two messages, the later one has a greater number, or is the same
 
@@ -139,16 +145,16 @@ from_before a b (Some s) (inr (inr ended)) (inl above) = inl (omega (arith, ende
 from_before a b (Some s) (inr (inr ended)) (inr last) =
     absurd (no_message (sym (not_pending b ended.1) ∙ last.message))
 
-run-all_from : (es : List CommandEvent) (ms : List (Option Sent)) (a b : CommanderState) → IsRun es ms a b → All (IsFrom a) ms
-run-all_from [] [] a b run = All-nil (IsFrom a)
-run-all_from [] (s ∷ ms) a b run = absurd run
-run-all_from (e ∷ es) [] a b run = absurd run
-run-all_from (e ∷ es) (s ∷ ms) a b run =
-    let moves = step_moves e s a run.0 run.1 in
-    let others = run-all_from es ms run.0 b run.2 in
+run-all_from : (es : List CommandEvent) (ms : List (Option Sent)) (p q : Bool) (a b : CommanderState) → IsRun es ms p a q b → All (IsFrom a) ms
+run-all_from [] [] p q a b run = All-nil (IsFrom a)
+run-all_from [] (s ∷ ms) p q a b run = absurd run
+run-all_from (e ∷ es) [] p q a b run = absurd run
+run-all_from (e ∷ es) (s ∷ ms) p q a b run =
+    let moves = step_moves e s a run.1 run.2.may in
+    let others = run-all_from es ms run.0 q run.1 b run.3 in
     All-cons (IsFrom a) s ms
-    (from_before a run.0 s moves (from_pending run.0 s (step_sends e s a run.0 run.1)))
-    (λ k d below. from_before a run.0 (slice_index_or ms k d) moves (others k d below))
+    (from_before a run.1 s moves (from_pending run.1 s (step_sends e s a run.1 run.2.may)))
+    (λ k d below. from_before a run.1 (slice_index_or ms k d) moves (others k d below))
 
 later : (c : CommanderState) (m n : Option Sent) → IsOfPending c m → IsFrom c n → IsLater m n
 later c None n is from = tt
@@ -158,16 +164,16 @@ later c (Some s) (Some t) is (inl above) =
 later c (Some s) (Some t) is (inr last) =
     (omega (arith, is.number, last.number), λ same. unwrapped s.message.items t.message.items (sym is.message ∙ last.message))
 
-pub run-later : (es : List CommandEvent) (ms : List (Option Sent)) (a b : CommanderState) → IsRun es ms a b → AllPairs IsLater ms
-run-later [] [] a b run = λ i j d less below. absurd (omega (arith, below))
-run-later [] (s ∷ ms) a b run = absurd run
-run-later (e ∷ es) [] a b run = absurd run
-run-later (e ∷ es) (s ∷ ms) a b run =
-    let sends = step_sends e s a run.0 run.1 in
-    let others = run-all_from es ms run.0 b run.2 in
+pub run-later : (es : List CommandEvent) (ms : List (Option Sent)) (p q : Bool) (a b : CommanderState) → IsRun es ms p a q b → AllPairs IsLater ms
+run-later [] [] p q a b run = λ i j d less below. absurd (omega (arith, below))
+run-later [] (s ∷ ms) p q a b run = absurd run
+run-later (e ∷ es) [] p q a b run = absurd run
+run-later (e ∷ es) (s ∷ ms) p q a b run =
+    let sends = step_sends e s a run.1 run.2.may in
+    let others = run-all_from es ms run.0 q run.1 b run.3 in
     AllPairs-cons IsLater s ms
-    (λ k d below. later run.0 s (slice_index_or ms k d) sends (others k d below))
-    (run-later es ms run.0 b run.2)
+    (λ k d below. later run.1 s (slice_index_or ms k d) sends (others k d below))
+    (run-later es ms run.0 q run.1 b run.3)
 
 -- ---- a pending command is not dropped
 
@@ -189,7 +195,7 @@ unchanged c NotPending other = refl
 
 -- only a reply that settles the command, or the caller, ends it
 step_keeps : (e : CommandEvent) (m : Option Sent) (a b : CommanderState) (message : List ℕ)
-    → IsStep e m a b → KeepsPending e → pending_message a ≡ Some message → b ≡ a
+    → MayMake e m a b → KeepsPending e → pending_message a ≡ Some message → b ≡ a
 step_keeps (Give life request) m a b message (inl lost) keeps is = lost.0
 step_keeps (Give life request) m a b message (inr taken) keeps is =
     absurd (no_message (sym (not_pending a (none_pending a.pending _ _ taken.allowed)) ∙ is))
@@ -200,21 +206,21 @@ step_keeps (Accept reply) m a b message (inr taken) keeps is =
 step_keeps Abandon m a b message step keeps is = absurd keeps
 step_keeps Restart m a b message step keeps is = step.0
 
-run-keeps : (es : List CommandEvent) (ms : List (Option Sent)) (a b : CommanderState) (m : Option Sent) → IsRun es ms a b → All KeepsPending es
+run-keeps : (es : List CommandEvent) (ms : List (Option Sent)) (p q : Bool) (a b : CommanderState) (m : Option Sent) → IsRun es ms p a q b → All KeepsPending es
     → IsOfPending a m → IsOfPending b m
-run-keeps es ms a b None run keeps is = tt
-run-keeps [] [] a b (Some s) run keeps is = subst (λ c. IsOfPending c (Some s)) (sym run) is
-run-keeps [] (n ∷ ms) a b (Some s) run keeps is = absurd run
-run-keeps (e ∷ es) [] a b (Some s) run keeps is = absurd run
-run-keeps (e ∷ es) (n ∷ ms) a b (Some s) run keeps is =
-    let same = step_keeps e n a run.0 s.message.items run.1 (All-head KeepsPending e es keeps) is.message in
-    run-keeps es ms run.0 b (Some s) run.2 (All-tail KeepsPending e es keeps) (subst (λ c. IsOfPending c (Some s)) (sym same) is)
+run-keeps es ms p q a b None run keeps is = tt
+run-keeps [] [] p q a b (Some s) run keeps is = subst (λ c. IsOfPending c (Some s)) (sym run.1) is
+run-keeps [] (n ∷ ms) p q a b (Some s) run keeps is = absurd run
+run-keeps (e ∷ es) [] p q a b (Some s) run keeps is = absurd run
+run-keeps (e ∷ es) (n ∷ ms) p q a b (Some s) run keeps is =
+    let same = step_keeps e n a run.1 s.message.items run.2.may (All-head KeepsPending e es keeps) is.message in
+    run-keeps es ms run.0 q run.1 b (Some s) run.3 (All-tail KeepsPending e es keeps) (subst (λ c. IsOfPending c (Some s)) (sym same) is)
 
-pub run-never_dropped : (es : List CommandEvent) (ms : List (Option Sent)) (a b : CommanderState) → IsRun es ms a b → IsNeverDropped es ms b
-run-never_dropped [] [] a b run = tt
-run-never_dropped [] (s ∷ ms) a b run = tt
-run-never_dropped (e ∷ es) [] a b run = tt
-run-never_dropped (e ∷ es) (s ∷ ms) a b run = (
-    λ keeps. run-keeps es ms run.0 b s run.2 keeps (step_sends e s a run.0 run.1),
-    run-never_dropped es ms run.0 b run.2,
+pub run-never_dropped : (es : List CommandEvent) (ms : List (Option Sent)) (p q : Bool) (a b : CommanderState) → IsRun es ms p a q b → IsNeverDropped es ms b
+run-never_dropped [] [] p q a b run = tt
+run-never_dropped [] (s ∷ ms) p q a b run = tt
+run-never_dropped (e ∷ es) [] p q a b run = tt
+run-never_dropped (e ∷ es) (s ∷ ms) p q a b run = (
+    λ keeps. run-keeps es ms run.0 q run.1 b s run.3 keeps (step_sends e s a run.1 run.2.may),
+    run-never_dropped es ms run.0 q run.1 b run.3,
 )

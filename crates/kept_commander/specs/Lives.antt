@@ -1,7 +1,8 @@
 -- What commands, replies, crashes and starts make of what is kept, and which messages are handed out.
-use Rattle.std.specs.Prelude.{◌≡◌, ◌⊎◌, ℕ, ◌<◌, ◌≤◌, ⊤, Option, None, Some, List, [], ◌∷◌, All}
+use Rattle.std.specs.Prelude.{◌≡◌, ◌⊎◌, ℕ, ◌<◌, ◌≤◌, ⊤, Bool, IsTrue, Option, None, Some, List, [], ◌∷◌, All}
 use Rattle.std.specs.Option.{ForSome}
 use Rattle.cip_commander.specs.CommanderRule.{CommanderState, command_refusal, pending_message, after_reply, abandoned}
+use Rattle.cip_commander.specs.declared.refusal.CommandRefused.{CommandRefused}
 use Rattle.cip_commander.specs.Outcome.{Done, outcome_of_text}
 use Rattle.kept_commander.specs.declared.lives.CommandEvent.{CommandEvent}
 use Rattle.kept_commander.specs.declared.lives.CommandEvent.TheVariants.{Give, Send, Accept, Abandon, Restart}
@@ -29,24 +30,51 @@ pub record IsGiven (before : CommanderState) (life : ℕ) (request : List ℕ) (
 abbrev pub IsLost : CommanderState → Option Sent → CommanderState → Type 0
 IsLost before sent after = (after ≡ before) × (sent ≡ None)
 
--- What an event makes, and what is handed out by it. It is lost if it was refused, or if a crash came before it was
--- kept. A crash and a start change nothing.
-abbrev pub IsStep : CommandEvent → Option Sent → CommanderState → CommanderState → Type 0
-IsStep (Give life request) sent before after =
+-- What an event may make, and what may be handed out by it. It is lost if it was refused, or if a crash came before it
+-- was kept. A crash and a start change nothing.
+abbrev pub MayMake : CommandEvent → Option Sent → CommanderState → CommanderState → Type 0
+MayMake (Give life request) sent before after =
     IsLost before sent after ⊎ IsGiven before life request.items sent after
-IsStep Send sent before after = (after ≡ before) × IsOfPending before sent
-IsStep (Accept reply) sent before after =
+MayMake Send sent before after = (after ≡ before) × IsOfPending before sent
+MayMake (Accept reply) sent before after =
     IsLost before sent after ⊎ ((after ≡ after_reply before reply.items) × (sent ≡ None))
-IsStep Abandon sent before after = IsLost before sent after ⊎ ((after ≡ abandoned before) × (sent ≡ None))
-IsStep Restart sent before after = IsLost before sent after
+MayMake Abandon sent before after = IsLost before sent after ⊎ ((after ≡ abandoned before) × (sent ≡ None))
+MayMake Restart sent before after = IsLost before sent after
 
--- These events, the first of them first, make the second commander of the first one, and hand out these messages.
-abbrev pub IsRun : List CommandEvent → List (Option Sent) → CommanderState → CommanderState → Type 0
-IsRun [] [] first last = last ≡ first
-IsRun [] (sent ∷ others) first last = ⊥
-IsRun (event ∷ events) [] first last = ⊥
-IsRun (event ∷ events) (sent ∷ others) first last =
-    (next : CommanderState) × IsStep event sent first next × IsRun events others next last
+abbrev pub bytes_of : Option Sent → Option (List ℕ)
+bytes_of None = None
+bytes_of (Some sent) = Some sent.message.items
+
+-- A command is taken and its message handed out, unless it is refused.
+abbrev pub MakesGiven : Option CommandRefused → CommanderState → ℕ → List ℕ → Option Sent → CommanderState → Type 0
+MakesGiven None before life request sent after =
+    (after ≡ given before life request) × (bytes_of sent ≡ pending_message after)
+MakesGiven (Some why) before life request sent after = (after ≡ before) × (bytes_of sent ≡ None)
+
+-- What an event makes that does not fail: it serves before it, unless the event is a start.
+abbrev pub Makes : CommandEvent → Option Sent → Bool → CommanderState → CommanderState → Type 0
+Makes (Give life request) sent serves before after =
+    IsTrue serves × MakesGiven (command_refusal before request.items) before life request.items sent after
+Makes Send sent serves before after = IsTrue serves × (bytes_of sent ≡ pending_message before)
+Makes (Accept reply) sent serves before after = IsTrue serves × (after ≡ after_reply before reply.items)
+Makes Abandon sent serves before after = IsTrue serves × (after ≡ abandoned before)
+Makes Restart sent serves before after = ⊤
+
+-- An event, from a client that serves or not and what is kept, to the same. If the client serves after it, the event did
+-- not fail. If it failed, it may have been done or not.
+pub record IsStep (event : CommandEvent) (sent : Option Sent) (serves : Bool) (before : CommanderState)
+    (serves_after : Bool) (after : CommanderState) : Type 0 where
+  pub may : MayMake event sent before after
+  pub does : IsTrue serves_after → Makes event sent serves before after
+
+-- These events, the first of them first, make the last of the first, and hand out these messages.
+abbrev pub IsRun : List CommandEvent → List (Option Sent) → Bool → CommanderState → Bool → CommanderState → Type 0
+IsRun [] [] serves first serves_last last = (serves_last ≡ serves) × (last ≡ first)
+IsRun [] (sent ∷ others) serves first serves_last last = ⊥
+IsRun (event ∷ events) [] serves first serves_last last = ⊥
+IsRun (event ∷ events) (sent ∷ others) serves first serves_last last =
+    (serves_next : Bool) × (next : CommanderState) × IsStep event sent serves first serves_next next
+    × IsRun events others serves_next next serves_last last
 
 -- ---- what follows
 

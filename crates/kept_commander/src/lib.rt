@@ -23,8 +23,10 @@ mod fault;
 mod keeper;
 mod kept;
 mod lives;
+mod memory;
 
 pub use fault::{KeptCommandError, StorageFailed};
 pub use keeper::{CommandKeeper, RestartableKeeper};
 pub use kept::KeptCommander;
 pub use lives::{CommandEvent, Sent, live};
+pub use memory::{Crash, MemoryKeeper};

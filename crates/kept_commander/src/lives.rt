@@ -1,8 +1,8 @@
 //! Commands, replies, crashes and starts, in any order.
 ghost use Rattle.std.specs.Prelude.{◌≡◌, ◌≤◌, false, None, [], IsTrue, IfOk, IfSome, OnOk, All, AllPairs};
 ghost use Rattle.cip_commander.specs.CommanderRule.{CommanderState};
-ghost use Rattle.kept_commander.specs.Calls.{IsReady};
-ghost use Rattle.kept_commander.specs.Lives.{IsOfPending, IsStep, IsRun, IsLater, HasUsed, IsNeverDropped};
+ghost use Rattle.kept_commander.specs.Calls.{IsReady, handed_out};
+ghost use Rattle.kept_commander.specs.Lives.{bytes_of, IsOfPending, IsStep, IsRun, IsLater, HasUsed, IsNeverDropped};
 
 use crate::{KeptCommander, RestartableKeeper};
 use std::alloc::{AllocError, Global};
@@ -52,7 +52,8 @@ pub fn live<K: RestartableKeeper + Drop>(
     requires serving { IsTrue client.old.is_serving }
     requires fresh { sent.old.items ≡ [] }
     ensures run { K.doubt client.new.keeper ≡ 0 → OnOk result ((c : CommanderState)
-        → K.may_leave client.new.keeper c → IsRun events.items sent.new.items client.old.commander c) }
+        → K.may_leave client.new.keeper c → IsRun events.items sent.new.items
+        client.old.is_serving client.old.commander client.new.is_serving c) }
     ensures later { K.doubt client.new.keeper ≡ 0 → OnOk result (AllPairs IsLater sent.new.items) }
     ensures used { K.doubt client.new.keeper ≡ 0 → OnOk result ((c : CommanderState)
         → K.may_leave client.new.keeper c → All (HasUsed c) sent.new.items) }
@@ -78,7 +79,8 @@ fn happen<K: RestartableKeeper + Drop>(
     ensures ready { IsReady K.doubt K.is_up K.kept client.new }
     ensures step { K.doubt client.new.keeper ≡ 0 → IfOk result (λ sent. (c : CommanderState)
         → K.may_leave client.new.keeper c
-        → (before : CommanderState) × K.may_leave client.old.keeper before × IsStep event sent before c) }
+        → (before : CommanderState) × K.may_leave client.old.keeper before ×
+        IsStep event sent client.old.is_serving before client.new.is_serving c) }
     ensures silent { client.new.is_serving ≡ false → IfOk result (λ sent. sent ≡ None) }
     ensures doubt { K.doubt client.old.keeper ≤ K.doubt client.new.keeper }
 {
@@ -111,6 +113,7 @@ fn hand_out<K: RestartableKeeper + Drop>(
     client: &KeptCommander<K>,
 ) -> Result<Option<Sent>, AllocError>
     ensures sent { IfOk result (λ sent. IsOfPending client.now.commander sent) }
+    ensures all { IfOk result (λ sent. bytes_of sent ≡ handed_out client.now.is_serving client.now.commander) }
     ensures silent { client.now.is_serving ≡ false → IfOk result (λ sent. sent ≡ None) }
 {
     let Some(message) = client.message() else {

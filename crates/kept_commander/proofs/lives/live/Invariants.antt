@@ -13,7 +13,7 @@ invariant-loop-event g l =
       is_finite : (goal.iterator-loop-event g).is_finite l.event-iterator;
       ready : IsReady k.doubt k.is_up k.kept l.client;
       doubt : k.doubt l.fn.client.keeper ≤ k.doubt l.client.keeper;
-      one : k.doubt l.client.keeper ≡ 0 → (c : CommanderState) × IsRun l.yielded l.sent.items l.fn.client.commander c;
+      one : k.doubt l.client.keeper ≡ 0 → (c : CommanderState) × IsRun l.yielded l.sent.items l.fn.client.is_serving l.fn.client.commander l.client.is_serving c;
       never_dropped : k.doubt l.client.keeper ≡ 0 → (c : CommanderState) → k.may_leave l.client.keeper c → IsNeverDropped l.yielded l.sent.items c;
-      run : k.doubt l.client.keeper ≡ 0 → (c : CommanderState) → k.may_leave l.client.keeper c → IsRun l.yielded l.sent.items l.fn.client.commander c;
+      run : k.doubt l.client.keeper ≡ 0 → (c : CommanderState) → k.may_leave l.client.keeper c → IsRun l.yielded l.sent.items l.fn.client.is_serving l.fn.client.commander l.client.is_serving c;
     }
