@@ -5,3 +5,4 @@ pub mod EntryRows
 pub mod SpelledLemmas
 pub mod WriteLemmas
 pub mod LawLemmas
+pub mod ChangeLemmas

@@ -51,7 +51,7 @@ udint_again : (v : ℕ) (rest : List ℕ) → v < 2 ^ 32 → udint_at 0 (udint v
 unfolding udint udint_at
 udint_again v rest h = little_number-reads_back 4 v rest h
 
-ulint_again : (v : ℕ) (rest : List ℕ) → v < 2 ^ 64 → ulint_at 0 (ulint v ++ rest) ≡ v
+pub ulint_again : (v : ℕ) (rest : List ℕ) → v < 2 ^ 64 → ulint_at 0 (ulint v ++ rest) ≡ v
 unfolding ulint ulint_at
 ulint_again v rest h = little_number-reads_back 8 v rest h
 

@@ -3,6 +3,7 @@
 
 ghost use Rattle.std.specs.Prelude.{ℕ, List, ◌∷◌, ◌≡◌, ◌≢◌, ◌^◌, ◌<◌, ◌≤◌, ◌++◌, codes, length, Some, Ok};
 ghost use Rattle.saved_state.specs.declared.fault.StateFault.TheVariants.{NotAState, Version, Cut, TooLong, Checksum};
+ghost use Rattle.cip_bytes.specs.Numbers.{AreBytes};
 ghost use Rattle.saved_state.specs.Numbers.{udint, ulint};
 ghost use Rattle.saved_state.specs.Checksum.{checksum};
 ghost use Rattle.saved_state.specs.States.{State, IsState, body, spelled};
@@ -42,4 +43,10 @@ pub fn checksum_is_compared()
 pub fn other_versions_are_refused()
     ensures { (version : ℕ) (rest : List ℕ) → version < 2 ^ 32 → version ≢ 1
         → fault_of (codes "SOMBIKPT" ++ (udint version ++ rest)) ≡ Some (Version version) }
+{}
+
+/// No two states differ in one byte alone. So a state with one changed byte is not a state.
+pub fn one_byte_is_noticed()
+    ensures { (s t : State) (before behind : List ℕ) (a b : ℕ) → AreBytes (spelled s) → AreBytes (spelled t)
+        → spelled s ≡ before ++ a ∷ behind → spelled t ≡ before ++ b ∷ behind → a ≡ b }
 {}

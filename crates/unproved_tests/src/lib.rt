@@ -18,6 +18,8 @@ mod commands;
 #[cfg(test)]
 mod server;
 #[cfg(test)]
+mod states;
+#[cfg(test)]
 mod texts;
 #[cfg(test)]
 mod values;
