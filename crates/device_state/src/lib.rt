@@ -30,9 +30,9 @@ mod identity;
 mod key;
 pub mod laws;
 mod ledger;
-mod restore;
-mod save;
+mod restoring;
+mod saving;
 
 pub use identity::{identity_key, is_same_device};
-pub use restore::{Outcome, restore};
-pub use save::saved_entry;
+pub use restoring::{Outcome, restore};
+pub use saving::saved_entry;
