@@ -15,11 +15,11 @@
 //! ```
 //! let mut bytes = ReplyBuf::new();
 //! let mut index = 0;
-//! while let Some(key) = saved_entry(&objects, &ledger, index, &mut bytes) {
+//! while let Some(key) = saved_entry(adapter.objects(), adapter.ledger(), index, &mut bytes) {
 //!     write(key, &bytes); // your own
 //!     index += 1;
 //! }
-//! // after a restart, before any peer is answered
+//! // after a restart, before the adapter is made of these objects and this ledger
 //! for (key, bytes) in entries {
 //!     restore(&mut objects, &mut ledger, key, bytes);
 //! }
