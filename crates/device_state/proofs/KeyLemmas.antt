@@ -1,7 +1,6 @@
 -- A key has the name that it was made of, and no other name has it.
-use Rattle.std.proofs.Common.{◌≡◌, ℕ, ◌+◌, ◌*◌, ◌/◌, ◌%◌, ◌^◌, ◌<◌, Bool, true, false, nat_lt, cond, Option, Some, None, refl, sym, ap, ◌∙◌, arith}
+use Rattle.std.proofs.Common.{◌≡◌, ℕ, ◌/◌, ◌%◌, ◌^◌, ◌<◌, true, nat_lt, cond, Some, None, ap, ◌∙◌, arith}
 use Rattle.std.proofs.lemmas.Bool.Decides.{nat_tests}
-use Rattle.cip_application.specs.declared.object.AttributeName.{AttributeName}
 use Rattle.cip_objects.specs.Kept.{name_of}
 use Rattle.device_state.specs.Keys.{key_of, name_in}
 

@@ -1,19 +1,19 @@
 -- The ledger that is put back.
-use Rattle.std.proofs.Common.{◌≡◌, ℕ, zero, suc, ◌+◌, ◌^◌, ◌<◌, ◌≤◌, ◌≡◌, eqb, nat_lt, Bool, true, false, cond, not, ◌||◌, List, [], ◌∷◌, ◌++◌, length, append_assoc, Option, Some, None, refl, sym, ap, ◌∙◌, arith}
+use Rattle.std.proofs.Common.{◌≡◌, ℕ, suc, ◌+◌, ◌^◌, ◌<◌, ◌≤◌, ◌≡◌, eqb, nat_lt, false, cond, ◌||◌, List, [], ◌∷◌, ◌++◌, length, append_assoc, Option, Some, None, sym, ap, ◌∙◌, arith}
 use Rattle.std.proofs.lemmas.Bool.Decides.{nat_tests}
 use Rattle.std.proofs.lemmas.List.{append-nil, length-append}
 use Rattle.byteorder.specs.Numbers.{little_number-reads_back}
 use Rattle.cip_bytes.specs.Numbers.{le, number_at}
 use Rattle.cip_ledger.specs.declared.request.TheConstants.{LEDGER}
-use Rattle.cip_ledger.specs.Kept.{IsLedger, with_life, restored as slot_restored}
+use Rattle.cip_ledger.specs.Kept.{IsLedger, restored as slot_restored}
 use Rattle.cip_ledger.specs.Ledger.{SlotState, LedgerState, IsSlot, empty_ledger}
 use Rattle.cip_ledger.proofs.KeptLemmas.{next_restored, slot_behind}
 use Rattle.cip_objects.specs.Contents.{Contents}
 use Rattle.cip_objects.specs.Kept.{name_of}
-use Rattle.device_state.specs.declared.restore.Outcome.TheVariants.{Used}
-use Rattle.device_state.specs.Keys.{key_of, name_in}
-use Rattle.device_state.specs.Restored.{Done, done, slot_in, if_restored, slot_done, ledger_done, with_ledger, by_name, restored_entry}
-use Rattle.device_state.specs.Saved.{State, state_of, Entry, entry_of, life_entry, slot_bytes, slot_entries, ledger_entries}
+use Rattle.device_state.specs.declared.restoring.Outcome.TheVariants.{Used}
+use Rattle.device_state.specs.Keys.{key_of}
+use Rattle.device_state.specs.Restored.{done, slot_in, if_restored, slot_done, ledger_done, with_ledger, by_name, restored_entry}
+use Rattle.device_state.specs.Saved.{state_of, entry_of, life_entry, slot_bytes, slot_entries, ledger_entries}
 use Rattle.device_state.proofs.KeyLemmas.{name_back}
 use Rattle.device_state.proofs.Puts.{Leads, leads_nowhere, leads_on}
 

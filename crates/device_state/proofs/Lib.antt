@@ -1,3 +1,4 @@
+pub mod EntryLists
 pub mod KeyLemmas
 pub mod Puts
 pub mod LedgerPuts

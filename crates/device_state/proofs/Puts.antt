@@ -1,5 +1,5 @@
 -- The values that are put back, one after another.
-use Rattle.std.proofs.Common.{◌≡◌, ℕ, ◌+◌, ◌*◌, ◌^◌, ◌<◌, eqb, Bool, true, false, cond, ◌&&◌, List, [], ◌∷◌, ◌++◌, map, Option, Some, None, is_some, unwrap_or, refl, sym, ap, ◌∙◌, subst, arith}
+use Rattle.std.proofs.Common.{◌≡◌, ℕ, eqb, Bool, true, false, cond, ◌&&◌, List, [], ◌∷◌, ◌++◌, map, Option, Some, None, is_some, unwrap_or, refl, sym, ap, ◌∙◌, subst, arith}
 use Rattle.std.specs.List.{AllByRecursion}
 use Rattle.std.proofs.lemmas.Bool.{eqb-true}
 use Rattle.std.proofs.lemmas.Bool.Decides.{nat_tests}
@@ -12,9 +12,8 @@ use Rattle.cip_ledger.specs.Ledger.{LedgerState}
 use Rattle.cip_objects.specs.Contents.{Contents, value_at, bytes_at, with_value}
 use Rattle.cip_objects.specs.Kept.{kept_kind, with_kept, restored as value_restored}
 use Rattle.cip_objects.proofs.ReadAfterSet.{value_at-with_value}
-use Rattle.device_state.specs.declared.restore.Outcome.{Outcome}
-use Rattle.device_state.specs.declared.restore.Outcome.TheVariants.{Used}
-use Rattle.device_state.specs.Keys.{key_of, name_in}
+use Rattle.device_state.specs.declared.restoring.Outcome.TheVariants.{Used}
+use Rattle.device_state.specs.Keys.{key_of}
 use Rattle.device_state.specs.Laws.{IsKept}
 use Rattle.device_state.specs.Restored.{Done, done, by_name, if_value, with_objects, restored_entry, restored}
 use Rattle.device_state.specs.Saved.{State, state_of, Entry, entry_of, value_entry, identity_bytes}

@@ -1,6 +1,5 @@
 -- A device that starts from what was saved.
-use Rattle.std.proofs.Common.{rules, ◌≡◌, ℕ, ◌+◌, ◌*◌, ◌/◌, ◌%◌, ◌^◌, eqb, nat_lt, Bool, true, false, cond, ◌&&◌, List, [], ◌∷◌, ◌++◌, map, Option, Some, None, option_map, IfSome, is_some, refl, sym, ap, ◌∙◌, subst, arith}
-use Rattle.std.specs.List.{AllByRecursion}
+use Rattle.std.proofs.Common.{rules, ◌≡◌, ℕ, ◌/◌, ◌%◌, ◌^◌, eqb, nat_lt, Bool, true, false, cond, ◌&&◌, List, [], ◌∷◌, ◌++◌, map, Option, Some, None, option_map, IfSome, refl, sym, ap, ◌∙◌, subst, arith}
 use Rattle.std.specs.Str.{bytes_eq}
 use Rattle.std.proofs.lemmas.Bool.{eqb-true}
 use Rattle.std.proofs.lemmas.Bool.Decides.{nat_tests}
@@ -11,13 +10,13 @@ use Rattle.cip_application.specs.Values.{is_whole}
 use Rattle.cip_bytes.specs.declared.protocol.TheConstants.{IDENTITY}
 use Rattle.cip_ledger.specs.Kept.{IsLedger}
 use Rattle.cip_ledger.specs.Ledger.{LedgerState, empty_ledger}
-use Rattle.cip_objects.specs.Contents.{Contents, value_at, bytes_at, with_value}
+use Rattle.cip_objects.specs.Contents.{Contents, value_at, with_value}
 use Rattle.cip_objects.specs.Kept.{kept_names, kept_kind, with_kept, restored as value_restored}
 use Rattle.cip_objects.proofs.ReadAfterSet.{value_at-other}
-use Rattle.device_state.specs.declared.restore.Outcome.TheVariants.{Used, OtherDevice}
+use Rattle.device_state.specs.declared.restoring.Outcome.TheVariants.{Used, OtherDevice}
 use Rattle.device_state.specs.Keys.{key_of, name_in}
-use Rattle.device_state.specs.Laws.{IsKept, IsDevice, IsFresh, IsRestored, saved_law, others_law, other_device_law}
-use Rattle.device_state.specs.Restored.{Done, done, is_same_device, by_name, if_value, with_objects, to_ledger, restored_entry, restored}
+use Rattle.device_state.specs.Laws.{saved_law, others_law, other_device_law}
+use Rattle.device_state.specs.Restored.{Done, done, by_name, if_value, with_objects, to_ledger, restored_entry}
 use Rattle.device_state.specs.Saved.{State, state_of, Entry, entry_of, identity_bytes, identity_entry, value_entry, value_entries, ledger_entries, saved}
 use Rattle.device_state.proofs.KeyLemmas.{name_back, key_again}
 use Rattle.device_state.proofs.LedgerPuts.{ledger_leads}

@@ -1,15 +1,14 @@
 -- What holds of a device that starts from what was saved.
-use Rattle.std.specs.Prelude.{◌≡◌, ◌<◌, ℕ, ◌^◌, ◌==◌, true, false, Bool, is_some, List, Option, Some, None, option_map, IfSome}
+use Rattle.std.specs.Prelude.{◌≡◌, ◌<◌, ℕ, ◌^◌, ◌==◌, true, false, is_some, List, option_map, IfSome}
 use Rattle.std.specs.List.{AllByRecursion}
 use Rattle.cip_application.specs.declared.object.AttributeName.{AttributeName}
 use Rattle.cip_bytes.specs.declared.protocol.TheConstants.{IDENTITY}
 use Rattle.cip_ledger.specs.declared.request.TheConstants.{LEDGER}
 use Rattle.cip_ledger.specs.Kept.{IsLedger}
-use Rattle.cip_ledger.specs.Ledger.{LedgerState, empty_ledger}
+use Rattle.cip_ledger.specs.Ledger.{empty_ledger}
 use Rattle.cip_objects.specs.Contents.{Contents, bytes_at, value_at}
 use Rattle.cip_objects.specs.Kept.{kept_names, restored as value_restored}
-use Rattle.device_state.specs.declared.restore.Outcome.{Outcome}
-use Rattle.device_state.specs.declared.restore.Outcome.TheVariants.{Used, OtherDevice}
+use Rattle.device_state.specs.declared.restoring.Outcome.TheVariants.{Used, OtherDevice}
 use Rattle.device_state.specs.Keys.{key_of}
 use Rattle.device_state.specs.Restored.{Restored, done, is_same_device, restored, restored_entry}
 use Rattle.device_state.specs.Saved.{State, Entry, entry_of, identity_bytes, saved}

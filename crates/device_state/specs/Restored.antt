@@ -1,5 +1,5 @@
 -- A device that starts from entries.
-use Rattle.std.specs.Prelude.{ℕ, ◌==◌, nat_lt, Bool, true, false, not, ◌&&◌, ◌||◌, is_some, if◌then◌else◌, slice_index}
+use Rattle.std.specs.Prelude.{ℕ, ◌==◌, nat_lt, Bool, not, ◌&&◌, ◌||◌, is_some, if◌then◌else◌, slice_index}
 use Rattle.std.specs.Prelude.{List, [], ◌∷◌, length, drop, Option, Some, None, bytes_eq}
 use Rattle.cip_application.specs.declared.object.AttributeName.{AttributeName}
 use Rattle.cip_bytes.specs.Numbers.{number_at}
@@ -9,8 +9,8 @@ use Rattle.cip_ledger.specs.Kept.{with_life, restored as slot_restored}
 use Rattle.cip_ledger.specs.Ledger.{SlotState, LedgerState}
 use Rattle.cip_objects.specs.Contents.{Contents, value_at}
 use Rattle.cip_objects.specs.Kept.{restored as value_restored}
-use Rattle.device_state.specs.declared.restore.Outcome.{Outcome}
-use Rattle.device_state.specs.declared.restore.Outcome.TheVariants.{Used, Unknown, Unfit, OtherDevice}
+use Rattle.device_state.specs.declared.restoring.Outcome.{Outcome}
+use Rattle.device_state.specs.declared.restoring.Outcome.TheVariants.{Used, Unknown, Unfit, OtherDevice}
 use Rattle.device_state.specs.Keys.{name_in}
 use Rattle.device_state.specs.Saved.{State, state_of, Entry, identity_bytes}
 

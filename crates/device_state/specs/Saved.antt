@@ -1,5 +1,5 @@
 -- The entries in which the state of a device is saved.
-use Rattle.std.specs.Prelude.{ℕ, suc, ◌+◌, List, [], ◌∷◌, ◌++◌, map, Option, Some, None}
+use Rattle.std.specs.Prelude.{ℕ, suc, List, [], ◌∷◌, ◌++◌, map, Option, Some, None}
 use Rattle.cip_application.specs.declared.object.AttributeName.{AttributeName}
 use Rattle.cip_bytes.specs.Numbers.{le}
 use Rattle.cip_bytes.specs.declared.protocol.TheConstants.{IDENTITY}

@@ -5,7 +5,7 @@ ghost use Rattle.device_state.specs.Restored.{done, slot_in, life_done, slot_don
 ghost use Rattle.device_state.specs.Saved.{entry_in, ledger_entries, slot_bytes};
 
 use crate::key::key_of;
-use crate::restore::Outcome;
+use crate::restoring::Outcome;
 use byteorder::{ByteOrder, LittleEndian};
 use cip_bytes::{append, append_u8, append_u32};
 use cip_ledger::{KeptCommand, LEDGER, Ledger};
@@ -20,7 +20,7 @@ const SLOT_HEAD: usize = 13;
 /// Writes a slot to `bytes`, in place of its old content.
 fn write_slot(kept: KeptCommand<'_>, bytes: &mut ReplyBuf)
     requires { length kept.reply.now ≤ 480 }
-    ensures { bytes.new.items ≡ slot_bytes (kept_in kept) }
+    ensures { bytes.new.items ≡ slot_bytes (kept_in kept.entry) }
 {
     bytes.clear();
     append(bytes, &kept.originator.to_le_bytes());

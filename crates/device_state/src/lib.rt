@@ -15,11 +15,11 @@
 //! ```
 //! let mut bytes = ReplyBuf::new();
 //! let mut index = 0;
-//! while let Some(key) = saved_entry(&objects, &ledger, index, &mut bytes) {
+//! while let Some(key) = saved_entry(adapter.objects(), adapter.ledger(), index, &mut bytes) {
 //!     write(key, &bytes); // your own
 //!     index += 1;
 //! }
-//! // after a restart, before any peer is answered
+//! // after a restart, before the adapter is made of these objects and this ledger
 //! for (key, bytes) in entries {
 //!     restore(&mut objects, &mut ledger, key, bytes);
 //! }
@@ -30,9 +30,9 @@ mod identity;
 mod key;
 pub mod laws;
 mod ledger;
-mod restore;
-mod save;
+mod restoring;
+mod saving;
 
 pub use identity::{identity_key, is_same_device};
-pub use restore::{Outcome, restore};
-pub use save::saved_entry;
+pub use restoring::{Outcome, restore};
+pub use saving::saved_entry;

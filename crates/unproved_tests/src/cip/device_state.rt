@@ -53,7 +53,7 @@ fn fresh_device(alloc: Global) -> Result<(Objects, Option<Ledger>), Fail> {
 /// Asserts which bytes the entry at an index has.
 fn check(rt: &impl Abort, device: &(Objects, Option<Ledger>), index: usize, wanted: &[u8]) {
     let mut bytes = ReplyBuf::new();
-    let key = saved_entry(&device.0, &device.1, index, &mut bytes);
+    let key = saved_entry(&device.0, device.1.as_ref(), index, &mut bytes);
     assert_eq!(rt; key, Some(KEYS[index]));
     assert_eq!(rt; bytes.as_slice(), wanted);
 }
@@ -64,11 +64,11 @@ fn entries_of_a_device(rt: HostRuntime) -> Result<(), Fail> {
     let mut bytes = ReplyBuf::new();
     for index in 0..10 {
         assert_eq!(rt;
-            saved_entry(&device.0, &device.1, index, &mut bytes),
+            saved_entry(&device.0, device.1.as_ref(), index, &mut bytes),
             Some(KEYS[index])
         );
     }
-    assert_eq!(rt; saved_entry(&device.0, &device.1, 10, &mut bytes), None);
+    assert_eq!(rt; saved_entry(&device.0, device.1.as_ref(), 10, &mut bytes), None);
     assert_eq!(rt; identity_key(), KEYS[0]);
     check(&rt, &device, 0, IDENTITY);
     check(&rt, &device, 1, LIFE);
@@ -88,12 +88,12 @@ fn started_from_its_entries(rt: HostRuntime) -> Result<(), Fail> {
     let mut bytes = ReplyBuf::new();
     let mut again = ReplyBuf::new();
     for index in 0..10 {
-        let key = saved_entry(&old.0, &old.1, index, &mut bytes).ok_or("an entry")?;
+        let key = saved_entry(&old.0, old.1.as_ref(), index, &mut bytes).ok_or("an entry")?;
         assert_eq!(rt; restore(&mut new.0, &mut new.1, key, &bytes), Outcome::Used);
     }
     for index in 0..10 {
-        let key = saved_entry(&old.0, &old.1, index, &mut bytes);
-        assert_eq!(rt; saved_entry(&new.0, &new.1, index, &mut again), key);
+        let key = saved_entry(&old.0, old.1.as_ref(), index, &mut bytes);
+        assert_eq!(rt; saved_entry(&new.0, new.1.as_ref(), index, &mut again), key);
         assert_eq!(rt; again.as_slice(), bytes.as_slice());
     }
     // the changes by peers are not kept
@@ -159,7 +159,7 @@ fn without_a_ledger(rt: HostRuntime) -> Result<(), Fail> {
     let mut ledger = None;
     let mut bytes = ReplyBuf::new();
     assert_eq!(rt;
-        saved_entry(&objects, &ledger, 1, &mut bytes),
+        saved_entry(&objects, ledger.as_ref(), 1, &mut bytes),
         Some(KEYS[3])
     );
     assert_eq!(rt;

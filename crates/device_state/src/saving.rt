@@ -1,5 +1,5 @@
 //! Gives the entries in which the state of a device is saved.
-ghost use Rattle.std.specs.Prelude.{◌≡◌, ◌++◌, Some, slice_get};
+ghost use Rattle.std.specs.Prelude.{◌≡◌, ◌++◌, Some, slice_get, option_map};
 ghost use Rattle.device_state.specs.Saved.{state_of, saved, ledger_entries, value_entries, entry_in};
 
 use crate::identity::{identity_key, write_identity};
@@ -14,15 +14,15 @@ use cip_objects::{Objects, ReplyBuf};
 ///
 /// ```
 /// let mut bytes = ReplyBuf::new();
-/// let first = saved_entry(&objects, &ledger, 0, &mut bytes); // `identity_key()`, and 8 bytes
+/// let first = saved_entry(adapter.objects(), adapter.ledger(), 0, &mut bytes); // `identity_key()`, and 8 bytes
 /// ```
 pub fn saved_entry(
     objects: &Objects,
-    ledger: &Option<Ledger>,
+    ledger: Option<&Ledger>,
     index: usize,
     bytes: &mut ReplyBuf,
 ) -> Option<u64>
-    ensures { entry_in result bytes.new.items ≡ slice_get (saved (state_of objects.now ledger.now)) index }
+    ensures { entry_in result bytes.new.items ≡ slice_get (saved (state_of objects.now (option_map (λ l. l.now) ledger.entry))) index }
 {
     if index == 0 {
         write_identity(objects, bytes);
