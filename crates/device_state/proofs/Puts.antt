@@ -12,9 +12,9 @@ use Rattle.cip_ledger.specs.Ledger.{LedgerState}
 use Rattle.cip_objects.specs.Contents.{Contents, value_at, bytes_at, with_value}
 use Rattle.cip_objects.specs.Kept.{kept_kind, with_kept, restored as value_restored}
 use Rattle.cip_objects.proofs.ReadAfterSet.{value_at-with_value}
-use Rattle.device_state.specs.declared.restoring.Outcome.TheVariants.{Used}
+use Rattle.device_state.specs.declared.restoring.Outcome.TheVariants.{Used, Unknown, Unfit}
 use Rattle.device_state.specs.Keys.{key_of}
-use Rattle.device_state.specs.Laws.{IsKept}
+use Rattle.device_state.specs.Laws.{IsName, IsKept}
 use Rattle.device_state.specs.Restored.{Done, done, by_name, if_value, with_objects, restored_entry, restored}
 use Rattle.device_state.specs.Saved.{State, state_of, Entry, entry_of, value_entry, identity_bytes}
 use Rattle.device_state.proofs.KeyLemmas.{name_back}
@@ -63,17 +63,45 @@ value_put m f n b same e =
     ap (λ s. with_kept f n.class n.instance n.attribute b (kept_kind s n.class n.instance n.attribute)) same
     ∙ by_kind m f n.class n.instance n.attribute b (kept_kind m.shapes n.class n.instance n.attribute) e
 
--- the entry of a value is used
-pub entry_put : (m f : Contents) (l : Option LedgerState) (n : AttributeName) → f.shapes ≡ m.shapes → IsKept m n → restored_entry (state_of f l) (value_entry m n) ≡ done (state_of (put m f n) l) Used
-entry_put m f l n same is =
-    let content = bytes_at m n.class n.instance n.attribute in
+-- the entry of a value goes to the objects
+entry_goes : (f : Contents) (l : Option LedgerState) (n : AttributeName) (content : List ℕ) → IsName n → restored_entry (state_of f l) (entry_of (key_of n.class n.instance n.attribute) content) ≡ with_objects l (if_value f n (value_restored f n content))
+entry_goes f l n content is =
     let s = state_of f l in
     ap (by_name s content) (name_back n.class n.instance n.attribute is.class is.instance is.attribute)
     ∙ by_class (eqb n.class IDENTITY) (eqb n.class LEDGER) _ _ (with_objects l (if_value f n (value_restored f n content))) is.not_identity is.not_ledger
-    ∙ ap (λ o. with_objects l (if_value f n o)) (value_put m f n content same is.value)
   where
     by_class : (t u : Bool) (x y z : Done State) → t ≡ false → u ≡ false → cond t x (cond u y z) ≡ z
     by_class t u x y z g h = ap (λ b. cond b x (cond u y z)) g ∙ ap (λ b. cond b y z) h
+
+-- the entry of a value that the name can have is used
+pub entry_put : (m f : Contents) (l : Option LedgerState) (n : AttributeName) → f.shapes ≡ m.shapes → IsKept m n → restored_entry (state_of f l) (value_entry m n) ≡ done (state_of (put m f n) l) Used
+entry_put m f l n same is =
+    let content = bytes_at m n.class n.instance n.attribute in
+    entry_goes f l n content is.is_name
+    ∙ ap (λ o. with_objects l (if_value f n o)) (value_put m f n content same is.value)
+
+-- an entry that was used put its value back
+not_used : (t : Bool) → cond t Unfit Unknown ≡ Used → ⊥
+not_used true e = absurd (cc)
+not_used false e = absurd (cc)
+
+used_value : (f : Contents) (n : AttributeName) (b : List ℕ) (kind : Option AttributeKind) → (if_value f n (with_kept f n.class n.instance n.attribute b kind)).outcome ≡ Used → if_value f n (with_kept f n.class n.instance n.attribute b kind) ≡ done (with_value f n.class n.instance n.attribute b) Used
+used_value f n b None e = absurd (not_used (is_some (value_at f n.class n.instance n.attribute)) e)
+used_value f n b (Some kind) e = by_test (is_whole kind b) e
+  where
+    by_test : (t : Bool) → (if_value f n (cond t (Some (with_value f n.class n.instance n.attribute b)) None)).outcome ≡ Used → if_value f n (cond t (Some (with_value f n.class n.instance n.attribute b)) None) ≡ done (with_value f n.class n.instance n.attribute b) Used
+    by_test true g = refl
+    by_test false g = absurd (not_used (is_some (value_at f n.class n.instance n.attribute)) g)
+
+used_restored : (f : Contents) (n : AttributeName) (b : List ℕ) → (if_value f n (value_restored f n b)).outcome ≡ Used → if_value f n (value_restored f n b) ≡ done (with_value f n.class n.instance n.attribute b) Used
+unfolding value_restored
+used_restored f n b e = used_value f n b (kept_kind f.shapes n.class n.instance n.attribute) e
+
+pub used_entry : (m f : Contents) (l : Option LedgerState) (n : AttributeName) → IsName n → (restored_entry (state_of f l) (value_entry m n)).outcome ≡ Used → restored_entry (state_of f l) (value_entry m n) ≡ done (state_of (put m f n) l) Used
+used_entry m f l n is e =
+    let content = bytes_at m n.class n.instance n.attribute in
+    let goes = entry_goes f l n content is in
+    goes ∙ ap (with_objects l) (used_restored f n content (sym (ap (λ (d : Done State). d.outcome) goes) ∙ e))
 
 pub shapes_stay : (m f : Contents) (names : List AttributeName) → (put_all m f names).shapes ≡ f.shapes
 shapes_stay m f [] = refl
@@ -84,6 +112,19 @@ values_lead m f l [] same h = leads_nowhere (state_of f l)
 values_lead m f l (n ∷ names) same h =
     leads_on (state_of f l) (state_of (put m f n) l) (state_of (put_all m f (n ∷ names)) l) (value_entry m n) (map (value_entry m) names)
     (entry_put m f l n same h.0) (values_lead m (put m f n) l names same h.1)
+
+pub used_lead : (m f : Contents) (l : Option LedgerState) (names : List AttributeName) → AllByRecursion IsName names → AllByRecursion (λ outcome. outcome ≡ Used) (restored (state_of f l) (map (value_entry m) names)).outcomes → Leads (state_of f l) (map (value_entry m) names) (state_of (put_all m f names) l)
+used_lead m f l [] h used = leads_nowhere (state_of f l)
+used_lead m f l (n ∷ names) h used =
+    let e = used_entry m f l n h.0 used.0 in
+    leads_on (state_of f l) (state_of (put m f n) l) (state_of (put_all m f (n ∷ names)) l) (value_entry m n) (map (value_entry m) names) e
+    (used_lead m (put m f n) l names h.1
+    (subst (λ x. AllByRecursion (λ outcome. outcome ≡ Used) (restored x (map (value_entry m) names)).outcomes) (ap (λ (d : Done State). d.after) e) used.1))
+
+-- the outcomes of entries that follow others
+pub used_behind : (s now : State) (entries more : List Entry) → (restored s entries).after ≡ now → AllByRecursion (λ outcome. outcome ≡ Used) (restored s (entries ++ more)).outcomes → AllByRecursion (λ outcome. outcome ≡ Used) (restored now more).outcomes
+used_behind s now [] more e used = subst (λ x. AllByRecursion (λ outcome. outcome ≡ Used) (restored x more).outcomes) e used
+used_behind s now (entry ∷ entries) more e used = used_behind (restored_entry s entry).after now entries more e used.1
 
 -- what is put back is read again
 abbrev pub reads : Contents → AttributeName → List ℕ
@@ -135,7 +176,7 @@ identity_put m f n a e =
     ap (λ o. unwrap_or o []) (value_at-with_value f n.class n.instance n.attribute (reads m n) IDENTITY 1 a
     ∙ ap (λ t. cond t (Some (reads m n)) (value_at f IDENTITY 1 a)) (apart IDENTITY n.class 1 n.instance a n.attribute e))
 
-pub identity_stays : (m f : Contents) (names : List AttributeName) → AllByRecursion (IsKept m) names → identity_bytes (put_all m f names) ≡ identity_bytes f
+pub identity_stays : (m f : Contents) (names : List AttributeName) → AllByRecursion IsName names → identity_bytes (put_all m f names) ≡ identity_bytes f
 identity_stays m f [] h = refl
 identity_stays m f (n ∷ names) h =
     let e = h.0.not_identity in

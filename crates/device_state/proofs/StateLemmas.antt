@@ -15,12 +15,13 @@ use Rattle.cip_objects.specs.Kept.{kept_names, kept_kind, with_kept, restored as
 use Rattle.cip_objects.proofs.ReadAfterSet.{value_at-other}
 use Rattle.device_state.specs.declared.restoring.Outcome.TheVariants.{Used, OtherDevice}
 use Rattle.device_state.specs.Keys.{key_of, name_in}
-use Rattle.device_state.specs.Laws.{saved_law, others_law, other_device_law}
-use Rattle.device_state.specs.Restored.{Done, done, by_name, if_value, with_objects, to_ledger, restored_entry}
+use Rattle.std.specs.List.{AllByRecursion}
+use Rattle.device_state.specs.Laws.{IsName, IsKept, IsFresh, IsRestored, saved_law, used_law, others_law, other_device_law}
+use Rattle.device_state.specs.Restored.{Done, done, by_name, if_value, with_objects, to_ledger, restored_entry, restored}
 use Rattle.device_state.specs.Saved.{State, state_of, Entry, entry_of, identity_bytes, identity_entry, value_entry, value_entries, ledger_entries, saved}
 use Rattle.device_state.proofs.KeyLemmas.{name_back, key_again}
 use Rattle.device_state.proofs.LedgerPuts.{ledger_leads}
-use Rattle.device_state.proofs.Puts.{Leads, leads_nowhere, leads_on, leads_further, put_all, shapes_stay, values_lead, entries_same, identity_stays}
+use Rattle.device_state.proofs.Puts.{Leads, leads_nowhere, leads_on, leads_further, put_all, shapes_stay, values_lead, used_lead, used_behind, entries_same, identity_stays}
 
 own_name : name_in (key_of IDENTITY 1 0) ≡ Some (record { class = IDENTITY; instance = 1; attribute = 0 })
 own_name = name_back IDENTITY 1 0 (omega arith) (omega arith) (omega arith)
@@ -43,29 +44,66 @@ ledgers_lead : (m : Contents) (l : Option LedgerState) (life : ℕ) → IfSome l
 ledgers_lead m None life is = leads_nowhere (state_of m None)
 ledgers_lead m (Some l) life is = ledger_leads m l life is
 
+names_of_kept : (m : Contents) (names : List AttributeName) → AllByRecursion (IsKept m) names → AllByRecursion IsName names
+names_of_kept m [] h = tt
+names_of_kept m (n ∷ names) h = (h.0.is_name, names_of_kept m names h.1)
+
+-- the fresh device after the entries before the values
+module _ (s fresh : State) (life : ℕ) (new : IsFresh s fresh life) (is : IfSome s.ledger IsLedger) where
+  abbrev behind_identity : State
+  behind_identity = state_of fresh.objects (option_map (λ x. empty_ledger x.slots life) s.ledger)
+
+  start : fresh ≡ behind_identity
+  start = ap (state_of fresh.objects) new.ledger
+
+  identity_used : restored_entry fresh (identity_entry s.objects) ≡ done fresh Used
+  identity_used = identity_put fresh (identity_bytes s.objects) (sym new.identity)
+
+  ledger_used : Leads behind_identity (ledger_entries s.ledger) (state_of fresh.objects s.ledger)
+  ledger_used = ledgers_lead fresh.objects s.ledger life is
+
+  -- and after the values
+  abbrev end : Contents
+  end = put_all s.objects fresh.objects (kept_names s.objects.shapes)
+
+  with_values : Leads (state_of fresh.objects s.ledger) (value_entries s.objects) (state_of end s.ledger) → AllByRecursion IsName (kept_names s.objects.shapes) → IsRestored s (restored fresh (saved s))
+  with_values put named =
+      let m = s.objects in
+      let f = fresh.objects in
+      let names = kept_names m.shapes in
+      let behind : Leads behind_identity (ledger_entries s.ledger ++ value_entries m) (state_of end s.ledger) =
+      leads_further behind_identity (ledger_entries s.ledger) (value_entries m) (state_of f s.ledger) (state_of end s.ledger) ledger_used put in
+      let all : Leads fresh (saved s) (state_of end s.ledger) =
+      leads_on fresh fresh (state_of end s.ledger) (identity_entry m) (ledger_entries s.ledger ++ value_entries m) identity_used
+      (subst (λ x. Leads x (ledger_entries s.ledger ++ value_entries m) (state_of end s.ledger)) (sym start) behind) in
+      let shapes : end.shapes ≡ m.shapes = shapes_stay m f names ∙ new.shapes in
+      let values : value_entries end ≡ value_entries m = ap (λ x. map (value_entry end) (kept_names x)) shapes ∙ entries_same m f names in
+      let identity : identity_bytes end ≡ identity_bytes m = identity_stays m f names named ∙ new.identity in
+      record {
+        used = all.used;
+        ledger = ap (λ (x : State). x.ledger) all.after;
+        saved = ap saved all.after
+            ∙ ap (λ b. entry_of (key_of IDENTITY 1 0) b ∷ (ledger_entries s.ledger ++ value_entries end)) identity
+            ∙ ap (λ es. identity_entry m ∷ (ledger_entries s.ledger ++ es)) values;
+      }
+
 pub saved_again : saved_law
 saved_again s fresh life is new =
-    let m = s.objects in
-    let f = fresh.objects in
-    let names = kept_names m.shapes in
-    let end = put_all m f names in
-    let start : fresh ≡ state_of f (option_map (λ x. empty_ledger x.slots life) s.ledger) = ap (state_of f) new.ledger in
-    let behind : Leads (state_of f (option_map (λ x. empty_ledger x.slots life) s.ledger)) (ledger_entries s.ledger ++ value_entries m) (state_of end s.ledger) =
-    leads_further (state_of f (option_map (λ x. empty_ledger x.slots life) s.ledger)) (ledger_entries s.ledger) (value_entries m) (state_of f s.ledger) (state_of end s.ledger)
-    (ledgers_lead f s.ledger life is.ledger) (values_lead m f s.ledger names new.shapes is.values) in
-    let all : Leads fresh (saved s) (state_of end s.ledger) =
-    leads_on fresh fresh (state_of end s.ledger) (identity_entry m) (ledger_entries s.ledger ++ value_entries m) (identity_put fresh (identity_bytes m) (sym new.identity))
-    (subst (λ x. Leads x (ledger_entries s.ledger ++ value_entries m) (state_of end s.ledger)) (sym start) behind) in
-    let shapes : end.shapes ≡ m.shapes = shapes_stay m f names ∙ new.shapes in
-    let values : value_entries end ≡ value_entries m = ap (λ x. map (value_entry end) (kept_names x)) shapes ∙ entries_same m f names in
-    let identity : identity_bytes end ≡ identity_bytes m = identity_stays m f names is.values ∙ new.identity in
-    record {
-      used = all.used;
-      ledger = ap (λ (x : State). x.ledger) all.after;
-      saved = ap saved all.after
-          ∙ ap (λ b. entry_of (key_of IDENTITY 1 0) b ∷ (ledger_entries s.ledger ++ value_entries end)) identity
-          ∙ ap (λ es. identity_entry m ∷ (ledger_entries s.ledger ++ es)) values;
-    }
+    with_values s fresh life new is.ledger
+    (values_lead s.objects fresh.objects s.ledger (kept_names s.objects.shapes) new.shapes is.values)
+    (names_of_kept s.objects (kept_names s.objects.shapes) is.values)
+
+pub used_again : used_law
+used_again s fresh life named is new used =
+    let entries = ledger_entries s.ledger ++ value_entries s.objects in
+    let first : AllByRecursion (λ outcome. outcome ≡ Used) (restored fresh entries).outcomes =
+    subst (λ x. AllByRecursion (λ outcome. outcome ≡ Used) (restored x entries).outcomes) (ap (λ (d : Done State). d.after) (identity_used s fresh life new is)) used.1 in
+    let second : AllByRecursion (λ outcome. outcome ≡ Used) (restored (behind_identity s fresh life new is) entries).outcomes =
+    subst (λ x. AllByRecursion (λ outcome. outcome ≡ Used) (restored x entries).outcomes) (start s fresh life new is) first in
+    with_values s fresh life new is
+    (used_lead s.objects fresh.objects s.ledger (kept_names s.objects.shapes) named
+    (used_behind (behind_identity s fresh life new is) (state_of fresh.objects s.ledger) (ledger_entries s.ledger) (value_entries s.objects) (ledger_used s fresh life new is).after second))
+    named
 
 -- what no entry names
 if_kept : (m : Contents) (n : AttributeName) (b : List ℕ) (c i a : ℕ) (kind : Option AttributeKind) → eqb c n.class && (eqb i n.instance && eqb a n.attribute) ≡ false → value_at (if_value m n (with_kept m n.class n.instance n.attribute b kind)).after c i a ≡ value_at m c i a

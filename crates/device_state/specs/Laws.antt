@@ -13,13 +13,17 @@ use Rattle.device_state.specs.Keys.{key_of}
 use Rattle.device_state.specs.Restored.{Restored, done, is_same_device, restored, restored_entry}
 use Rattle.device_state.specs.Saved.{State, Entry, entry_of, identity_bytes, saved}
 
--- A name has 16 bits a part, is none of Identity or of the ledger, and its value is one that it can have.
-pub record IsKept (m : Contents) (name : AttributeName) : Type 0 where
+-- A name has 16 bits a part, and is none of Identity or of the ledger.
+pub record IsName (name : AttributeName) : Type 0 where
   pub class : name.class < 2 ^ 16
   pub instance : name.instance < 2 ^ 16
   pub attribute : name.attribute < 2 ^ 16
   pub not_identity : (name.class == IDENTITY) ≡ false
   pub not_ledger : (name.class == LEDGER) ≡ false
+
+-- The value of a name is one that it can have.
+pub record IsKept (m : Contents) (name : AttributeName) : Type 0 where
+  pub is_name : IsName name
   pub value : is_some (value_restored m name (bytes_at m name.class name.instance name.attribute)) ≡ true
 
 -- What holds of every device.
@@ -44,6 +48,13 @@ pub record IsRestored (s : State) (r : Restored) : Type 0 where
 abbrev pub saved_law : Type 0
 saved_law =
     (s fresh : State) (life : ℕ) → IsDevice s → IsFresh s fresh life → IsRestored s (restored fresh (saved s))
+
+-- The same without a premise on the values, if each entry was used.
+abbrev pub used_law : Type 0
+used_law =
+    (s fresh : State) (life : ℕ) → AllByRecursion IsName (kept_names s.objects.shapes) → IfSome s.ledger IsLedger
+    → IsFresh s fresh life → AllByRecursion (λ outcome. outcome ≡ Used) (restored fresh (saved s)).outcomes
+    → IsRestored s (restored fresh (saved s))
 
 -- What no entry names stays as it was.
 abbrev pub others_law : Type 0

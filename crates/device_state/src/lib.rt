@@ -8,7 +8,8 @@
 //! and the same ledger.
 //!
 //! A key has 48 bits: the class, the instance and the attribute. The entries come in the order of the configuration, so
-//! a saved form that wants rising keys sorts them.
+//! a saved form that wants rising keys sorts them. They are the whole state, and replace those that were saved before:
+//! a slot of the ledger that was freed has no entry.
 //!
 //! Nothing here allocates.
 //!

@@ -68,7 +68,10 @@ fn entries_of_a_device(rt: HostRuntime) -> Result<(), Fail> {
             Some(KEYS[index])
         );
     }
-    assert_eq!(rt; saved_entry(&device.0, device.1.as_ref(), 10, &mut bytes), None);
+    assert_eq!(rt;
+        saved_entry(&device.0, device.1.as_ref(), 10, &mut bytes),
+        None
+    );
     assert_eq!(rt; identity_key(), KEYS[0]);
     check(&rt, &device, 0, IDENTITY);
     check(&rt, &device, 1, LIFE);
