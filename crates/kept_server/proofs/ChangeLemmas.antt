@@ -268,9 +268,10 @@ pub small_keepable : (entries : List Entry) → are_small (pairs_of entries) ≡
     → k < length entries → IsKeepable (get_or entries k d)
 small_keepable [] small k d less = absurd (omega arith)
 small_keepable (e ∷ entries) small zero d less =
-    let here : is_small (pair_of e) ≡ true = both_first (is_small (pair_of e)) (are_small (pairs_of entries)) small in
-    (ltb-true e.key (2 ^ 63) (both_first (nat_lt e.key (2 ^ 63)) (nat_lt (length e.bytes.items) (2 ^ 16)) here),
-    ltb-true (length e.bytes.items) (2 ^ 16)
-    (both_last (nat_lt e.key (2 ^ 63)) (nat_lt (length e.bytes.items) (2 ^ 16)) here))
+    let here : is_small (pair_of e) ≡ true = both_first (is_small (pair_of e)) (are_small (pairs_of entries)) small in (
+      ltb-true e.key (2 ^ 63) (both_first (nat_lt e.key (2 ^ 63)) (nat_lt (length e.bytes.items) (2 ^ 16)) here),
+      ltb-true (length e.bytes.items) (2 ^ 16)
+          (both_last (nat_lt e.key (2 ^ 63)) (nat_lt (length e.bytes.items) (2 ^ 16)) here),
+    )
 small_keepable (e ∷ entries) small (suc k) d less =
     small_keepable entries (both_last (is_small (pair_of e)) (are_small (pairs_of entries)) small) k d (omega arith)

@@ -1,12 +1,11 @@
 //! Peers of a device whose state is kept.
 
-ghost use Rattle.std.specs.Prelude.{ℕ, List, ◌≡◌, ⊤};
-ghost use Rattle.enip_adapter.specs.Calls.{Call};
+ghost use Rattle.std.specs.Prelude.{◌≡◌};
 ghost use Rattle.enip_keep.specs.Kept.{Kept, pairs_of};
-ghost use Rattle.enip_server.specs.Held.{AreReleased};
 ghost use Rattle.enip_server.specs.Rounds.{state_of};
 ghost use Rattle.kept_server.specs.Changes.{keys_of, known, saved};
-ghost use Rattle.kept_server.specs.Rounds.{DeviceContents, SendsNothing, TakesRound, after_round, contents_with, kept_of};
+ghost use Rattle.kept_server.specs.Rounds.{DeviceContents, RoundRequests, SendsHeld, SendsNothing, TakesRound};
+ghost use Rattle.kept_server.specs.Rounds.{after_round, contents_with, kept_of};
 
 use crate::changes::copy_all;
 use crate::kept_device::KeptDevice;
@@ -60,7 +59,7 @@ impl<W: Wire + Drop, C: KeptDevice> Device for KeptPeers<W, C> {
 
     ghost Contents = { DeviceContents };
 
-    ghost Requests = { List Call };
+    ghost Requests = { RoundRequests W };
 
     ghost executed = { after_round C.saved };
 
@@ -70,7 +69,7 @@ impl<W: Wire + Drop, C: KeptDevice> Device for KeptPeers<W, C> {
 
     ghost refuses = { C.refuses };
 
-    ghost brings = { λ input requests. ⊤ };
+    ghost brings = { λ input requests. requests.input ≡ input };
 
     ghost contents = { λ d. record {
       adapter = (state_of d.peers).adapter;
@@ -83,10 +82,10 @@ impl<W: Wire + Drop, C: KeptDevice> Device for KeptPeers<W, C> {
     ghost sends_nothing = { λ old new. SendsNothing W.written (state_of old.peers) (state_of new.peers) };
 
     ghost holds_answers = { λ old requests new.
-        (now : ℕ) × TakesRound W.left W.written now requests (state_of old.peers) (state_of new.peers) };
+        TakesRound W.left W.written requests (state_of old.peers) (state_of new.peers) new.last_round };
 
-    ghost sends_held = { λ old new.
-        AreReleased W.left W.written W.known W.counts (state_of old.peers) (state_of new.peers) };
+    ghost sends_held = { λ old new. SendsHeld W.left W.written W.known W.counts (state_of old.peers) (state_of new.peers)
+        old.last_round new.last_round };
 
     fn start(alloc: Global, configuration: &C, entries: &[Entry]) -> Result<Self, KeepError> {
         let adapter = configuration.start(alloc, entries)?;

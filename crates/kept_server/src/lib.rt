@@ -10,9 +10,11 @@
 mod changes;
 mod kept_device;
 mod kept_peers;
+mod lives;
 mod round;
 mod table;
 
 pub use kept_device::KeptDevice;
 pub use kept_peers::KeptPeers;
+pub use lives::live_peers;
 pub use round::{MOST_READY, ReadyWire, RoundInput};

@@ -1,8 +1,9 @@
 //! A round of peers whose wires hold back what is written to them.
 
-ghost use Rattle.std.specs.Prelude.{◌≡◌};
+ghost use Rattle.std.specs.Prelude.{◌≡◌, List};
+ghost use Rattle.enip_adapter.specs.Calls.{Call};
 ghost use Rattle.enip_server.specs.Rounds.{state_of};
-ghost use Rattle.kept_server.specs.Rounds.{AreCalled, KeepsWires, Leads, SendsNothing, TakesRound};
+ghost use Rattle.kept_server.specs.Rounds.{IsAccepted, SendsNothing, TakesRound, with_marks};
 
 use arrayvec::ArrayVec;
 use enip_server::{HeldWire, Peers, RoundEnd, Wire};
@@ -11,7 +12,7 @@ use enip_server::{HeldWire, Peers, RoundEnd, Wire};
 pub const MOST_READY: usize = 16;
 
 /// A wire that may be ready.
-#[derive(Clone, Copy, Debug, PartialEq, Eq)]
+#[derive(Clone, Copy, Debug, Default, PartialEq, Eq)]
 pub struct ReadyWire {
     /// The slot of its peer.
     pub slot: usize,
@@ -35,7 +36,8 @@ pub(crate) fn take_round<W: Wire + Drop>(
     peers: &mut Peers<HeldWire<W>>,
     input: RoundInput<W>,
 ) -> RoundEnd
-    ensures round { (calls : _) × TakesRound W.left W.written input.now calls (state_of peers.old) (state_of peers.new) }
+    ensures round { (calls : List Call) × TakesRound W.left W.written (record { input = input; calls = calls })
+        (state_of peers.old) (state_of peers.new) result }
     ensures silent { SendsNothing W.written (state_of peers.old) (state_of peers.new) }
 {
     let RoundInput {
@@ -50,9 +52,7 @@ pub(crate) fn take_round<W: Wire + Drop>(
 
 /// Adds a connection, if there is one. If no slot is free, it is dropped.
 fn add_accepted<W: Wire + Drop>(peers: &mut Peers<HeldWire<W>>, now: u64, accepted: Option<W>)
-    ensures called { AreCalled W.left W.written (state_of peers.old) (state_of peers.new) }
-    ensures kept { KeepsWires (state_of peers.old) (state_of peers.new) }
-    ensures leads { Leads (state_of peers.old).adapter (state_of peers.new).adapter }
+    ensures { IsAccepted now accepted (state_of peers.old) (state_of peers.new) }
 {
     if let Some(wire) = accepted {
         let _ = peers.add(now, HeldWire::new(wire));
@@ -61,9 +61,7 @@ fn add_accepted<W: Wire + Drop>(peers: &mut Peers<HeldWire<W>>, now: u64, accept
 
 /// Marks these wires as ready.
 fn mark_ready<W: Wire + Drop>(peers: &mut Peers<HeldWire<W>>, ready: &[ReadyWire])
-    ensures called { AreCalled W.left W.written (state_of peers.old) (state_of peers.new) }
-    ensures kept { KeepsWires (state_of peers.old) (state_of peers.new) }
-    ensures same { (state_of peers.new).adapter ≡ (state_of peers.old).adapter }
+    ensures { state_of peers.new ≡ with_marks ready.now (state_of peers.old) }
 {
     for wire in ready {
         peers.mark_ready(wire.slot, wire.ends);

@@ -2,6 +2,7 @@
 
 mod caller;
 mod held;
+mod kept;
 mod owner;
 mod turns;
 mod wires;

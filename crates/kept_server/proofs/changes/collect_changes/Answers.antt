@@ -19,20 +19,20 @@ loop-index-preserved c =
     let now : Kept = pairs_of (take (index + 1) current) in
     let less : index < length kept = omega arith in
     elim c.if-ne.branch [
-      then-ne+in_ok-copy+in_ok-push w ↦
-      subst (λ xs. AreChanges (pairs_of (take (index + 1) kept)) now (pairs_of xs))
-      (sym (ap (λ (v : Vec Entry). v.items) w.changed-is ∙ w.in_ok-push.ensures.items))
-      (more_differs kept current index c.index-kept-index.result c.index-current-index.result c.requires.keys less
-      c.loop-index-test.true (sym c.index-kept-index.is) (sym c.index-current-index.is) c.loop-index.changed.items
-      c.loop-index.invariant w.in_ok-copy.copy w.in_ok-copy.ensures.0 w.in_ok-copy.ensures.1)
-    | else-ne w ↦
-      subst (λ xs. AreChanges (pairs_of (take (index + 1) kept)) now (pairs_of xs))
-      (sym (ap (λ (v : Vec Entry). v.items) w.changed-is))
-      (more_same kept current index c.index-kept-index.result c.index-current-index.result c.requires.keys less
-      c.loop-index-test.true (sym c.index-kept-index.is) (sym c.index-current-index.is) c.loop-index.changed.items
-      c.loop-index.invariant
-      (sym c.as_slice.ensures.value ∙ bytes_equal _ _ (unequal_not _ (sym c.ne.ensures ∙ w.if-ne.false))
-      ∙ c.as_slice-in-loop-index.ensures.value))
+      | then-ne+in_ok-copy+in_ok-push w ↦
+          subst (λ xs. AreChanges (pairs_of (take (index + 1) kept)) now (pairs_of xs))
+          (sym (ap (λ (v : Vec Entry). v.items) w.changed-is ∙ w.in_ok-push.ensures.items))
+          (more_differs kept current index c.index-kept-index.result c.index-current-index.result c.requires.keys less
+          c.loop-index-test.true (sym c.index-kept-index.is) (sym c.index-current-index.is) c.loop-index.changed.items
+          c.loop-index.invariant w.in_ok-copy.copy w.in_ok-copy.ensures.0 w.in_ok-copy.ensures.1)
+      | else-ne w ↦
+          subst (λ xs. AreChanges (pairs_of (take (index + 1) kept)) now (pairs_of xs))
+          (sym (ap (λ (v : Vec Entry). v.items) w.changed-is))
+          (more_same kept current index c.index-kept-index.result c.index-current-index.result c.requires.keys less
+          c.loop-index-test.true (sym c.index-kept-index.is) (sym c.index-current-index.is) c.loop-index.changed.items
+          c.loop-index.invariant
+          (sym c.as_slice.ensures.value ∙ bytes_equal _ _ (unequal_not _ (sym c.ne.ensures ∙ w.if-ne.false))
+          ∙ c.as_slice-in-loop-index.ensures.value))
     ]
 
 pub returns-then-index-kept : goal.returns-then-index-kept
