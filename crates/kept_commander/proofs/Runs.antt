@@ -100,7 +100,6 @@ used_after a b (Some s) (inr (inr ended)) (inl lower) = inl (omega (arith, ended
 used_after a b (Some s) (inr (inr ended)) (inr last) =
     inr (last.0 ∙ sym ended.0, λ message is. absurd (no_message (sym (not_pending b ended.1) ∙ is)))
 
-
 run-used : (es : List CommandEvent) (ms : List (Option Sent)) (p q : Bool) (a b : CommanderState) (m : Option Sent) → IsRun es ms p a q b → HasUsed a m → HasUsed b m
 run-used [] [] p q a b m run used = subst (λ c. HasUsed c m) (sym run.1) used
 run-used [] (s ∷ ms) p q a b m run used = absurd run
@@ -221,6 +220,6 @@ run-never_dropped [] [] p q a b run = tt
 run-never_dropped [] (s ∷ ms) p q a b run = tt
 run-never_dropped (e ∷ es) [] p q a b run = tt
 run-never_dropped (e ∷ es) (s ∷ ms) p q a b run = (
-    λ keeps. run-keeps es ms run.0 q run.1 b s run.3 keeps (step_sends e s a run.1 run.2.may),
-    run-never_dropped es ms run.0 q run.1 b run.3,
+  λ keeps. run-keeps es ms run.0 q run.1 b s run.3 keeps (step_sends e s a run.1 run.2.may),
+  run-never_dropped es ms run.0 q run.1 b run.3,
 )

@@ -243,7 +243,11 @@ impl<K: RestartableKeeper + Drop> KeptCommander<K> {
 }
 
 /// The commander with this request as its next command, for the device in this life.
-fn next_command(commander: &Commander, life: u64, request: &[u8]) -> Result<Commander, CommandRefused>
+fn next_command(
+    commander: &Commander,
+    life: u64,
+    request: &[u8],
+) -> Result<Commander, CommandRefused>
     ensures refused { IfErr result (λ why. command_refusal commander.now request.now ≡ Some why) }
     ensures allowed { OnOk result (command_refusal commander.now request.now ≡ None) }
     ensures given { IfOk result (λ next. next ≡ given commander.now life request.now) }

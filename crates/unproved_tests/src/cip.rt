@@ -7,6 +7,7 @@ mod class3_changed;
 mod class3_long;
 mod class3_originator;
 mod commander;
+mod commander_crashes;
 mod counting;
 mod device_state;
 mod device_writes;

@@ -35,12 +35,12 @@ loop-event-preserved g c =
     let sure : k.doubt new.keeper ≡ 0 → k.doubt before.client.keeper ≡ 0 = λ clean. omega (arith, clean, c.happen.ensures.doubt) in
     let runs : k.doubt new.keeper ≡ 0 → (last : CommanderState) → k.may_leave new.keeper last → IsRun (before.yielded ++ event ∷ []) (before.sent.items ++ sent ∷ []) serves first new.is_serving last =
     λ clean last may.
-        let step = c.in_ok-handed_out.ensures.step clean last may in
-        run-append before.yielded before.sent.items event sent serves before.client.is_serving new.is_serving first step.0 last (before.invariant.run (sure clean) step.0 step.1) step.2 in
+    let step = c.in_ok-handed_out.ensures.step clean last may in
+    run-append before.yielded before.sent.items event sent serves before.client.is_serving new.is_serving first step.0 last (before.invariant.run (sure clean) step.0 step.1) step.2 in
     let serving : k.doubt new.keeper ≡ 0 → new.is_serving ≡ true → (last : CommanderState) × IsRun (before.yielded ++ event ∷ []) (before.sent.items ++ sent ∷ []) serves first new.is_serving last =
     λ clean serves.
-        let kept = c.happen.ensures.ready clean serves in
-        (k.kept new.keeper, runs clean (k.kept new.keeper) (g.met.K.CommandKeeper.stays new.keeper clean kept.up)) in
+    let kept = c.happen.ensures.ready clean serves in
+    (k.kept new.keeper, runs clean (k.kept new.keeper) (g.met.K.CommandKeeper.stays new.keeper clean kept.up)) in
     record {
       can_next = tt;
       is_finite = tt;
