@@ -6,6 +6,7 @@
 ghost use Rattle.cip_ledger.specs.Laws.{router_law, passing_law, rising_law, once_law, never_again_law, same_bytes_law};
 ghost use Rattle.cip_ledger.specs.Laws.{of_execution_law, others_law, frees_law, executes_law, form_law, life_law};
 ghost use Rattle.cip_ledger.specs.Laws.{lives_law};
+ghost use Rattle.cip_ledger.specs.Kept.{restored_law};
 
 use cip_objects::Router;
 
@@ -75,4 +76,9 @@ pub fn only_in_its_life<R: Router>()
 /// originator's slot is freed in between.
 pub fn once_over_all_lives<R: Router>()
     ensures { lives_law R.after R.answer }
+{}
+
+/// A ledger with as many slots that starts from what is kept of a ledger, its life and its slots, is that ledger.
+pub fn restored_is_kept()
+    ensures { restored_law }
 {}

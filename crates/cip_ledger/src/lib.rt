@@ -30,7 +30,7 @@ mod slot;
 mod slots;
 mod status;
 
-pub use ledger::Ledger;
+pub use ledger::{KeptCommand, Ledger};
 pub use request::LEDGER;
 pub use router::LedgerRouter;
 pub use service::{DO_ONCE, FORGET, GET_LAST};
