@@ -20,4 +20,4 @@ mod writing;
 pub use entry::{Entries, EntryView};
 pub use fault::{StateFault, WriteFault};
 pub use state::SavedState;
-pub use writing::{EntryList, EntrySource, saved_size, write};
+pub use writing::{EntryHead, EntryList, EntrySource, saved_size, write};

@@ -5,7 +5,7 @@
 ghost use Rattle.std.specs.Prelude.{ℕ, List, ◌≡◌, ◌+◌, ◌<◌, ◌≤◌, ◌^◌, ◌++◌, length, drop, MatchOption, IfOk, IfErr, OnErr};
 ghost use Rattle.std.specs.Prelude.{Some, None};
 ghost use Rattle.saved_state.specs.States.{Entry, entry, entries as entry_bytes, size, rise_from, spelled};
-ghost use Rattle.saved_state.specs.Writing.{entry_number, entries_refusal, write_refusal};
+ghost use Rattle.saved_state.specs.Writing.{entry_number, head_of, entries_refusal, write_refusal};
 
 use crate::checksum::checksum;
 use crate::entry::{ENTRY_HEAD, EntryView, KEY_END};
@@ -16,7 +16,16 @@ use crate::state::{CHECKSUM, HEAD, MARK, VERSION};
 /// The most bytes of the entries of a state.
 const ENTRIES_LIMIT: usize = u32::MAX as usize - HEAD - CHECKSUM;
 
-/// What has entries to save. It keeps them in the order of their keys.
+/// What an entry begins with.
+#[derive(Clone, Copy, Debug, PartialEq, Eq)]
+pub struct EntryHead {
+    /// The key, below 2^63.
+    pub key: u64,
+    /// How many bytes are kept under the key.
+    pub len: usize,
+}
+
+/// What has entries to save, in the order of their keys.
 ///
 /// ```
 /// let size = write(&source, generation, buffer)?;
@@ -26,25 +35,23 @@ pub trait EntrySource {
     // The entries, in their order.
     ghost entries: { Self → List Entry };
 
-    /// How many entries there are.
-    fn count(&self) -> usize
-        ensures { result ≡ length (entries self.now) };
+    /// The head of the entry at an index, or `None` past the last entry.
+    fn head(&self, index: usize) -> Option<EntryHead>
+        ensures { MatchOption result (length (entries self.now) ≤ index)
+            (λ head. (index < length (entries self.now)) × (head ≡ head_of (entry_number index (entries self.now)))) };
 
-    /// The key of an entry.
-    fn key(&self, index: usize) -> u64
-        requires { index < length (entries self.now) }
-        ensures { result ≡ (entry_number index (entries self.now)).key };
-
-    /// How many bytes an entry has.
-    fn len(&self, index: usize) -> usize
-        requires { index < length (entries self.now) }
-        ensures { result ≡ length (entry_number index (entries self.now)).bytes };
-
-    /// Copies the bytes of an entry. The slice has their size.
+    /// Copies the bytes of the entry at an index. The slice has their size.
     fn copy(&self, index: usize, into: &mut [u8])
         requires index { index < length (entries self.now) }
         requires size { length into.old ≡ length (entry_number index (entries self.now)).bytes }
         ensures { into.new ≡ (entry_number index (entries self.now)).bytes };
+}
+
+/// How many entries there are, and how many bytes they have.
+#[derive(Clone, Copy)]
+struct Extent {
+    count: u32,
+    size: usize,
 }
 
 /// How many bytes the state with these entries has.
@@ -57,13 +64,8 @@ pub fn saved_size<S: EntrySource>(source: &S) -> Result<usize, WriteFault>
     ensures allowed { IfOk result (λ n. entries_refusal (S.entries source.now) ≡ None) }
     ensures refused { IfErr result (λ fault. entries_refusal (S.entries source.now) ≡ Some fault) }
 {
-    if !do_keys_rise(source) {
-        return Err(WriteFault::Order);
-    }
-    match size_of_entries(source) {
-        Some(size) => Ok(HEAD + size + CHECKSUM),
-        None => Err(WriteFault::TooLong),
-    }
+    let extent = checked_extent(source)?;
+    Ok(HEAD + extent.size + CHECKSUM)
 }
 
 /// Writes the state with these entries and this generation to the front of the buffer. Returns its size in bytes.
@@ -84,47 +86,65 @@ pub fn write<S: EntrySource>(
     ensures refused { IfErr result (λ fault. write_refusal (length buffer.old) (S.entries source.now) ≡ Some fault) }
     ensures unchanged { OnErr result (buffer.new ≡ buffer.old) }
 {
-    let size = saved_size(source)?;
+    let extent = checked_extent(source)?;
+    let size = HEAD + extent.size + CHECKSUM;
     if buffer.len() < size {
         return Err(WriteFault::Full);
     }
-    write_state(source, generation, &mut buffer[..size]);
+    write_state(source, generation, extent.count, &mut buffer[..size]);
     Ok(size)
+}
+
+/// How many entries there are, and how many bytes they have, if a state can have them.
+fn checked_extent<S: EntrySource>(source: &S) -> Result<Extent, WriteFault>
+    ensures extent { IfOk result (λ extent. (extent.count ≡ length (S.entries source.now))
+        × (extent.size ≡ length (entry_bytes (S.entries source.now)))) }
+    ensures allowed { IfOk result (λ extent. entries_refusal (S.entries source.now) ≡ None) }
+    ensures refused { IfErr result (λ fault. entries_refusal (S.entries source.now) ≡ Some fault) }
+{
+    if !do_keys_rise(source) {
+        return Err(WriteFault::Order);
+    }
+    extent_of(source).ok_or(WriteFault::TooLong)
 }
 
 /// Whether the keys rise and are below 2^63.
 fn do_keys_rise<S: EntrySource>(source: &S) -> bool
     ensures { result ≡ rise_from 0 (S.entries source.now) }
 {
+    let mut index = 0;
     let mut least = 0;
-    for index in 0..source.count() {
-        let key = source.key(index);
-        if key < least || key >= KEY_END {
+    while let Some(head) = source.head(index) {
+        if head.key < least || head.key >= KEY_END {
             return false;
         }
-        least = key + 1;
+        least = head.key + 1;
+        index += 1;
     }
     true
 }
 
-/// How many bytes the entries have, if a state can have so many.
-fn size_of_entries<S: EntrySource>(source: &S) -> Option<usize>
+/// How many entries there are, and how many bytes they have, if a state can have so many.
+fn extent_of<S: EntrySource>(source: &S) -> Option<Extent>
     ensures { MatchOption result (2 ^ 32 ≤ size (S.entries source.now))
-        (λ n. (n ≡ length (entry_bytes (S.entries source.now))) × (size (S.entries source.now) < 2 ^ 32)) }
+        (λ extent. (extent.count ≡ length (S.entries source.now))
+        × (extent.size ≡ length (entry_bytes (S.entries source.now))) × (size (S.entries source.now) < 2 ^ 32)) }
 {
+    let mut count = 0;
     let mut size = 0;
-    for index in 0..source.count() {
-        let len = source.len(index);
-        if ENTRIES_LIMIT - size < ENTRY_HEAD || ENTRIES_LIMIT - size - ENTRY_HEAD < len {
+    while let Some(head) = source.head(count as usize) {
+        if ENTRIES_LIMIT - size < ENTRY_HEAD || ENTRIES_LIMIT - size - ENTRY_HEAD < head.len {
             return None;
         }
-        size += ENTRY_HEAD + len;
+        size += ENTRY_HEAD + head.len;
+        count += 1;
     }
-    Some(size)
+    Some(Extent { count, size })
 }
 
 /// Writes a state over the whole buffer, which has its size.
-fn write_state<S: EntrySource>(source: &S, generation: u64, buffer: &mut [u8])
+fn write_state<S: EntrySource>(source: &S, generation: u64, count: u32, buffer: &mut [u8])
+    requires counted { count ≡ length (S.entries source.now) }
     requires sized { length buffer.old ≡ size (S.entries source.now) }
     requires limit { size (S.entries source.now) < 2 ^ 32 }
     ensures { buffer.new ≡ spelled (record { generation = generation; entries = S.entries source.now }) }
@@ -135,7 +155,7 @@ fn write_state<S: EntrySource>(source: &S, generation: u64, buffer: &mut [u8])
     put_udint(buffer, 8, VERSION);
     put_udint(buffer, 12, size as u32);
     put_ulint(buffer, 16, generation);
-    put_udint(buffer, 24, source.count() as u32);
+    put_udint(buffer, 24, count);
     write_entries(source, &mut buffer[HEAD..end]);
     let sum = checksum(&buffer[..end]);
     put_ulint(buffer, end, sum);
@@ -147,23 +167,26 @@ fn write_entries<S: EntrySource>(source: &S, into: &mut [u8])
     requires limit { length into.old < 2 ^ 32 }
     ensures { into.new ≡ entry_bytes (S.entries source.now) }
 {
+    let mut index = 0;
     let mut at = 0;
-    for index in 0..source.count() {
-        let end = at + ENTRY_HEAD + source.len(index);
-        write_entry(source, index, &mut into[at..end]);
+    while let Some(head) = source.head(index) {
+        let end = at + ENTRY_HEAD + head.len;
+        write_entry(source, index, head, &mut into[at..end]);
         at = end;
+        index += 1;
     }
 }
 
 /// Writes an entry over the whole slice, which has its size.
-fn write_entry<S: EntrySource>(source: &S, index: usize, into: &mut [u8])
+fn write_entry<S: EntrySource>(source: &S, index: usize, head: EntryHead, into: &mut [u8])
     requires index { index < length (S.entries source.now) }
+    requires head { head ≡ head_of (entry_number index (S.entries source.now)) }
     requires sized { length into.old ≡ 12 + length (entry_number index (S.entries source.now)).bytes }
     requires limit { length into.old < 2 ^ 32 }
     ensures { into.new ≡ entry (entry_number index (S.entries source.now)) }
 {
-    put_ulint(into, 0, source.key(index));
-    put_udint(into, 8, source.len(index) as u32);
+    put_ulint(into, 0, head.key);
+    put_udint(into, 8, head.len as u32);
     source.copy(index, &mut into[ENTRY_HEAD..]);
 }
 
@@ -182,16 +205,12 @@ impl EntrySource for EntryList<'_> {
 
     ghost entries = { λ list. map entry_of list.0.now };
 
-    fn count(&self) -> usize {
-        self.0.len()
-    }
-
-    fn key(&self, index: usize) -> u64 {
-        self.0[index].key
-    }
-
-    fn len(&self, index: usize) -> usize {
-        self.0[index].bytes.len()
+    fn head(&self, index: usize) -> Option<EntryHead> {
+        let entry = self.0.get(index)?;
+        Some(EntryHead {
+            key: entry.key,
+            len: entry.bytes.len(),
+        })
     }
 
     fn copy(&self, index: usize, into: &mut [u8]) {

@@ -2,7 +2,8 @@
 
 use crate::texts::check_texts;
 use saved_state::{
-    EntryList, EntrySource, EntryView, SavedState, StateFault, WriteFault, saved_size, write,
+    EntryHead, EntryList, EntrySource, EntryView, SavedState, StateFault, WriteFault, saved_size,
+    write,
 };
 use std::process::Abort;
 use std::test::*;
@@ -425,16 +426,15 @@ impl EntrySource for Long {
 
     ghost entries = { λ long. record { key = 1; bytes = replicate long.0 0 } ∷ [] };
 
-    fn count(&self) -> usize {
-        1
-    }
-
-    fn key(&self, _index: usize) -> u64 {
-        1
-    }
-
-    fn len(&self, _index: usize) -> usize {
-        self.0
+    fn head(&self, index: usize) -> Option<EntryHead> {
+        if index == 0 {
+            Some(EntryHead {
+                key: 1,
+                len: self.0,
+            })
+        } else {
+            None
+        }
     }
 
     fn copy(&self, _index: usize, into: &mut [u8]) {
