@@ -10,9 +10,9 @@ ghost use Rattle.enip_commands.specs.Statuses.{IsOfDevices};
 use crate::acceptor::Acceptor;
 use crate::discovery::Discovery;
 use crate::observer::Observer;
-use enip_adapter::Adapter;
+use crate::serving::Serving;
 use enip_commands::ProgramFault;
-use enip_server::{Peers, RoundEnd};
+use enip_server::RoundEnd;
 use mio::net::{TcpListener, TcpStream, UdpSocket};
 use mio::{Events, Interest, Poll, Token};
 use std::alloc::Global;
@@ -40,27 +40,18 @@ pub(crate) struct Sockets {
     pub(crate) datagrams: Option<UdpSocket>,
 }
 
-/// How a device is served.
-#[derive(Clone, Copy)]
-pub(crate) struct ServeOptions {
-    /// After how many connections to return.
-    pub(crate) count: u64,
-    /// How long a peer may be silent, in microseconds.
-    pub(crate) idle_timeout: u64,
-}
-
-/// Serves connections until as many as the options say have come and gone. A connection that fails ends only itself.
-pub(crate) fn serve_connections<R: Clock + Net, O: Observer + Drop>(
+/// Serves `count` connections, until they have come and gone. A connection that fails ends only itself.
+pub(crate) fn serve_connections<R: Clock + Net, O: Observer + Drop, S: Serving<O::Wire> + Drop>(
     rt: &R,
     alloc: Global,
     sockets: Sockets,
-    adapter: Adapter,
-    options: ServeOptions,
+    serving: S,
+    count: u64,
     observer: O,
 ) -> Result<(), ProgramFault>
     ensures { IfErr result IsOfDevices }
 {
-    let mut server = Server::new(rt, alloc, adapter, options, observer)?;
+    let mut server = Server::new(rt, alloc, serving, count, observer)?;
     server.run(rt, alloc, sockets)
 }
 
@@ -113,12 +104,12 @@ impl System {
 
 /// The peers and the sockets of a served device.
 #[derive(Drop)]
-struct Server<O: Observer + Drop> {
+struct Server<O: Observer + Drop, S: Serving<O::Wire> + Drop> {
     system: System,
     /// `None` before the sockets are open, and once all connections were accepted.
     acceptor: Option<Acceptor>,
     discovery: Option<Discovery>,
-    peers: Peers<O::Wire>,
+    peers: S,
     observer: O,
     /// The end of the last round. `ready` is set if a peer was added since.
     last_round: RoundEnd,
@@ -132,19 +123,18 @@ struct Server<O: Observer + Drop> {
     rounds_deferred: u32,
 }
 
-impl<O: Observer + Drop> Server<O> {
+impl<O: Observer + Drop, S: Serving<O::Wire> + Drop> Server<O, S> {
     /// A server without sockets and peers.
     fn new<R: Clock + Net>(
         rt: &R,
         alloc: Global,
-        adapter: Adapter,
-        options: ServeOptions,
+        peers: S,
+        count: u64,
         observer: O,
-    ) -> Result<Server<O>, ProgramFault>
+    ) -> Result<Server<O, S>, ProgramFault>
         ensures { IfErr result IsOfDevices }
     {
         let system = System::new(rt, alloc)?;
-        let peers = Peers::new(alloc, adapter, options.idle_timeout)?;
         let last_round = RoundEnd {
             ended: 0,
             ready: false,
@@ -157,7 +147,7 @@ impl<O: Observer + Drop> Server<O> {
             peers,
             observer,
             last_round,
-            count: options.count,
+            count,
             accepted: 0,
             ended: 0,
             rounds_deferred: 0,
@@ -216,7 +206,7 @@ impl<O: Observer + Drop> Server<O> {
             }
             self.wait(now)?;
             now = microseconds_since(clock, self.system.start)?;
-            self.round(now);
+            self.round(now)?;
         }
         Ok(())
     }
@@ -274,11 +264,13 @@ impl<O: Observer + Drop> Server<O> {
     }
 
     /// One round: answers a datagram, gives each peer that may be ready a turn, and accepts a connection.
-    fn round(&mut self, now: u64) {
+    fn round(&mut self, now: u64) -> Result<(), ProgramFault>
+        ensures { IfErr result IsOfDevices }
+    {
         if let Some(discovery) = &mut self.discovery {
             discovery.answer_one(&self.peers, &self.observer, now);
         }
-        self.last_round = self.peers.round(now);
+        self.last_round = self.peers.round(now)?;
         if self.last_round.ended > 0 {
             self.ended = self.ended.saturating_add(self.last_round.ended as u64);
             if let Some(acceptor) = &mut self.acceptor {
@@ -286,6 +278,7 @@ impl<O: Observer + Drop> Server<O> {
             }
         }
         self.accept_one(now);
+        Ok(())
     }
 
     /// Accepts the next connection, if there is one. If it cannot become a peer it is closed at once.
@@ -346,7 +339,7 @@ impl<O: Observer + Drop> Server<O> {
         let Some(wire) = self.observer.wire(stream) else {
             return false;
         };
-        if self.peers.add(now, wire).is_err() {
+        if !self.peers.add(now, wire) {
             return false;
         }
         self.last_round.ready = true;
