@@ -411,6 +411,7 @@ static void commands(void) {
     is_rest_kept("values", RESULT);
     outcome("refused", "\xcb\0\x10\0", 4, (enip_outcome){0, ENIP_ONCE_REFUSED, 0x10}, "");
     outcome("pending", "\xcb\0\0\0\1", 5, (enip_outcome){0, ENIP_ONCE_PENDING, 0}, "");
+    outcome("in doubt", "\xcb\0\0\0\2", 5, (enip_outcome){0, ENIP_ONCE_IN_DOUBT, 0}, "");
     outcome("malformed", "\xcc\0\0\0\1", 5, (enip_outcome){0, ENIP_ONCE_MALFORMED, 0}, "");
     outcome("done", "\xcb\0\0\0\0\x8e\0\x0a\0\7", 10, (enip_outcome){5, ENIP_ONCE_DONE, 0x0a}, "\x8e\0\x0a\0\7");
     outcome("nothing", "\xcb\0\0\0\0\x8e\0\0\0", 9, (enip_outcome){0, ENIP_ONCE_NOTHING, 0}, "");

@@ -236,10 +236,11 @@ static void other_replies(void) {
     command(add_5, sizeof add_5);
     receive("one byte", "\xcb", 1, ENIP_ONCE_MALFORMED, 0, 0);
     receive("no state", "\xcb\0\0\0", 4, ENIP_ONCE_MALFORMED, 0, 0);
-    receive("another state", "\xcb\0\0\0\2", 5, ENIP_ONCE_MALFORMED, 0, 0);
+    receive("another state", "\xcb\0\0\0\3", 5, ENIP_ONCE_MALFORMED, 0, 0);
     receive("another service", "\xcc\0\0\0\0\xb2\0\0\0", 9, ENIP_ONCE_MALFORMED, 0, 0);
     receive("a request", "\x4b\0\0\0\0\xb2\0\0\0", 9, ENIP_ONCE_MALFORMED, 0, 0);
     receive("pending", "\xcb\0\0\0\1", 5, ENIP_ONCE_PENDING, 0, 0);
+    receive("in doubt", "\xcb\0\0\0\2", 5, ENIP_ONCE_IN_DOUBT, 0, 0);
     receive("refused", "\xcb\0\x08\0", 4, ENIP_ONCE_REFUSED, 0x08, 0);
     receive("refused, with data", "\xcb\0\x10\0\0", 5, ENIP_ONCE_REFUSED, 0x10, 0);
     is_pending("after all of these", add_5, sizeof add_5);

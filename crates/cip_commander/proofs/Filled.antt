@@ -5,7 +5,7 @@ use Rattle.cip_ledger.specs.Ledger.{SlotState, slot_of, with_slot, without_slot}
 use Rattle.cip_commander.specs.NumberedWorld.{blank_slot}
 
 abbrev pub own_slot : ℕ → ℕ → List ℕ → SlotState
-own_slot originator number reply = record { originator = originator; number = number; reply = reply }
+own_slot originator number reply = record { originator = originator; number = number; reply = Some reply }
 
 -- the slots, with this one in place of the first of its originator
 abbrev pub fill : SlotState → List SlotState → List SlotState

@@ -150,7 +150,7 @@ module _ {M : Type 0} (after : M → ℕ → List ℕ → M) (answer : M → ℕ
         ledger =
             ap (λ taken. Some (record ledger { taken = taken }))
             (with_slot-fill_other slot
-            (record { originator = other.originator; number = other.number; reply = embedded_reply after answer router other.request })
+            (record { originator = other.originator; number = other.number; reply = Some (embedded_reply after answer router other.request) })
             ledger.taken same.1);
       })
   acted-alike (Frees one) (Frees other) service ledger router same =

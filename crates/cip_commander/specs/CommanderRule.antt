@@ -7,7 +7,7 @@ use Rattle.cip_ledger.specs.Requests.{Command}
 use Rattle.cip_ledger.specs.declared.service.TheConstants as services
 use Rattle.cip_commander.specs.declared.refusal.CommandRefused.{CommandRefused}
 use Rattle.cip_commander.specs.declared.refusal.CommandRefused.TheVariants as refusals
-use Rattle.cip_commander.specs.Outcome.{Outcome, Done, StillPending, Refused, Malformed, NotPending, outcome_of_text}
+use Rattle.cip_commander.specs.Outcome.{Outcome, Done, StillPending, InDoubt, Refused, Malformed, NotPending, outcome_of_text}
 
 -- the device's life that the commands are for, who gives them, the number that the last one took, and its embedded
 -- request while it is pending
@@ -107,6 +107,7 @@ abandoned commander = record commander { pending = None }
 abbrev pub after_outcome : CommanderState → Outcome → CommanderState
 after_outcome commander (Done reply) = abandoned commander
 after_outcome commander StillPending = commander
+after_outcome commander InDoubt = commander
 after_outcome commander (Refused status) = commander
 after_outcome commander Malformed = commander
 after_outcome commander NotPending = commander

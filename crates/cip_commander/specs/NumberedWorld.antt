@@ -63,7 +63,7 @@ world_at opening = record {
 
 -- the slot of the originator, with nothing kept
 abbrev pub blank_slot : ℕ → SlotState
-blank_slot originator = record { originator = originator; number = 0; reply = [] }
+blank_slot originator = record { originator = originator; number = 0; reply = None }
 
 abbrev pub with_blank : ℕ → LedgerState → LedgerState
 with_blank originator ledger = record ledger { taken = with_slot (blank_slot originator) ledger.taken }

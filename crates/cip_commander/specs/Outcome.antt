@@ -6,11 +6,12 @@ use Rattle.cip_ledger.specs.declared.service.TheConstants as services
 use Rattle.cip_commander.specs.declared.outcome.CommandOutcome.{CommandOutcome}
 use Rattle.cip_commander.specs.declared.outcome.CommandOutcome.TheVariants as outcomes
 
--- the command is done with this reply to its embedded request, waits at the device, or was refused with this general
--- status; the text is not a reply to Do_Once; or no command is pending
+-- the command is done with this reply to its embedded request, waits at the device, is in doubt at the device, or was
+-- refused with this general status; the text is not a reply to Do_Once; or no command is pending
 pub data Outcome : Type 0 where
   Done : (reply : List ℕ) → Outcome
   StillPending : Outcome
+  InDoubt : Outcome
   Refused : (status : ℕ) → Outcome
   Malformed : Outcome
   NotPending : Outcome
@@ -18,14 +19,17 @@ pub data Outcome : Type 0 where
 abbrev pub outcome_in : CommandOutcome → Outcome
 outcome_in (outcomes.Done reply) = Done reply.now
 outcome_in outcomes.StillPending = StillPending
+outcome_in outcomes.InDoubt = InDoubt
 outcome_in (outcomes.Refused status) = Refused status
 outcome_in outcomes.Malformed = Malformed
 outcome_in outcomes.NotPending = NotPending
 
--- by the state byte: 0 is done, 1 is pending
+-- by the state byte: 0 is done, 1 is pending, 2 is in doubt
 abbrev pub outcome_of_data : List ℕ → Outcome
 outcome_of_data [] = Malformed
-outcome_of_data (state ∷ reply) = if state == 0 then Done reply else (if state == 1 then StillPending else Malformed)
+outcome_of_data (state ∷ reply) =
+    if state == 0 then Done reply
+    else (if state == 1 then StillPending else (if state == 2 then InDoubt else Malformed))
 
 abbrev pub outcome_of_reply : Result Reply ReplyFault → Outcome
 outcome_of_reply (Err fault) = Malformed

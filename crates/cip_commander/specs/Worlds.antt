@@ -88,6 +88,7 @@ ends_at opening = record {
 abbrev pub accepted_by : ℕ → outcomes.Outcome → List (ℕ × List ℕ)
 accepted_by number (outcomes.Done reply) = (number, reply) ∷ []
 accepted_by number outcomes.StillPending = []
+accepted_by number outcomes.InDoubt = []
 accepted_by number (outcomes.Refused status) = []
 accepted_by number outcomes.Malformed = []
 accepted_by number outcomes.NotPending = []

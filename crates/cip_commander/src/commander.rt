@@ -140,7 +140,8 @@ impl Commander {
 
     /// Takes a reply to the pending request.
     ///
-    /// Only `Done` ends the command. After every other outcome the command is pending as before, and can be sent again.
+    /// Only `Done` ends the command. After every other outcome the command is pending as before, and can be sent again. A
+    /// command in doubt is answered as such until the device's owner settles it, and as done from then on.
     pub fn receive<'a>(&mut self, reply: &'a [u8]) -> CommandOutcome<'a>
         ensures outcome { outcome_in result ≡ outcome_of self.old reply.now }
         ensures state { self.new ≡ after_reply self.old reply.now }

@@ -12,6 +12,9 @@ pub enum CommandOutcome<'a> {
     Done(&'a [u8]),
     /// The device has taken the command and has not executed it yet. The command is still pending.
     StillPending,
+    /// The device does not know whether the command was executed, and will not execute it. Its owner has to settle the
+    /// command. It is still pending.
+    InDoubt,
     /// The device refused the command with this general status. The command is still pending.
     Refused(u8),
     /// Not a reply to Do_Once. Nothing has changed.
@@ -25,6 +28,9 @@ const DONE: u8 = 0;
 
 /// The state byte of a command that the device has taken and not executed yet.
 const TAKEN: u8 = 1;
+
+/// The state byte of a command of which the device does not know whether it was executed.
+const IN_DOUBT: u8 = 2;
 
 /// What a text says about a pending command.
 #[tactic(auto, unfolding(crate::specs::Outcome::outcome_of_text))]
@@ -51,6 +57,7 @@ fn outcome_by_state(data: &[u8]) -> CommandOutcome<'_>
     match data {
         [DONE, reply @ ..] => CommandOutcome::Done(reply),
         [TAKEN, ..] => CommandOutcome::StillPending,
+        [IN_DOUBT, ..] => CommandOutcome::InDoubt,
         _ => CommandOutcome::Malformed,
     }
 }

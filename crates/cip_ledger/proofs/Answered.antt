@@ -8,7 +8,7 @@ use Rattle.cip_ledger.specs.declared.router.LedgerRouter.{LedgerRouter}
 use Rattle.cip_ledger.specs.declared.service.TheConstants as services
 use Rattle.cip_ledger.specs.Ledger.{LedgerState, SlotState, slot_of}
 use Rattle.cip_ledger.specs.Requests.{LedgerRequest, Command, command_of, ledger_request}
-use Rattle.cip_ledger.specs.Services.{Action, Replies, Executes, Frees, success, reply_to, DONE}
+use Rattle.cip_ledger.specs.Services.{Action, Replies, Executes, Frees, success, reply_to, last_content}
 use Rattle.cip_ledger.specs.Turn.{Fate, Passed, Served, fate, turn_by, embedded_reply}
 use Rattle.cip_ledger.specs.Runs.{Request, slot_in, command_by, command_given, Event, Executed, Freed}
 use Rattle.cip_ledger.specs.Runs.{answer_to, next, node_after, journal}
@@ -82,7 +82,7 @@ spelled service other status content given a b c =
     ∙ ap (λ x. reply_service other ∷ 0 ∷ 0 ∷ 0 ∷ x) c
 
 -- a slot that is settled and has this number has this reply
-settled-reply : (slot : SlotState) (number : ℕ) (reply : List ℕ) → slot.number ≡ number → Settled number reply (Some slot) → slot.reply ≡ reply
+settled-reply : (slot : SlotState) (number : ℕ) (reply : Option (List ℕ)) → slot.number ≡ number → Settled number reply (Some slot) → slot.reply ≡ reply
 settled-reply slot number reply is (inl same) = same.1
 settled-reply slot number reply is (inr greater) = absurd (omega (arith, is, greater))
 
@@ -106,8 +106,8 @@ none_some o command none some = absurd (cc)
 module _ {M : Type 0} (after : M → ℕ → List ℕ → M) (answer : M → ℕ → List ℕ → List ℕ) where
   -- what a success answer leaves settled
   pub record Settles (f : Fate) (node : LedgerRouter M) (request : Request) (originator number : ℕ) : Type 0 where
-    pub reply : List ℕ
-    pub answered : (turn_by after answer f node.ledger node.router request.0 request.1).answer ≡ reply_to services.DO_ONCE (success (DONE ∷ reply))
+    pub reply : Option (List ℕ)
+    pub answered : (turn_by after answer f node.ledger node.router request.0 request.1).answer ≡ reply_to services.DO_ONCE (success (last_content reply))
     pub settled : Settled number reply (slot_in originator (next_by after answer f node request).ledger)
 
   module _ (node : LedgerRouter M) (request : Request) (originator number : ℕ) (some : node.ledger ≢ None) (command : Command)
@@ -120,19 +120,19 @@ module _ {M : Type 0} (after : M → ℕ → List ℕ → M) (answer : M → ℕ
         let kept = means.means.kept command given status in
         record {
           reply = kept.slot.reply;
-          answered = spelled service services.DO_ONCE (status_number reply.status) reply.content (DONE ∷ kept.slot.reply)
+          answered = spelled service services.DO_ONCE (status_number reply.status) reply.content (last_content kept.slot.reply)
               (once_service node.ledger request service (Replies reply) command means given) status kept.content_is;
           settled = subst (λ l. Settled number kept.slot.reply (slot_in originator l)) (sym means.ledger_is)
               (subst (λ o. Settled number kept.slot.reply (slot_of o means.state.taken)) originator_is
               (subst (Settled number kept.slot.reply) (sym kept.found) (inl (kept.number_is ∙ number_is, refl))));
         }
     settles-by (Served service (Executes executed)) means status =
-        let reply = embedded_reply after answer node.router executed.request in
+        let reply = Some (embedded_reply after answer node.router executed.request) in
         let same : executed ≡ command = gives-unique (ledger_request request.1) executed command means.means.given_is given in
         let nodes = next_by after answer (Served service (Executes executed)) node request in
         record {
           reply = reply;
-          answered = ap (λ x. reply_to x (success (DONE ∷ reply)))
+          answered = ap (λ x. reply_to x (success (last_content reply)))
               (once_service node.ledger request service (Executes executed) command means given);
           settled = subst (λ o. Settled number reply (slot_in o nodes.ledger))
               (ap (λ (c : Command). c.originator) same ∙ originator_is)
@@ -143,9 +143,9 @@ module _ {M : Type 0} (after : M → ℕ → List ℕ → M) (answer : M → ℕ
     settles-by (Served service (Frees freed)) means status =
         absurd (none_some (command_given request) command means.means.no_command given)
 
-    again-by : (f : Fate) (reply : List ℕ) → Means node.ledger request f → Settled number reply (slot_in originator node.ledger) →
+    again-by : (f : Fate) (reply : Option (List ℕ)) → Means node.ledger request f → Settled number reply (slot_in originator node.ledger) →
         general_status (turn_by after answer f node.ledger node.router request.0 request.1).answer ≡ 0 →
-        (turn_by after answer f node.ledger node.router request.0 request.1).answer ≡ reply_to services.DO_ONCE (success (DONE ∷ reply))
+        (turn_by after answer f node.ledger node.router request.0 request.1).answer ≡ reply_to services.DO_ONCE (success (last_content reply))
     again-by Passed reply means settled status = absurd (passed_none node.ledger request command means some given)
     again-by (Served service (Replies replied)) reply means settled status =
         let kept = means.means.kept command given status in
@@ -153,9 +153,9 @@ module _ {M : Type 0} (after : M → ℕ → List ℕ → M) (answer : M → ℕ
         = subst (Settled number reply) kept.found
         (subst (λ o. Settled number reply (slot_of o means.state.taken)) (sym originator_is)
         (subst (λ l. Settled number reply (slot_in originator l)) means.ledger_is settled)) in
-        spelled service services.DO_ONCE (status_number replied.status) replied.content (DONE ∷ reply)
+        spelled service services.DO_ONCE (status_number replied.status) replied.content (last_content reply)
         (once_service node.ledger request service (Replies replied) command means given) status
-        (kept.content_is ∙ ap (λ r. DONE ∷ r) (settled-reply kept.slot number reply (kept.number_is ∙ number_is) there))
+        (kept.content_is ∙ ap last_content (settled-reply kept.slot number reply (kept.number_is ∙ number_is) there))
     again-by (Served service (Executes executed)) reply means settled status =
         let same : executed ≡ command = gives-unique (ledger_request request.1) executed command means.means.given_is given in
         let there : Settled number reply (slot_of executed.originator means.state.taken)
@@ -170,14 +170,14 @@ module _ {M : Type 0} (after : M → ℕ → List ℕ → M) (answer : M → ℕ
     -- the slot has a greater number
     older-by : (f : Fate) → Means node.ledger request f →
         general_status (turn_by after answer f node.ledger node.router request.0 request.1).answer ≡ 0x0c →
-        Settled number [] (slot_in originator (next_by after answer f node request).ledger)
+        Settled number None (slot_in originator (next_by after answer f node request).ledger)
     older-by Passed means status = absurd (passed_none node.ledger request command means some given)
     older-by (Served service (Replies reply)) means status =
         let older = means.means.older command given status in
         let greater = older.greater in
-        subst (λ l. Settled number [] (slot_in originator l)) (sym means.ledger_is)
-        (subst (λ o. Settled number [] (slot_of o means.state.taken)) originator_is
-        (subst (Settled number []) (sym older.found) (inr (omega (arith, greater, number_is)))))
+        subst (λ l. Settled number None (slot_in originator l)) (sym means.ledger_is)
+        (subst (λ o. Settled number None (slot_of o means.state.taken)) originator_is
+        (subst (Settled number None) (sym older.found) (inr (omega (arith, greater, number_is)))))
     older-by (Served service (Executes executed)) means status = absurd (omega (arith, status))
     older-by (Served service (Frees freed)) means status = absurd (omega (arith, status))
 
@@ -196,7 +196,7 @@ module _ {M : Type 0} (after : M → ℕ → List ℕ → M) (answer : M → ℕ
       (fate node.ledger request.0 request.1) (fate-means node.ledger request) (is.status_is ∙ success) in
       journal-above after answer later (next after answer node request) originator number s.reply s.settled
   never-again node request later originator number status is (inr older) =
-      journal-above after answer later (next after answer node request) originator number []
+      journal-above after answer later (next after answer node request) originator number None
       (older-by node request originator number is.has_ledger is.command is.given is.originator_is is.number_is
       (fate node.ledger request.0 request.1) (fate-means node.ledger request) (is.status_is ∙ older))
 

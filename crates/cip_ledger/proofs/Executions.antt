@@ -8,7 +8,7 @@ use Rattle.cip_ledger.specs.declared.service.TheConstants as services
 use Rattle.cip_ledger.specs.Status.{status_number}
 use Rattle.cip_ledger.specs.Ledger.{LedgerState, SlotState, slot_of, empty_ledger, without_slot}
 use Rattle.cip_ledger.specs.Requests.{LedgerRequest, Command, command_of, ledger_request}
-use Rattle.cip_ledger.specs.Services.{Replies, Executes, Frees, success, reply_to, DONE, KEPT_LIMIT, HEAD_SIZE, do_command, do_by_slot, action_of}
+use Rattle.cip_ledger.specs.Services.{Replies, Executes, Frees, success, reply_to, DONE, last_content, KEPT_LIMIT, HEAD_SIZE, do_command, do_by_slot, action_of}
 use Rattle.cip_ledger.specs.Turn.{Fate, Passed, Served, fate, fate_of, turn_by, with_executed, with_freed, embedded_reply}
 use Rattle.cip_ledger.specs.Runs.{Request, slot_in, command_by, command_given, Event, Executed, Freed}
 use Rattle.cip_ledger.specs.Runs.{answer_to, next, node_after, events_by, journal}
@@ -44,9 +44,25 @@ done-right (Freed freed ∷ events) later originator number reply is = done-righ
 
 -- ---- each reply that is kept is that of an execution
 
+-- none of them is in doubt
+abbrev IsDoneWith : ℕ → ℕ → Option (List ℕ) → List Event → Type 0
+IsDoneWith originator number None past = ⊥
+IsDoneWith originator number (Some reply) past = IsDone originator number reply past
+
 abbrev Covered : List Event → Option LedgerState → Type 0
 Covered past ledger = (originator : ℕ) (slot : SlotState) → slot_in originator ledger ≡ Some slot →
-    IsDone originator slot.number slot.reply past
+    IsDoneWith originator slot.number slot.reply past
+
+with-left : (events later : List Event) (originator number : ℕ) (kept : Option (List ℕ)) →
+    IsDoneWith originator number kept events → IsNotFreed originator later → IsDoneWith originator number kept (events ++ later)
+with-left events later originator number None is kept = absurd is
+with-left events later originator number (Some reply) is kept = done-left events later originator number reply is kept
+
+-- a command that is done is not in doubt
+done-kept : (originator number : ℕ) (kept : Option (List ℕ)) (past : List Event) → IsDoneWith originator number kept past →
+    (reply : List ℕ) × (kept ≡ Some reply) × IsDone originator number reply past
+done-kept originator number None past is = absurd is
+done-kept originator number (Some reply) past is = (reply, refl, is)
 
 same_slot : (found : Option SlotState) (a b : SlotState) → found ≡ Some a → found ≡ Some b → a ≡ b
 same_slot found a b is_a is_b = ap (λ o. unwrap_or o a) (sym is_a ∙ is_b)
@@ -59,23 +75,23 @@ covered-executed : (past : List Event) (ledger : LedgerState) (command : Command
 covered-executed past ledger command reply covered originator slot at = go (command.originator == originator) refl
   where
     go : (is : Bool) → (command.originator == originator) ≡ is →
-        IsDone originator slot.number slot.reply (past ++ Executed command reply ∷ [])
+        IsDoneWith originator slot.number slot.reply (past ++ Executed command reply ∷ [])
     go true h =
         let same = eqb-true command.originator originator h in
         let found : slot_of originator (with_executed command reply ledger).taken ≡ Some (slot_done command reply)
         = ap (λ o. slot_of o (with_executed command reply ledger).taken) (sym same) ∙ executed-same ledger command reply in
         let equal = same_slot _ (slot_done command reply) slot found at in
-        done-right past (Executed command reply ∷ []) originator slot.number slot.reply
-        (inl (same, ap (λ (s : SlotState). s.number) equal, ap (λ (s : SlotState). s.reply) equal, tt))
+        subst (λ (s : SlotState). IsDoneWith originator s.number s.reply (past ++ Executed command reply ∷ [])) equal
+        (done-right past (Executed command reply ∷ []) originator command.number reply (inl (same, refl, refl, tt)))
     go false h =
-        done-left past (Executed command reply ∷ []) originator slot.number slot.reply
+        with-left past (Executed command reply ∷ []) originator slot.number slot.reply
         (covered originator slot (sym (executed-other (Some ledger) command reply originator (eqb-false command.originator originator h)) ∙ at)) tt
 
 covered-freed : (past : List Event) (ledger : LedgerState) (freed : ℕ) → Covered past (Some ledger) →
     Covered (past ++ Freed freed ∷ []) (Some (with_freed freed ledger))
 covered-freed past ledger freed covered originator slot at = go (freed == originator) refl
   where
-    go : (is : Bool) → (freed == originator) ≡ is → IsDone originator slot.number slot.reply (past ++ Freed freed ∷ [])
+    go : (is : Bool) → (freed == originator) ≡ is → IsDoneWith originator slot.number slot.reply (past ++ Freed freed ∷ [])
     go true h =
         let same = eqb-true freed originator h in
         let none : slot_of originator (without_slot freed ledger.taken) ≡ None
@@ -83,7 +99,7 @@ covered-freed past ledger freed covered originator slot at = go (freed == origin
         absurd (no_slot (slot_of originator (without_slot freed ledger.taken)) slot none at)
     go false h =
         let other = eqb-false freed originator h in
-        done-left past (Freed freed ∷ []) originator slot.number slot.reply
+        with-left past (Freed freed ∷ []) originator slot.number slot.reply
         (covered originator slot (sym (freed-other (Some ledger) freed originator other) ∙ at)) (other, tt)
 
 module _ {M : Type 0} (after : M → ℕ → List ℕ → M) (answer : M → ℕ → List ℕ → List ℕ) where
@@ -91,9 +107,9 @@ module _ {M : Type 0} (after : M → ℕ → List ℕ → M) (answer : M → ℕ
       Covered past node.ledger →
       Covered (past ++ events_by after answer f node.router) (next_by after answer f node request).ledger
   covered-by Passed past node request means covered =
-      λ originator slot at. done-left past [] originator slot.number slot.reply (covered originator slot at) tt
+      λ originator slot at. with-left past [] originator slot.number slot.reply (covered originator slot at) tt
   covered-by (Served service (Replies reply)) past node request means covered =
-      λ originator slot at. done-left past [] originator slot.number slot.reply (covered originator slot at) tt
+      λ originator slot at. with-left past [] originator slot.number slot.reply (covered originator slot at) tt
   covered-by (Served service (Executes command)) past node request means covered =
       let reply = embedded_reply after answer node.router command.request in
       subst (λ l. Covered (past ++ Executed command reply ∷ []) (option_map (with_executed command reply) l)) (sym means.ledger_is)
@@ -119,12 +135,14 @@ module _ {M : Type 0} (after : M → ℕ → List ℕ → M) (answer : M → ℕ
         let found : slot_in originator node.ledger ≡ Some kept.slot
         = subst (λ l. slot_in originator l ≡ Some kept.slot) (sym means.ledger_is)
         (subst (λ o. slot_of o means.state.taken ≡ Some kept.slot) is.originator_is kept.found) in
+        let parts = done-kept originator kept.slot.number kept.slot.reply past (covered originator kept.slot found) in
         record {
-          reply = kept.slot.reply;
-          done_is = done-left past [] originator number kept.slot.reply
-              (subst (λ n. IsDone originator n kept.slot.reply past) (kept.number_is ∙ is.number_is) (covered originator kept.slot found)) tt;
-          given_is = spelled service services.DO_ONCE (status_number replied.status) replied.content (DONE ∷ kept.slot.reply)
-              (once_service node.ledger request service (Replies replied) is.command means is.given) status kept.content_is;
+          reply = parts.0;
+          done_is = done-left past [] originator number parts.0
+              (subst (λ n. IsDone originator n parts.0 past) (kept.number_is ∙ is.number_is) parts.2) tt;
+          given_is = spelled service services.DO_ONCE (status_number replied.status) replied.content (DONE ∷ parts.0)
+              (once_service node.ledger request service (Replies replied) is.command means is.given) status
+              (kept.content_is ∙ ap last_content parts.1);
         }
     last-by (Served service (Executes executed)) past means covered status =
         let reply = embedded_reply after answer node.router executed.request in
@@ -181,7 +199,7 @@ new_command ledger max_size command new roomy =
     let own = new.life in
     rw (eq-eqb command.life ledger.life own) (new_action (slot_of command.originator ledger.taken) ledger max_size command new.number roomy)
 
-new_request : (ledger : LedgerState) (max_size : ℕ) (request : LedgerRequest) → request.instance ≡ 1 → request.service ≡ services.DO_ONCE →
+pub new_request : (ledger : LedgerState) (max_size : ℕ) (request : LedgerRequest) → request.instance ≡ 1 → request.service ≡ services.DO_ONCE →
     22 ≤ length request.data → action_of ledger max_size request ≡ do_command ledger max_size (command_of request.data)
 new_request ledger max_size request one once enough =
     rw (ne_eqb request.instance 0 (λ e. omega (arith, one, e)), eq-eqb request.instance 1 one, eq-eqb request.service services.DO_ONCE once, le-ltb (length request.data) 22 enough) refl

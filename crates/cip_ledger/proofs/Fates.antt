@@ -1,5 +1,5 @@
 -- What the fate of a request says of the request and of the ledger.
-use Rattle.std.proofs.Common.{◌≡◌, ◌⊎◌, inl, inr, ℕ, ◌+◌, ◌*◌, ◌<◌, ◌≤◌, ◌==◌, ◌&&◌, nat_lt, Bool, true, false, not, if◌then◌else◌, Option, Some, None, unwrap_or, List, [], ◌∷◌, ◌++◌, length, drop, refl, ap, sym, ◌∙◌, subst, arith, length-drop}
+use Rattle.std.proofs.Common.{◌≡◌, ◌⊎◌, inl, inr, ℕ, ◌+◌, ◌*◌, ◌<◌, ◌≤◌, ◌==◌, ◌&&◌, nat_lt, Bool, true, false, not, if◌then◌else◌, Option, Some, None, unwrap_or, List, [], ◌++◌, length, drop, refl, ap, sym, ◌∙◌, subst, arith, length-drop}
 use Rattle.std.specs.Prelude.{⊤}
 use Rattle.std.proofs.lemmas.Bool.{eq-eqb, eqb-true, eqb-false, ltb-true, ltb-false}
 use Rattle.cip_bytes.specs.Numbers.{le, number_at, words_of}
@@ -9,7 +9,7 @@ use Rattle.cip_ledger.specs.declared.service.TheConstants as services
 use Rattle.cip_ledger.specs.Status.{status_number}
 use Rattle.cip_ledger.specs.Ledger.{LedgerState, SlotState, slot_of}
 use Rattle.cip_ledger.specs.Requests.{LedgerRequest, Command, command_of, ledger_request}
-use Rattle.cip_ledger.specs.Services.{Answer, Action, Replies, Executes, Frees, refusal, refuses, success, within, size_fault, unless, DONE, KEPT_LIMIT, HEAD_SIZE, do_once, do_command, do_by_slot, do_new, get_last, last_in, forget, forget_in, single, value_named, class_answer, class_values, get_attribute_list, list_answer, ledger_values, instance_action, action_of}
+use Rattle.cip_ledger.specs.Services.{Answer, Action, Replies, Executes, Frees, refusal, refuses, success, within, size_fault, unless, last_content, KEPT_LIMIT, HEAD_SIZE, do_once, do_command, do_by_slot, do_new, get_last, last_in, forget, forget_in, single, value_named, class_answer, class_values, get_attribute_list, list_answer, ledger_values, instance_action, action_of}
 use Rattle.cip_ledger.specs.Turn.{Fate, Passed, Served, fate, fate_of}
 use Rattle.cip_ledger.specs.Runs.{Request, command_by, command_in_data, command_given, forgotten_by, forgotten_in_data, forgotten}
 
@@ -23,7 +23,7 @@ pub record IsKept (ledger : LedgerState) (command : Command) (content : List ℕ
   pub slot : SlotState
   pub found : slot_of command.originator ledger.taken ≡ Some slot
   pub number_is : slot.number ≡ command.number
-  pub content_is : content ≡ DONE ∷ slot.reply
+  pub content_is : content ≡ last_content slot.reply
 
 -- the originator's slot has a greater number than the command
 pub record IsOlder (ledger : LedgerState) (command : Command) : Type 0 where
@@ -85,13 +85,13 @@ within-fits max_size answer least = go (nat_lt max_size (HEAD_SIZE + length answ
 
 module _ (ledger : LedgerState) (max_size : ℕ) (bytes : List ℕ) (named : Option (ℕ × ℕ)) where
   kept_means : (slot : SlotState) (tight : Bool) → slot_of (command_of bytes).originator ledger.taken ≡ Some slot → slot.number ≡ (command_of bytes).number →
-      nat_lt max_size (HEAD_SIZE + length (DONE ∷ slot.reply)) ≡ tight →
+      nat_lt max_size (HEAD_SIZE + length (last_content slot.reply)) ≡ tight →
       MeansAction ledger max_size (Some (command_of bytes)) named
-      (Replies (if tight then refusal statuses.ReplyDataTooLarge else success (DONE ∷ slot.reply)))
+      (Replies (if tight then refusal statuses.ReplyDataTooLarge else success (last_content slot.reply)))
   kept_means slot true found number h = refused_of ledger max_size (Some (command_of bytes)) named statuses.ReplyDataTooLarge (λ e. absurd (omega (arith, e))) (λ e. absurd (omega (arith, e)))
   kept_means slot false found number h = record {
-    fits = λ least. ltb-false max_size (HEAD_SIZE + length (DONE ∷ slot.reply)) h;
-    kept = λ command is e. subst (λ (command : Command). IsKept ledger command (DONE ∷ slot.reply)) (ap (λ o. unwrap_or o command) is)
+    fits = λ least. ltb-false max_size (HEAD_SIZE + length (last_content slot.reply)) h;
+    kept = λ command is e. subst (λ (command : Command). IsKept ledger command (last_content slot.reply)) (ap (λ o. unwrap_or o command) is)
         (record { slot = slot; found = found; number_is = number; content_is = refl });
     older = λ command is e. absurd (omega (arith, e));
   }
@@ -115,7 +115,7 @@ module _ (ledger : LedgerState) (max_size : ℕ) (bytes : List ℕ) (named : Opt
       nat_lt (command_of bytes).number slot.number ≡ less → ((command_of bytes).number == slot.number) ≡ same →
       MeansAction ledger max_size (Some (command_of bytes)) named
       (if less then refuses statuses.ObjectStateConflict
-      else (if same then Replies (within max_size (success (DONE ∷ slot.reply))) else do_new max_size (command_of bytes)))
+      else (if same then Replies (within max_size (success (last_content slot.reply))) else do_new max_size (command_of bytes)))
   some_means slot true same enough life found h i = record {
     fits = λ least. omega (arith, least);
     kept = λ command is e. absurd (omega (arith, e));
@@ -123,7 +123,7 @@ module _ (ledger : LedgerState) (max_size : ℕ) (bytes : List ℕ) (named : Opt
         (record { slot = slot; found = found; greater = ltb-true (command_of bytes).number slot.number h });
   }
   some_means slot false true enough life found h i =
-      kept_means slot (nat_lt max_size (HEAD_SIZE + length (DONE ∷ slot.reply))) found (sym (eqb-true (command_of bytes).number slot.number i)) refl
+      kept_means slot (nat_lt max_size (HEAD_SIZE + length (last_content slot.reply))) found (sym (eqb-true (command_of bytes).number slot.number i)) refl
   some_means slot false false enough life found h i =
       let least = ltb-false (command_of bytes).number slot.number h in
       let other = eqb-false (command_of bytes).number slot.number i in
@@ -164,7 +164,7 @@ unless_fits max_size (Some status) answer least fits = omega (arith, least)
 
 last-fits : (max_size : ℕ) (found : Option SlotState) → 8 ≤ max_size → HEAD_SIZE + length (last_in max_size found).content ≤ max_size
 last-fits max_size None least = omega (arith, least)
-last-fits max_size (Some slot) least = within-fits max_size (success (le 4 slot.number ++ DONE ∷ slot.reply)) least
+last-fits max_size (Some slot) least = within-fits max_size (success (le 4 slot.number ++ last_content slot.reply)) least
 
 single-fits : (max_size : ℕ) (bytes : List ℕ) (value : Option (List ℕ)) → 8 ≤ max_size →
     HEAD_SIZE + length (single max_size bytes value).content ≤ max_size

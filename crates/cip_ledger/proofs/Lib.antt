@@ -1,9 +1,11 @@
 pub mod SlotLemmas
+pub mod KeptLemmas
 pub mod RequestLemmas
 pub mod Fates
 pub mod Settled
 pub mod Answered
 pub mod Executions
+pub mod Doubts
 pub mod Lives
 pub mod Forms
 pub mod Words

@@ -14,19 +14,19 @@ use Rattle.cip_ledger.specs.Laws.{UntilFreed, Rises, IsNotFreed, IsOfAnother, Is
 use Rattle.cip_ledger.proofs.SlotLemmas.{slot_of-with_slot, slot_of-with_other, slot_of-without_slot, slot_of-without_other}
 use Rattle.cip_ledger.proofs.Fates.{IsNewAt, Means, fate-means}
 
--- the slot keeps this number with this reply, or a greater number
-abbrev pub Settled : ℕ → List ℕ → Option SlotState → Type 0
+-- the slot keeps this number with this reply, or in doubt, or a greater number
+abbrev pub Settled : ℕ → Option (List ℕ) → Option SlotState → Type 0
 Settled number reply None = ⊥
 Settled number reply (Some slot) = ((slot.number ≡ number) × (slot.reply ≡ reply)) ⊎ (number < slot.number)
 
 -- a number that is new there is greater
-pub newer_than : (slot : Option SlotState) (number newer : ℕ) (reply : List ℕ) → Settled number reply slot → IsNewAt slot newer → number < newer
+pub newer_than : (slot : Option SlotState) (number newer : ℕ) (reply : Option (List ℕ)) → Settled number reply slot → IsNewAt slot newer → number < newer
 newer_than None number newer reply settled is = absurd settled
 newer_than (Some slot) number newer reply (inl same) is = let e = same.0 in omega (arith, e, is)
 newer_than (Some slot) number newer reply (inr greater) is = omega (arith, greater, is)
 
 abbrev pub slot_done : Command → List ℕ → SlotState
-slot_done command reply = record { originator = command.originator; number = command.number; reply = reply }
+slot_done command reply = record { originator = command.originator; number = command.number; reply = Some reply }
 
 -- the slot of an executed command's originator, and that of another
 pub executed-same : (ledger : LedgerState) (command : Command) (reply : List ℕ) →
@@ -44,7 +44,7 @@ pub freed-other : (ledger : Option LedgerState) (freed originator : ℕ) → fre
 freed-other None freed originator other = refl
 freed-other (Some ledger) freed originator other = slot_of-without_other ledger.taken freed originator other
 
-settled-executed : (ledger : LedgerState) (command : Command) (given : List ℕ) (originator number : ℕ) (reply : List ℕ) →
+settled-executed : (ledger : LedgerState) (command : Command) (given : List ℕ) (originator number : ℕ) (reply : Option (List ℕ)) →
     Settled number reply (slot_of originator ledger.taken) → IsNewAt (slot_of command.originator ledger.taken) command.number →
     Settled number reply (slot_of originator (with_executed command given ledger).taken)
 settled-executed ledger command given originator number reply settled newer = go (command.originator == originator) refl
@@ -68,7 +68,7 @@ module _ {M : Type 0} (after : M → ℕ → List ℕ → M) (answer : M → ℕ
   next_by f node request = node_of (turn_by after answer f node.ledger node.router request.0 request.1)
 
   -- one request leaves it settled, unless it frees the slot
-  settled-by : (f : Fate) (node : LedgerRouter M) (request : Request) (originator number : ℕ) (reply : List ℕ) →
+  settled-by : (f : Fate) (node : LedgerRouter M) (request : Request) (originator number : ℕ) (reply : Option (List ℕ)) →
       Means node.ledger request f → Settled number reply (slot_in originator node.ledger) →
       IsNotFreed originator (events_by after answer f node.router) →
       Settled number reply (slot_in originator (next_by f node request).ledger)
@@ -92,7 +92,7 @@ module _ {M : Type 0} (after : M → ℕ → List ℕ → M) (answer : M → ℕ
   not_freed-right (Executed command reply ∷ events) later originator kept = not_freed-right events later originator kept
   not_freed-right (Freed freed ∷ events) later originator kept = not_freed-right events later originator kept.1
 
-  pub settled-run : (requests : List Request) (node : LedgerRouter M) (originator number : ℕ) (reply : List ℕ) →
+  pub settled-run : (requests : List Request) (node : LedgerRouter M) (originator number : ℕ) (reply : Option (List ℕ)) →
       Settled number reply (slot_in originator node.ledger) → IsNotFreed originator (journal after answer node requests) →
       Settled number reply (slot_in originator (node_after after answer node requests).ledger)
   settled-run [] node originator number reply settled kept = settled
@@ -108,7 +108,7 @@ module _ {M : Type 0} (after : M → ℕ → List ℕ → M) (answer : M → ℕ
   abbrev IsAbove : ℕ → ℕ → List Event → Type 0
   IsAbove originator number events = UntilFreed originator (λ command. number < command.number) events
 
-  above-by : (f : Fate) (node : LedgerRouter M) (request : Request) (later : List Event) (originator number : ℕ) (reply : List ℕ) →
+  above-by : (f : Fate) (node : LedgerRouter M) (request : Request) (later : List Event) (originator number : ℕ) (reply : Option (List ℕ)) →
       Means node.ledger request f → Settled number reply (slot_in originator node.ledger) →
       (Settled number reply (slot_in originator (next_by f node request).ledger) → IsAbove originator number later) →
       IsAbove originator number (events_by after answer f node.router ++ later)
@@ -123,7 +123,7 @@ module _ {M : Type 0} (after : M → ℕ → List ℕ → M) (answer : M → ℕ
   above-by (Served service (Frees freed)) node request later originator number reply means settled above = λ other.
       above (settled-by (Served service (Frees freed)) node request originator number reply means settled (other, tt))
 
-  pub journal-above : (requests : List Request) (node : LedgerRouter M) (originator number : ℕ) (reply : List ℕ) →
+  pub journal-above : (requests : List Request) (node : LedgerRouter M) (originator number : ℕ) (reply : Option (List ℕ)) →
       Settled number reply (slot_in originator node.ledger) →
       IsAbove originator number (journal after answer node requests)
   journal-above [] node originator number reply settled = tt
@@ -136,15 +136,15 @@ module _ {M : Type 0} (after : M → ℕ → List ℕ → M) (answer : M → ℕ
   -- the slot of an executed command is settled
   pub settled-command : (node : LedgerRouter M) (request : Request) (service : ℕ) (command : Command) →
       Means node.ledger request (Served service (Executes command)) →
-      Settled command.number (embedded_reply after answer node.router command.request)
+      Settled command.number (Some (embedded_reply after answer node.router command.request))
       (slot_in command.originator (next_by (Served service (Executes command)) node request).ledger)
   settled-command node request service command means =
       let reply = embedded_reply after answer node.router command.request in
       let there : slot_of command.originator (with_executed command reply means.state).taken ≡ Some (slot_done command reply)
       = executed-same means.state command reply in
-      subst (λ l. Settled command.number reply (slot_in command.originator (option_map (with_executed command reply) l)))
+      subst (λ l. Settled command.number (Some reply) (slot_in command.originator (option_map (with_executed command reply) l)))
       (sym means.ledger_is)
-      (subst (Settled command.number reply) (sym there) (inl (refl, refl)))
+      (subst (Settled command.number (Some reply)) (sym there) (inl (refl, refl)))
 
   -- numbers rise
   rises-by : (f : Fate) (node : LedgerRouter M) (request : Request) (requests : List Request) → Means node.ledger request f →
@@ -154,7 +154,7 @@ module _ {M : Type 0} (after : M → ℕ → List ℕ → M) (answer : M → ℕ
   rises-by (Served service (Replies given)) node request requests means later = later
   rises-by (Served service (Executes command)) node request requests means later = (
     journal-above requests (next_by (Served service (Executes command)) node request) command.originator command.number
-        (embedded_reply after answer node.router command.request) (settled-command node request service command means),
+        (Some (embedded_reply after answer node.router command.request)) (settled-command node request service command means),
     later,
   )
   rises-by (Served service (Frees freed)) node request requests means later = later

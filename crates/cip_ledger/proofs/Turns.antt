@@ -39,7 +39,7 @@ module _ {M : Type 0} (after : M → ℕ → List ℕ → M) (answer : M → ℕ
   -- a command that is executed
   pub executed_turn : (command : Command) (router_left : M) (life slots slots_left : ℕ) (taken taken_left : List SlotState) (inner given kept text : List ℕ) →
       (let l : LedgerState = record { slots = slots; life = life; taken = taken } in l) ≡ old → slots_left ≡ slots →
-      taken_left ≡ with_slot (record { originator = command.originator; number = command.number; reply = given }) taken →
+      taken_left ≡ with_slot (record { originator = command.originator; number = command.number; reply = Some given }) taken →
       given ≡ inner → inner ≡ embedded_reply after answer router command.request → router_left ≡ after_embedded after answer router command.request →
       kept ≡ given → text ≡ reply_to services.DO_ONCE (success (DONE ∷ kept)) →
       turn_of (Some (let l : LedgerState = record { slots = slots_left; life = life; taken = taken_left } in l)) router_left text

@@ -1,6 +1,16 @@
--- What a contract sees of a slot, of a command and of a request to the ledger.
+-- What a contract sees of a slot.
+use Rattle.std.specs.Prelude.{Bool, true, false, Option, Some, None, List, ℕ}
 use Rattle.cip_ledger.specs.Ledger.{SlotState}
 use Rattle.cip_ledger.specs.declared.slot.Slot.TheInside.{Inside}
 
+-- nothing is kept of a command in doubt
+abbrev pub kept_in : Bool → List ℕ → Option (List ℕ)
+kept_in true reply = None
+kept_in false reply = Some reply
+
 abbrev pub slot_in : Inside → SlotState
-slot_in slot = record { originator = slot.originator; number = slot.number; reply = slot.reply.items }
+slot_in slot = record {
+  originator = slot.originator;
+  number = slot.number;
+  reply = kept_in slot.is_in_doubt slot.reply.items;
+}

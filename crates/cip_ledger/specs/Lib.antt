@@ -1,6 +1,7 @@
 pub mod AttributeValue
 pub mod Inside
 pub mod Ledger
+pub mod Kept
 pub mod Requests
 pub mod Services
 pub mod Slots
@@ -9,7 +10,9 @@ pub mod Turn
 pub mod Verdicts
 pub mod Views
 pub mod TooLarge
+pub mod Doubt
 pub mod Laws
+pub mod DoubtLaws
 pub mod Runs
 pub mod Reaching
 pub mod Device

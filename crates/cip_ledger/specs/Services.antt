@@ -26,6 +26,15 @@ KEPT_LIMIT = 480
 abbrev pub DONE : ℕ
 DONE = 0
 
+-- the state byte of a command in doubt
+abbrev pub IN_DOUBT : ℕ
+IN_DOUBT = 2
+
+-- the state of an originator's last command, and the reply that is kept of it
+abbrev pub last_content : Option (List ℕ) → List ℕ
+last_content None = IN_DOUBT ∷ []
+last_content (Some reply) = DONE ∷ reply
+
 -- the general status and the data of a reply
 pub record Answer : Type 0 where
   pub status : Status
@@ -75,14 +84,14 @@ do_new max_size command =
     if nat_lt max_size (HEAD_SIZE + 1 + KEPT_LIMIT) then refuses statuses.ReplyDataTooLarge else Executes command
 
 -- by the originator's slot: without one a free slot is needed, and in one a smaller number is refused, the same number
--- is answered by the kept reply, and a greater one is new
+-- is answered by its state and the kept reply, and a greater one is new
 abbrev pub do_by_slot : LedgerState → ℕ → Command → Option SlotState → Action
 do_by_slot ledger max_size command None =
     if nat_lt (length ledger.taken) ledger.slots then do_new max_size command
     else refuses statuses.ResourceUnavailable
 do_by_slot ledger max_size command (Some slot) =
     if nat_lt command.number slot.number then refuses statuses.ObjectStateConflict
-    else (if command.number == slot.number then Replies (within max_size (success (DONE ∷ slot.reply)))
+    else (if command.number == slot.number then Replies (within max_size (success (last_content slot.reply)))
     else do_new max_size command)
 
 -- a command of another life is never executed
@@ -101,7 +110,7 @@ do_once ledger max_size bytes =
 
 abbrev pub last_in : ℕ → Option SlotState → Answer
 last_in max_size None = refusal statuses.ObjectDoesNotExist
-last_in max_size (Some slot) = within max_size (success (le 4 slot.number ++ DONE ∷ slot.reply))
+last_in max_size (Some slot) = within max_size (success (le 4 slot.number ++ last_content slot.reply))
 
 -- an originator's last number, the state and the kept reply
 abbrev pub get_last : LedgerState → ℕ → List ℕ → Answer

@@ -23,7 +23,8 @@ fate (Some ledger) max_size text = fate_of ledger max_size (ledger_request text)
 -- the ledger once a command was executed with this reply
 abbrev pub with_executed : Command → List ℕ → LedgerState → LedgerState
 with_executed command reply ledger = record ledger {
-  taken = with_slot (record { originator = command.originator; number = command.number; reply = reply }) ledger.taken;
+  taken =
+      with_slot (record { originator = command.originator; number = command.number; reply = Some reply }) ledger.taken;
 }
 
 -- the ledger once an originator's slot is free

@@ -6,6 +6,8 @@
 ghost use Rattle.cip_ledger.specs.Laws.{router_law, passing_law, rising_law, once_law, never_again_law, same_bytes_law};
 ghost use Rattle.cip_ledger.specs.Laws.{of_execution_law, others_law, frees_law, executes_law, form_law, life_law};
 ghost use Rattle.cip_ledger.specs.Laws.{lives_law};
+ghost use Rattle.cip_ledger.specs.DoubtLaws.{kept_law, doubt_law, settled_law, settled_once_law, settled_numbers_law};
+ghost use Rattle.cip_ledger.specs.Kept.{restored_law};
 
 use cip_objects::Router;
 
@@ -75,4 +77,35 @@ pub fn only_in_its_life<R: Router>()
 /// originator's slot is freed in between.
 pub fn once_over_all_lives<R: Router>()
     ensures { lives_law R.after R.answer }
+{}
+
+/// A number that an originator's slot has, whether its command is done or in doubt, is never executed: until the slot is
+/// freed, only greater numbers of that originator are.
+pub fn kept_numbers_are_not_executed<R: Router>()
+    ensures { kept_law R.after R.answer }
+{}
+
+/// A command in doubt is answered by its state, and is not executed: nothing changes.
+pub fn a_doubtful_command_is_not_executed<R: Router>()
+    ensures { doubt_law R.after R.answer }
+{}
+
+/// A command that was settled is answered by the reply that the owner gave, and is not executed: nothing changes.
+pub fn settled_is_answered<R: Router>()
+    ensures { settled_law R.after R.answer }
+{}
+
+/// A command is settled once: no other reply is taken for it.
+pub fn settled_once()
+    ensures { settled_once_law }
+{}
+
+/// The numbers in all slots stay as they are if a command is settled, so what is never executed stays so.
+pub fn settling_keeps_numbers()
+    ensures { settled_numbers_law }
+{}
+
+/// A ledger with as many slots that starts from what is kept of a ledger, its life and its slots, is that ledger.
+pub fn restored_is_kept()
+    ensures { restored_law }
 {}

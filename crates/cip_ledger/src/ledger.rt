@@ -1,9 +1,13 @@
 //! The ledger: what it does with each request.
-ghost use Rattle.std.specs.Prelude.{◌≡◌, ◌<◌, ◌≤◌, ◌∷◌, ◌++◌, ◌+◌, length, Some, None, IfOk, option_map};
+ghost use Rattle.std.specs.Prelude.{◌≡◌, ◌<◌, ◌≤◌, ◌∷◌, ◌++◌, ◌+◌, ℕ, length, map, Some, None, IfOk, IfSome, option_map};
+ghost use Rattle.std.specs.Prelude.{unwrap_or, is_some, slice_get};
+ghost use Rattle.std.specs.Option.{option_copied};
+ghost use Rattle.cip_ledger.specs.Kept.{kept_in, with_life, restored, IsLedger};
 ghost use Rattle.cip_ledger.specs.Ledger.{empty_ledger, slot_of};
 ghost use Rattle.cip_ledger.specs.Reaching.{embedded_by};
 ghost use Rattle.cip_ledger.specs.Requests as requests;
-ghost use Rattle.cip_ledger.specs.Services.{do_command, Executes, KEPT_LIMIT};
+ghost use Rattle.cip_ledger.specs.Doubt.{doubtful_in, command_name, can_settle, settled, can_doubt, doubted};
+ghost use Rattle.cip_ledger.specs.Services.{do_command, Replies, Executes, KEPT_LIMIT};
 ghost use Rattle.cip_ledger.specs.Services as services;
 ghost use Rattle.cip_ledger.specs.Slots.{IsFound};
 ghost use Rattle.cip_ledger.specs.Turn.{turn, turn_of, acted, after_embedded, embedded_reply, ActsAlone};
@@ -12,24 +16,19 @@ ghost use Rattle.cip_ledger.specs.Views.{command_in, request_in};
 ghost use Rattle.cip_ledger.specs.AttributeValue.{values_in};
 
 use crate::attributes::{Attributes, class_value, write_single};
-use crate::reply::{HEAD_SIZE, answer, begin, size_fault};
+use crate::doubt::DoubtfulCommand;
+use crate::reply::{
+    DONE, HEAD_SIZE, IN_DOUBT, LONGEST_DONE, answer, begin, size_fault, write_done,
+};
 use crate::request::{Command, LedgerRequest, SHORT_SIZE, is_barred, is_do_once};
 use crate::service::{DO_ONCE, FORGET, GET_ATTRIBUTE_LIST, GET_ATTRIBUTE_SINGLE, GET_LAST};
-use crate::slot::KEPT_LIMIT;
+use crate::slot::{KEPT_LIMIT, Slot};
 use crate::slots::{MOST_ORIGINATORS, Slots};
 use crate::status::Status;
 use byteorder::{ByteOrder, LittleEndian};
-use cip_bytes::append;
-use cip_message::reply_service;
 use cip_objects::{REPLY_LIMIT, ReplyBuf, Router};
 use std::alloc::{AllocError, Global};
 use std::marker::Model;
-
-/// The state byte of a command that is done. (1, pending, is kept for commands that wait.)
-const DONE: u8 = 0;
-
-/// The smallest reply limit at which a new command is executed, in bytes: the longest reply to it fits.
-const LONGEST_DONE: usize = HEAD_SIZE + 1 + KEPT_LIMIT;
 
 /// What is to be done with a command.
 pub(crate) enum Verdict<'a> {
@@ -37,11 +36,25 @@ pub(crate) enum Verdict<'a> {
     Refuses(Status),
     /// It was executed before, with this reply.
     Repeats(&'a [u8]),
+    /// It is in doubt whether it was executed before.
+    Doubts,
     /// It is new, and is executed.
     Executes,
 }
 
-/// The ledger of a device: for each originator the last command that was executed, and its reply.
+/// The last command of an originator, and the reply to it, as a slot keeps them.
+#[derive(Clone, Copy, Debug)]
+pub struct KeptCommand<'a> {
+    /// Whose command it is.
+    pub originator: u64,
+    /// The number of the command.
+    pub number: u32,
+    /// The reply, at most 480 bytes. `None` if the command is in doubt.
+    pub reply: Option<&'a [u8]>,
+}
+
+/// The ledger of a device: for each originator the last command that was executed, and its reply, or a command that is
+/// in doubt.
 ///
 /// A caller sees it as `LedgerState`: how many slots there are, the number of the device's life, and the taken slots.
 /// No call after `new` takes memory.
@@ -78,6 +91,141 @@ impl Ledger {
         })
     }
 
+    /// Puts an originator's command in doubt: it has this number, and the device does not know whether it was executed.
+    /// False if the originator's last command has this number or a greater one, or if no slot is free for it. Nothing
+    /// has changed then.
+    ///
+    /// A device does so as it starts, with a command of its ledger that it may have executed before.
+    pub fn put_in_doubt(&mut self, originator: u64, number: u32) -> bool
+        ensures result { result ≡ can_doubt self.old originator number }
+        ensures state { self.new ≡ doubted self.old originator number }
+    {
+        let index = self.position(originator);
+        let is_new = match self.slots.found(originator, index) {
+            Some(slot) => slot.number() < number,
+            None => self.slots.has_free(),
+        };
+        if is_new {
+            self.slots.doubt(index, originator, number);
+        }
+        is_new
+    }
+
+    /// Settles a command in doubt: its kept reply is this one from now on, and a repeat of the command gets it. False if
+    /// this command is not in doubt, or if the reply does not have 4 to 480 bytes. Nothing has changed then.
+    ///
+    /// `reply` is the whole reply that the embedded request should have had, with its head.
+    ///
+    /// ```
+    /// // the machine did move: the command's reply is a success without data
+    /// ledger.settle(originator, number, &[0xb2, 0, 0, 0]);
+    /// ```
+    pub fn settle(&mut self, originator: u64, number: u32, reply: &[u8]) -> bool
+        ensures result { result ≡ can_settle self.old originator number reply.now }
+        ensures state { self.new ≡ settled self.old originator number reply.now }
+    {
+        if reply.len() < HEAD_SIZE || reply.len() > KEPT_LIMIT {
+            return false;
+        }
+        let index = self.position(originator);
+        let is_doubtful = match self.slots.found(originator, index) {
+            Some(slot) => slot.number() == number && slot.is_in_doubt(),
+            None => false,
+        };
+        if is_doubtful {
+            self.slots.keep(index, originator, number, reply);
+        }
+        is_doubtful
+    }
+
+    /// The command at this place among those in doubt, from 0, `None` if there are fewer. A command that is settled is
+    /// not among them.
+    ///
+    /// ```
+    /// while let Some(command) = ledger.in_doubt(0) {
+    ///     let reply = ask_the_machine(command.originator, command.number);
+    ///     ledger.settle(command.originator, command.number, &reply);
+    /// }
+    /// ```
+    pub fn in_doubt(&self, place: usize) -> Option<DoubtfulCommand>
+        ensures { result ≡ slice_get (map command_name (doubtful_in self.now)) place }
+    {
+        self.slots.in_doubt(place)
+    }
+
+    /// The number of the device's life.
+    pub fn life(&self) -> u64
+        ensures { result ≡ self.now.life }
+    {
+        self.life
+    }
+
+    /// Sets the number of the device's life. A device that starts from what was kept of its ledger is still in the life
+    /// that it was in.
+    pub fn set_life(&mut self, life: u64)
+        ensures { self.new ≡ with_life life self.old }
+    {
+        self.life = life;
+    }
+
+    /// How many slots are taken.
+    pub fn slot_count(&self) -> usize
+        ensures count { result ≡ length self.now.taken }
+        ensures ledger { IsLedger self.now }
+    {
+        let _life = self.life;
+        usize::from(self.slots.taken())
+    }
+
+    /// The last command in a taken slot, by the slot's index in the order in which they were taken. `None` past the last.
+    pub fn slot(&self, index: usize) -> Option<KeptCommand<'_>>
+        ensures kept { option_map kept_in result ≡ slice_get self.now.taken index }
+        ensures short { IfSome result (λ kept. IfSome kept.reply (λ reply. length reply.now ≤ KEPT_LIMIT)) }
+    {
+        match self.slots.get(index) {
+            Some(slot) => Some(KeptCommand {
+                originator: slot.originator(),
+                number: slot.number(),
+                reply: slot.reply(),
+            }),
+            None => None,
+        }
+    }
+
+    /// Puts the last command of an originator and its reply into a free slot, as they were kept, and returns whether it
+    /// did. Without a reply the command is in doubt. If no slot is free, the originator has one, or the reply has over
+    /// 480 bytes, nothing changes.
+    ///
+    /// With this call a device starts from what was kept of its ledger, before it answers any peer.
+    ///
+    /// ```
+    /// ledger.set_life(life);
+    /// let restored = ledger.restore(originator, number, Some(reply));
+    /// ```
+    pub fn restore(&mut self, originator: u64, number: u32, reply: Option<&[u8]>) -> bool
+        ensures restored { self.new
+            ≡ unwrap_or (restored (record { originator = originator; number = number; reply = option_copied reply.entry }) self.old)
+            self.old }
+        ensures reported { result
+            ≡ is_some (restored (record { originator = originator; number = number; reply = option_copied reply.entry }) self.old) }
+    {
+        let size = reply.map_or(0, |reply| reply.len());
+        if !self.slots.has_free() || size > KEPT_LIMIT {
+            return false;
+        }
+        let index = self.position(originator);
+        if index.is_some() {
+            return false;
+        }
+        match reply {
+            Some(reply) => {
+                self.slots.keep(index, originator, number, reply);
+            }
+            None => self.slots.doubt(index, originator, number),
+        }
+        true
+    }
+
     /// What is to be done with a command: the first check that fails refuses it.
     fn verdict(&self, command: Command<'_>, index: Option<usize>, max_size: usize) -> Verdict<'_>
         requires { IsFound self.now.taken command.originator index }
@@ -101,7 +249,7 @@ impl Ledger {
             return Verdict::Refuses(Status::ObjectStateConflict);
         }
         if command.number == slot.number() {
-            return Verdict::Repeats(slot.reply());
+            return verdict_on_repeat(slot);
         }
         verdict_on_new(max_size)
     }
@@ -141,6 +289,7 @@ impl Ledger {
         match ledger.verdict(command, index, max_size) {
             Verdict::Refuses(status) => begin(DO_ONCE, status, reply),
             Verdict::Repeats(kept) => answer(DO_ONCE, &[DONE], kept, max_size, reply),
+            Verdict::Doubts => answer(DO_ONCE, &[IN_DOUBT], &[], max_size, reply),
             Verdict::Executes => {
                 let request = &data[Command::FRONT_SIZE..];
                 ledger.execute_command(router, command, request, index, reply);
@@ -196,13 +345,13 @@ impl Ledger {
     {
         let index = self.position(command.originator);
         match self.verdict(command, index, max_size) {
-            Verdict::Refuses(_) | Verdict::Repeats(_) => None,
+            Verdict::Refuses(_) | Verdict::Repeats(_) | Verdict::Doubts => None,
             Verdict::Executes if is_barred(command.request) => None,
             Verdict::Executes => Some(command.request),
         }
     }
 
-    /// Get_Last: the number of an originator's last command, and the reply to it.
+    /// Get_Last: the number of an originator's last command, its state, and the reply to it.
     fn get_last(&self, data: &[u8], max_size: usize, reply: &mut ReplyBuf)
         requires max_size_from { 8 ≤ max_size }
         requires max_size_to { max_size ≤ REPLY_LIMIT }
@@ -219,8 +368,16 @@ impl Ledger {
             return;
         };
         let [first, second, third, fourth] = slot.number().to_le_bytes();
-        let front = [first, second, third, fourth, DONE];
-        answer(GET_LAST, &front, slot.reply(), max_size, reply);
+        match slot.reply() {
+            Some(kept) => {
+                let front = [first, second, third, fourth, DONE];
+                answer(GET_LAST, &front, kept, max_size, reply);
+            }
+            None => {
+                let front = [first, second, third, fourth, IN_DOUBT];
+                answer(GET_LAST, &front, &[], max_size, reply);
+            }
+        }
     }
 
     /// Forget: frees the slot of an originator, if its last command has this number.
@@ -378,6 +535,19 @@ fn serve_class(request: LedgerRequest<'_>, max_size: usize, reply: &mut ReplyBuf
     );
 }
 
+/// What is to be done with a command that has the number of this slot.
+fn verdict_on_repeat(slot: &Slot) -> Verdict<'_>
+    ensures action { (max_size : ℕ) → (command : requests.Command) → action_in max_size command result
+        ≡ Replies (services.within max_size (services.success (services.last_content slot.now.reply))) }
+    ensures fits { (max_size : ℕ) → Fits max_size result }
+{
+    match slot.reply() {
+        Some(reply) => Verdict::Repeats(reply),
+        // what may have been executed is never executed again: state 2 (ledger, ours)
+        None => Verdict::Doubts,
+    }
+}
+
 /// What is to be done with a command that is new.
 fn verdict_on_new(max_size: usize) -> Verdict<'static>
     ensures action { (command : requests.Command) →
@@ -403,26 +573,4 @@ fn execute_embedded<R: Router>(router: &mut R, request: &[u8], reply: &mut Reply
         return;
     }
     router.execute(request, KEPT_LIMIT, reply);
-}
-
-/// Replies that a command is done: writes the head, the state and the reply that is kept over that reply.
-fn write_done(kept: &[u8], reply: &mut ReplyBuf)
-    requires fits { length kept.now ≤ KEPT_LIMIT }
-    requires size { length reply.old.items ≡ length kept.now }
-    ensures reply { reply.new.items ≡ services.reply_to DO_ONCE (services.success (DONE ∷ kept.now)) }
-    ensures fits { length reply.new.items ≤ LONGEST_DONE }
-{
-    let front = [reply_service(DO_ONCE), 0, Status::Success.number(), 0, DONE];
-    append(reply, &front);
-    overwrite(reply.as_mut_slice(), &front, kept);
-}
-
-/// Writes two parts over bytes that are as many.
-fn overwrite(text: &mut [u8], front: &[u8], rest: &[u8])
-    requires { length text.old ≡ length front.now + length rest.now }
-    ensures { text.new ≡ front.now ++ rest.now }
-{
-    let (start, end) = text.split_at_mut(front.len());
-    start.copy_from_slice(front);
-    end.copy_from_slice(rest);
 }

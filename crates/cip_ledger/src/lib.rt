@@ -20,6 +20,7 @@
 #![tactic(auto)]
 
 mod attributes;
+mod doubt;
 pub mod laws;
 mod ledger;
 mod reply;
@@ -30,7 +31,8 @@ mod slot;
 mod slots;
 mod status;
 
-pub use ledger::Ledger;
+pub use doubt::DoubtfulCommand;
+pub use ledger::{KeptCommand, Ledger};
 pub use request::LEDGER;
 pub use router::LedgerRouter;
 pub use service::{DO_ONCE, FORGET, GET_LAST};

@@ -1,8 +1,10 @@
 //! Replies of the ledger.
-ghost use Rattle.std.specs.Prelude.{◌≡◌, ◌≤◌, ◌+◌, ◌++◌, length, slice_set};
+ghost use Rattle.std.specs.Prelude.{◌≡◌, ◌≤◌, ◌+◌, ◌∷◌, ◌++◌, length, slice_set};
 ghost use Rattle.cip_ledger.specs.Status.{status_number};
 ghost use Rattle.cip_ledger.specs.Services.{reply_to, refusal, success, within, size_fault};
 
+use crate::service::DO_ONCE;
+use crate::slot::KEPT_LIMIT;
 use crate::status::Status;
 use cip_bytes::append;
 use cip_message::reply_service;
@@ -10,6 +12,15 @@ use cip_objects::{REPLY_LIMIT, ReplyBuf};
 
 /// The bytes of a reply before its data.
 pub(crate) const HEAD_SIZE: usize = 4;
+
+/// The state byte of a command that is done. (1, pending, is kept for commands that wait.)
+pub(crate) const DONE: u8 = 0;
+
+/// The state byte of a command in doubt.
+pub(crate) const IN_DOUBT: u8 = 2;
+
+/// The smallest reply limit at which a new command is executed, in bytes: the longest reply to it fits.
+pub(crate) const LONGEST_DONE: usize = HEAD_SIZE + 1 + KEPT_LIMIT;
 
 /// Begins a reply without data to a request of this service.
 pub(crate) fn begin(service: u8, status: Status, reply: &mut ReplyBuf)
@@ -60,4 +71,26 @@ pub(crate) fn size_fault(size: usize, data: &[u8]) -> Option<Status>
         return Some(Status::TooMuchData);
     }
     None
+}
+
+/// Replies that a command is done: writes the head, the state and the reply that is kept over that reply.
+pub(crate) fn write_done(kept: &[u8], reply: &mut ReplyBuf)
+    requires fits { length kept.now ≤ KEPT_LIMIT }
+    requires size { length reply.old.items ≡ length kept.now }
+    ensures reply { reply.new.items ≡ reply_to DO_ONCE (success (DONE ∷ kept.now)) }
+    ensures fits { length reply.new.items ≤ LONGEST_DONE }
+{
+    let front = [reply_service(DO_ONCE), 0, Status::Success.number(), 0, DONE];
+    append(reply, &front);
+    overwrite(reply.as_mut_slice(), &front, kept);
+}
+
+/// Writes two parts over bytes that are as many.
+fn overwrite(text: &mut [u8], front: &[u8], rest: &[u8])
+    requires { length text.old ≡ length front.now + length rest.now }
+    ensures { text.new ≡ front.now ++ rest.now }
+{
+    let (start, end) = text.split_at_mut(front.len());
+    start.copy_from_slice(front);
+    end.copy_from_slice(rest);
 }

@@ -1,5 +1,7 @@
 //! An originator's slot.
-ghost use Rattle.std.specs.Prelude.{◌≡◌, ◌≤◌, length};
+ghost use Rattle.std.specs.Prelude.{◌≡◌, ◌≤◌, ℕ, List, length, Some, None, IfSome};
+ghost use Rattle.std.specs.Option.{option_copied};
+ghost use Rattle.cip_ledger.specs.Doubt.{is_doubtful};
 ghost use Rattle.cip_ledger.specs.Services.{KEPT_LIMIT};
 
 use arrayvec::ArrayVec;
@@ -9,11 +11,12 @@ use std::marker::Model;
 /// The most bytes of a kept reply, and so the reply limit of an embedded request.
 pub const KEPT_LIMIT: usize = 480;
 
-/// An originator's slot: the last of its commands that was executed, and the reply to it.
+/// An originator's slot: the last of its commands, and the reply to it, unless the command is in doubt.
 #[derive(Drop)]
 pub(crate) struct Slot {
     originator: u64,
     number: u32,
+    is_in_doubt: bool,
     reply: ArrayVec<u8, KEPT_LIMIT>,
 }
 
@@ -31,14 +34,27 @@ impl Slot {
     /// The slot of an originator whose last command has this number and this reply.
     pub(crate) fn new(originator: u64, number: u32, reply: &[u8]) -> Slot
         requires { length reply.now ≤ KEPT_LIMIT }
-        ensures { result ≡ record { originator = originator; number = number; reply = reply.now } }
+        ensures { result ≡ record { originator = originator; number = number; reply = Some reply.now } }
     {
         let mut kept = ArrayVec::new();
         append(&mut kept, reply);
         Slot {
             originator,
             number,
+            is_in_doubt: false,
             reply: kept,
+        }
+    }
+
+    /// The slot of an originator whose last command has this number and is in doubt.
+    pub(crate) fn new_in_doubt(originator: u64, number: u32) -> Slot
+        ensures { result ≡ record { originator = originator; number = number; reply = None } }
+    {
+        Slot {
+            originator,
+            number,
+            is_in_doubt: true,
+            reply: ArrayVec::new(),
         }
     }
 
@@ -56,9 +72,27 @@ impl Slot {
         self.number
     }
 
-    /// The reply to the last command.
-    pub(crate) fn reply(&self) -> &[u8]
-        ensures reply { result.now ≡ self.now.reply }
+    /// Whether the last command is in doubt.
+    pub(crate) fn is_in_doubt(&self) -> bool
+        ensures { result ≡ is_doubtful self.now }
+    {
+        self.is_in_doubt
+    }
+
+    /// The reply to the last command, `None` if that is in doubt.
+    pub(crate) fn reply(&self) -> Option<&[u8]>
+        ensures reply { option_copied result ≡ self.now.reply }
+        ensures fits { IfSome result (λ reply. length reply.now ≤ KEPT_LIMIT) }
+    {
+        if self.is_in_doubt {
+            return None;
+        }
+        Some(self.reply.as_slice())
+    }
+
+    /// The reply to the last command, which was just kept.
+    pub(crate) fn kept(&self) -> &[u8]
+        ensures reply { (reply : List ℕ) → self.now.reply ≡ Some reply → result.now ≡ reply }
         ensures fits { length result.now ≤ KEPT_LIMIT }
     {
         self.reply.as_slice()
@@ -67,10 +101,20 @@ impl Slot {
     /// Keeps the originator's next command and its reply.
     pub(crate) fn keep(&mut self, number: u32, reply: &[u8])
         requires { length reply.now ≤ KEPT_LIMIT }
-        ensures { self.new ≡ record self.old { number = number; reply = reply.now } }
+        ensures { self.new ≡ record self.old { number = number; reply = Some reply.now } }
     {
         self.number = number;
+        self.is_in_doubt = false;
         keep_reply(&mut self.reply, reply);
+    }
+
+    /// Puts the originator's next command in doubt.
+    pub(crate) fn doubt(&mut self, number: u32)
+        ensures { self.new ≡ record self.old { number = number; reply = None } }
+    {
+        self.number = number;
+        self.is_in_doubt = true;
+        self.reply.clear();
     }
 }
 

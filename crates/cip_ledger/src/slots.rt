@@ -1,11 +1,13 @@
 //! The slots of the originators. No call after `new` takes memory.
 ghost use Rattle.std.specs.Prelude.{◌≡◌, ℕ, List, ◌≤◌, ◌<◌, nat_lt, [], ◌∷◌, ◌++◌, length, option_map, Some, None};
 ghost use Rattle.std.specs.Prelude.{IfOk, IfSome, IfNone};
-ghost use Rattle.std.specs.Prelude.{slice_index_or, slice_set};
-ghost use Rattle.cip_ledger.specs.Ledger.{SlotState, slot_of, with_slot, without_slot};
+ghost use Rattle.std.specs.Prelude.{slice_index_or, slice_set, slice_get, map, filter};
+ghost use Rattle.cip_ledger.specs.Doubt.{is_doubtful, command_name};
+ghost use Rattle.cip_ledger.specs.Ledger.{SlotState, slot_of, with_slot, without_slot, AreApart, AreSlots};
 ghost use Rattle.cip_ledger.specs.Services.{KEPT_LIMIT};
 ghost use Rattle.cip_ledger.specs.Slots.{slots_in, IsKeptAt, IsFound};
 
+use crate::doubt::DoubtfulCommand;
 use crate::slot::Slot;
 use std::alloc::{AllocError, Global};
 use std::marker::Model;
@@ -53,7 +55,11 @@ impl Slots {
 
     /// How many slots are taken.
     pub(crate) fn taken(&self) -> u16
-        ensures { result ≡ length self.now.taken }
+        ensures count { result ≡ length self.now.taken }
+        ensures few { self.now.limit ≤ MOST_ORIGINATORS }
+        ensures within { length self.now.taken ≤ self.now.limit }
+        ensures apart { AreApart self.now.taken }
+        ensures slots { AreSlots self.now.taken }
     {
         self.taken.len() as u16
     }
@@ -79,6 +85,13 @@ impl Slots {
         ensures { IsFound self.now.taken originator result }
     {
         index_of(&self.taken, originator)
+    }
+
+    /// The slot at an index, in the order in which they were taken.
+    pub(crate) fn get(&self, index: usize) -> Option<&Slot>
+        ensures { option_map (λ slot. slot.now) result ≡ slice_get self.now.taken index }
+    {
+        self.taken.get(index)
     }
 
     /// The slot of an originator that was found at this index.
@@ -107,7 +120,7 @@ impl Slots {
         requires fits { length reply.now ≤ KEPT_LIMIT }
         ensures limit { self.new.limit ≡ self.old.limit }
         ensures taken { self.new.taken
-            ≡ with_slot (record { originator = originator; number = number; reply = reply.now }) self.old.taken }
+            ≡ with_slot (record { originator = originator; number = number; reply = Some reply.now }) self.old.taken }
         ensures index { IsKeptAt self.new.taken result reply.now }
     {
         let Some(index) = index else {
@@ -120,13 +133,40 @@ impl Slots {
         index
     }
 
+    /// The command at this place among those in doubt, in the order of the slots.
+    pub(crate) fn in_doubt(&self, place: usize) -> Option<DoubtfulCommand>
+        ensures { result ≡ slice_get (map command_name (filter is_doubtful self.now.taken)) place }
+    {
+        self.taken
+            .iter()
+            .filter(|slot| slot.is_in_doubt())
+            .map(DoubtfulCommand::of)
+            .nth(place)
+    }
+
     /// The reply in the slot at an index.
     pub(crate) fn reply(&self, index: usize) -> &[u8]
         requires { index < length self.now.taken }
         ensures reply { (reply : List ℕ) → IsKeptAt self.now.taken index reply → result.now ≡ reply }
         ensures fits { length result.now ≤ KEPT_LIMIT }
     {
-        self.taken[index].reply()
+        self.taken[index].kept()
+    }
+
+    /// Puts an originator's next command in doubt, in the slot that was found at this index or in a free one.
+    pub(crate) fn doubt(&mut self, index: Option<usize>, originator: u64, number: u32)
+        requires found { IsFound self.old.taken originator index }
+        requires free { slot_of originator self.old.taken ≡ None → length self.old.taken < self.old.limit }
+        ensures limit { self.new.limit ≡ self.old.limit }
+        ensures taken { self.new.taken
+            ≡ with_slot (record { originator = originator; number = number; reply = None }) self.old.taken }
+    {
+        let Some(index) = index else {
+            self.taken
+                .push_reserved(Slot::new_in_doubt(originator, number));
+            return;
+        };
+        self.taken[index].doubt(number);
     }
 
     /// Frees the slot of an originator.

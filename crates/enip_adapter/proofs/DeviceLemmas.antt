@@ -295,7 +295,7 @@ above-append originator IsSo (Executed command reply ∷ events) later is more =
 above-append originator IsSo (Freed freed ∷ events) later is more = λ other.
     above-append originator IsSo events later (is other) (λ kept. more (other, kept))
 
-above-steps : (steps : List DeviceStep) (device : Device) (originator number : ℕ) (reply : List ℕ)
+above-steps : (steps : List DeviceStep) (device : Device) (originator number : ℕ) (reply : Option (List ℕ))
     → Settled number reply (slot_in originator device.ledger)
     → UntilFreed originator (λ command. number < command.number) (journal_by_steps device steps)
 above-steps [] device originator number reply settled = tt
@@ -317,7 +317,8 @@ rises-by Passed device request steps means later = later
 rises-by (ServedByLedger service (Replies given)) device request steps means later = later
 rises-by (ServedByLedger service (ExecutesCommand command)) device request steps means later = (
   above-steps steps (next_by objects_after objects_answer (ServedByLedger service (ExecutesCommand command)) device request)
-      command.originator command.number (embedded_reply objects_after objects_answer device.router command.request)
+      command.originator command.number
+      (Some (embedded_reply objects_after objects_answer device.router command.request))
       (settled-command objects_after objects_answer device request service command means),
   later,
 )

@@ -28,3 +28,4 @@ pub mod OwnerLemmas
 pub mod AskedLemmas
 pub mod WrittenLemmas
 pub mod RouteLemmas
+pub mod NothingAskedLemmas

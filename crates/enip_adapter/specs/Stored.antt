@@ -88,12 +88,12 @@ listen_code =
     code_by (List ℕ × ℕ) (coded× (coded_list coded_ℕ) coded_ℕ) (λ l. (l.address, l.port))
     (λ p. record { address = p.0; port = p.1 }) (λ _. refl)
 
-abbrev pub slot_from : ℕ × (ℕ × List ℕ) → SlotState
+abbrev pub slot_from : ℕ × (ℕ × Option (List ℕ)) → SlotState
 slot_from (originator, (number, reply)) = record { originator = originator; number = number; reply = reply }
 
 abbrev pub slot_code : Coded SlotState
 slot_code =
-    code_by (ℕ × (ℕ × List ℕ)) (coded× coded_ℕ (coded× coded_ℕ (coded_list coded_ℕ)))
+    code_by (ℕ × (ℕ × Option (List ℕ))) (coded× coded_ℕ (coded× coded_ℕ (coded_option (coded_list coded_ℕ))))
     (λ s. (s.originator, (s.number, s.reply)))
     slot_from (λ _. refl)
 

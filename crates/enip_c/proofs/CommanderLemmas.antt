@@ -7,7 +7,7 @@ use Rattle.cip_message.specs.Reply.{Reply, reply_of, reply_service, reply_of_fie
 use Rattle.cip_message.specs.declared.reply.ReplyFault.TheVariants.{NotReply, Extra}
 use Rattle.cip_ledger.specs.declared.service.TheConstants as services
 use Rattle.cip_commander.specs.CommanderRule.{CommanderState, outcome_at, outcome_of}
-use Rattle.cip_commander.specs.Outcome.{Outcome, Done, StillPending, Refused, Malformed, NotPending, outcome_of_data, outcome_of_reply, outcome_of_text}
+use Rattle.cip_commander.specs.Outcome.{Outcome, Done, StillPending, InDoubt, Refused, Malformed, NotPending, outcome_of_data, outcome_of_reply, outcome_of_text}
 use Rattle.enip_c.specs.CommanderCalls.{IsWithin}
 
 within_choice : (size : ℕ) (is : Bool) (one other : Outcome) → IsWithin size one → IsWithin size other
@@ -18,8 +18,10 @@ within_choice size false one other one_fits other_fits = other_fits
 within_data : (size : ℕ) (bytes : List ℕ) → length bytes ≤ size → IsWithin size (outcome_of_data bytes)
 within_data size [] fits = tt
 within_data size (state ∷ reply) fits =
-    within_choice size (state == 0) (Done reply) (if state == 1 then StillPending else Malformed) (omega (arith, fits))
-    (within_choice size (state == 1) StillPending Malformed tt tt)
+    within_choice size (state == 0) (Done reply) (if state == 1 then StillPending else (if state == 2 then InDoubt else Malformed))
+    (omega (arith, fits))
+    (within_choice size (state == 1) StillPending (if state == 2 then InDoubt else Malformed) tt
+    (within_choice size (state == 2) InDoubt Malformed tt tt))
 
 within_reply : (size : ℕ) (is_request is_cut : Bool) (reply : Reply) → length reply.data ≤ size
     → IsWithin size (outcome_of_reply (if is_request then Err NotReply else (if is_cut then Err Extra else Ok reply)))
@@ -50,6 +52,7 @@ within_pending (Some request) text = within_text text
 within_size : (size other : ℕ) (outcome : Outcome) → size ≤ other → IsWithin size outcome → IsWithin other outcome
 within_size size other (Done reply) fits is = omega (arith, fits, is)
 within_size size other StillPending fits is = tt
+within_size size other InDoubt fits is = tt
 within_size size other (Refused status) fits is = tt
 within_size size other Malformed fits is = tt
 within_size size other NotPending fits is = tt

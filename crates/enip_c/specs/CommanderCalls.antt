@@ -3,7 +3,7 @@ use Rattle.std.specs.Prelude.{ℕ, List, ◌≡◌, ◌≤◌, ⊤, if◌then◌
 use Rattle.cip_commander.specs.Worlds.{after_command}
 use Rattle.cip_commander.specs.CommanderRule.{CommanderState, command_refusal, with_command, message_of}
 use Rattle.cip_commander.specs.CommanderRule.{pending_message, outcome_of, after_reply, abandoned}
-use Rattle.cip_commander.specs.Outcome.{Outcome, Done, StillPending, Refused, Malformed, NotPending}
+use Rattle.cip_commander.specs.Outcome.{Outcome, Done, StillPending, InDoubt, Refused, Malformed, NotPending}
 use Rattle.cip_commander.specs.declared.refusal.CommandRefused.{CommandRefused}
 use Rattle.cip_commander.specs.declared.refusal.CommandRefused.TheVariants as refusals
 use Rattle.enip_c.specs.declared.commander.CCommandOutcome.{CCommandOutcome}
@@ -82,6 +82,7 @@ returned_outcome (Done reply) buffer = record {
 returned_outcome StillPending buffer = outcome_without_reply 2 0 buffer
 returned_outcome (Refused general) buffer = outcome_without_reply 3 general buffer
 returned_outcome Malformed buffer = outcome_without_reply 4 0 buffer
+returned_outcome InDoubt buffer = outcome_without_reply 5 0 buffer
 
 -- The reply to the embedded request, if any, has at most this size.
 abbrev pub IsWithin : ℕ → Outcome → Type 0

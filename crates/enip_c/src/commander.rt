@@ -256,6 +256,7 @@ fn return_outcome(outcome: CommandOutcome<'_>, buffer: &mut [u8]) -> CCommandOut
         CommandOutcome::StillPending => without_reply(2, 0),
         CommandOutcome::Refused(status) => without_reply(3, status),
         CommandOutcome::Malformed => without_reply(4, 0),
+        CommandOutcome::InDoubt => without_reply(5, 0),
     }
 }
 

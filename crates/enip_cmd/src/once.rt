@@ -162,6 +162,10 @@ impl<'a> OnceRun<'a, '_> {
                 let reason = Reason::StillPending(self.device.address);
                 Err(CommandError::of_reason(reason).with_note(self.unanswered()))
             }
+            CommandOutcome::InDoubt => {
+                let reason = Reason::InDoubt(self.device.address);
+                Err(CommandError::of_reason(reason).with_note(self.unanswered()))
+            }
             CommandOutcome::Refused(status) => Err(self.error_of_ledger(status)),
             CommandOutcome::Malformed | CommandOutcome::NotPending => {
                 Err(self.malformed().with_note(self.unanswered()))

@@ -98,6 +98,9 @@ pub(crate) enum Reason<'a> {
     /// The device has taken the command, and has not executed it yet.
     #[error("{0}: the device has not executed the command yet")]
     StillPending(&'a str),
+    /// The device does not know whether it executed the command.
+    #[error("{0}: the device does not know whether it executed the command, and its owner has to settle that")]
+    InDoubt(&'a str),
     /// Memory was refused.
     #[error("out of memory")]
     Memory,

@@ -8,6 +8,7 @@ mod class3_long;
 mod class3_originator;
 mod commander;
 mod counting;
+mod device_state;
 mod device_writes;
 mod ledger;
 mod manager_deadlines;

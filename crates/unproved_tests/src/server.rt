@@ -1,6 +1,7 @@
 //! Tests of `enip_server`: several peers at once, over scripted wires.
 
 mod caller;
+mod held;
 mod owner;
 mod turns;
 mod wires;

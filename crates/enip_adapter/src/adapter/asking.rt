@@ -42,6 +42,10 @@ impl Adapter {
         ensures ticked { listed result ≡ asks_of_call self.new (Call.Feeds now peer.now piece.now) }
     {
         self.shared.advance(now);
+        // Most devices have no application objects. Then nothing is asked, and no byte is looked at.
+        if !self.shared.objects.router.objects.has_application_objects() {
+            return None;
+        }
         self.places.asked(&self.shared, peer.handle, piece)
     }
 

@@ -130,6 +130,8 @@ fn a_reply_that_is_not_done_keeps_the_command(rt: HostRuntime) {
         (b"\xcb\x55\x10\0", CommandOutcome::Refused(0x10)),
         (b"\xcb\0\0\0\x01", CommandOutcome::StillPending),
         (b"\xcb\0\0\0\x01\xb2\0\0\0", CommandOutcome::StillPending),
+        (b"\xcb\0\0\0\x02", CommandOutcome::InDoubt),
+        (b"\xcb\0\0\0\x02\xb2\0\0\0", CommandOutcome::InDoubt),
         // no reply; no reply to Do_Once; words past the end; no state; no such state
         (b"", CommandOutcome::Malformed),
         (b"\xcb\0\0", CommandOutcome::Malformed),
@@ -137,7 +139,7 @@ fn a_reply_that_is_not_done_keeps_the_command(rt: HostRuntime) {
         (b"\xcc\0\0\0\0", CommandOutcome::Malformed),
         (b"\xcb\0\x0c\x01\0", CommandOutcome::Malformed),
         (b"\xcb\0\0\0", CommandOutcome::Malformed),
-        (b"\xcb\0\0\0\x02", CommandOutcome::Malformed),
+        (b"\xcb\0\0\0\x03", CommandOutcome::Malformed),
         (b"\xcb\0\0\0\xff\xb2\0\0\0", CommandOutcome::Malformed),
     ];
     for (reply, outcome) in &rows {

@@ -3,6 +3,7 @@
 
 mod attributes;
 mod do_once;
+mod doubt;
 mod embedded;
 mod forget;
 mod get_last;

@@ -1,0 +1,4 @@
+pub mod KeyLemmas
+pub mod Puts
+pub mod LedgerPuts
+pub mod StateLemmas
