@@ -315,8 +315,7 @@ fn run_serve<'a>(
     };
     match served {
         Ok(()) => Ok(0),
-        Err(enip_commands::ProgramFault::Memory) => Err(CommandError::of_memory()),
-        Err(_) => Err(CommandError::of_reason(Reason::Failed(address.text()))),
+        Err(fault) => Err(serve_error(address, fault)),
     }
 }
 

@@ -4,18 +4,17 @@
 //! may be ready has one turn, and one connection is accepted. All of a round has the same time, in microseconds since
 //! the start.
 
-ghost use Rattle.std.specs.Prelude.{◌≡◌, ◌≤◌, ◌<◌, ◌⊎◌, ◌↔◌, Some, IfSome, IsSomeAnd, IfErr, IsTrue};
-ghost use Rattle.enip_commands.specs.Statuses.{IsOfDevices};
+ghost use Rattle.std.specs.Prelude.{◌≡◌, ◌≤◌, ◌<◌, ◌⊎◌, ◌↔◌, Some, IfSome, IsSomeAnd, IsTrue};
 
 use crate::acceptor::Acceptor;
 use crate::discovery::Discovery;
 use crate::observer::Observer;
-use crate::serving::Serving;
-use enip_commands::ProgramFault;
+use crate::serving::{ServeFault, Serving};
 use enip_server::RoundEnd;
 use mio::net::{TcpListener, TcpStream, UdpSocket};
 use mio::{Events, Interest, Poll, Token};
 use std::alloc::Global;
+use std::io;
 use std::net::Net;
 use std::rt::Clock;
 use std::time::{Duration, Instant};
@@ -48,17 +47,13 @@ pub(crate) fn serve_connections<R: Clock + Net, O: Observer + Drop, S: Serving<O
     serving: S,
     count: u64,
     observer: O,
-) -> Result<(), ProgramFault>
-    ensures { IfErr result IsOfDevices }
-{
+) -> Result<(), ServeFault> {
     let mut server = Server::new(rt, alloc, serving, count, observer)?;
     server.run(rt, alloc, sockets)
 }
 
 /// The microseconds since `start`.
-fn microseconds_since<C: Clock>(clock: &C, start: Instant) -> Result<u64, ProgramFault>
-    ensures { IfErr result IsOfDevices }
-{
+fn microseconds_since<C: Clock>(clock: &C, start: Instant) -> io::Result<u64> {
     let elapsed = start.elapsed(clock)?;
     Ok(u64::try_from(elapsed.as_micros()).unwrap_or(u64::MAX))
 }
@@ -88,9 +83,7 @@ struct System {
 
 impl System {
     /// A poll without sockets.
-    fn new<R: Clock + Net>(rt: &R, alloc: Global) -> Result<System, ProgramFault>
-        ensures { IfErr result IsOfDevices }
-    {
+    fn new<R: Clock + Net>(rt: &R, alloc: Global) -> io::Result<System> {
         let start = Instant::now(rt)?;
         let poll = Poll::new(rt)?;
         let events = Events::with_capacity(alloc, EVENT_CAPACITY)?;
@@ -131,9 +124,7 @@ impl<O: Observer + Drop, S: Serving<O::Wire> + Drop> Server<O, S> {
         peers: S,
         count: u64,
         observer: O,
-    ) -> Result<Server<O, S>, ProgramFault>
-        ensures { IfErr result IsOfDevices }
-    {
+    ) -> io::Result<Server<O, S>> {
         let system = System::new(rt, alloc)?;
         let last_round = RoundEnd {
             ended: 0,
@@ -155,9 +146,7 @@ impl<O: Observer + Drop, S: Serving<O::Wire> + Drop> Server<O, S> {
     }
 
     /// Takes over the sockets. The system reports them from now on.
-    fn open(&mut self, alloc: Global, sockets: Sockets) -> Result<(), ProgramFault>
-        ensures { IfErr result IsOfDevices }
-    {
+    fn open(&mut self, alloc: Global, sockets: Sockets) -> io::Result<()> {
         let Sockets {
             listener,
             datagrams,
@@ -170,9 +159,7 @@ impl<O: Observer + Drop, S: Serving<O::Wire> + Drop> Server<O, S> {
     }
 
     /// Accepts connections from a listener.
-    fn listen(&mut self, mut listener: TcpListener) -> Result<(), ProgramFault>
-        ensures { IfErr result IsOfDevices }
-    {
+    fn listen(&mut self, mut listener: TcpListener) -> io::Result<()> {
         let registry = self.system.poll.registry();
         registry.register(&mut listener, Token(LISTENER), Interest::READABLE)?;
         self.acceptor = Some(Acceptor::new(listener));
@@ -180,9 +167,7 @@ impl<O: Observer + Drop, S: Serving<O::Wire> + Drop> Server<O, S> {
     }
 
     /// Answers datagrams from a socket.
-    fn answer_datagrams(&mut self, alloc: Global, mut socket: UdpSocket) -> Result<(), ProgramFault>
-        ensures { IfErr result IsOfDevices }
-    {
+    fn answer_datagrams(&mut self, alloc: Global, mut socket: UdpSocket) -> io::Result<()> {
         let registry = self.system.poll.registry();
         registry.register(&mut socket, Token(DATAGRAMS), Interest::READABLE)?;
         self.discovery = Some(Discovery::new(alloc, socket)?);
@@ -195,9 +180,7 @@ impl<O: Observer + Drop, S: Serving<O::Wire> + Drop> Server<O, S> {
         clock: &C,
         alloc: Global,
         sockets: Sockets,
-    ) -> Result<(), ProgramFault>
-        ensures { IfErr result IsOfDevices }
-    {
+    ) -> Result<(), ServeFault> {
         self.open(alloc, sockets)?;
         let mut now = 0;
         for _ in 0..u64::MAX {
@@ -219,9 +202,7 @@ impl<O: Observer + Drop, S: Serving<O::Wire> + Drop> Server<O, S> {
     }
 
     /// Waits until a socket may be ready or a time limit is reached. `now` is the time of the last round.
-    fn wait(&mut self, now: u64) -> Result<(), ProgramFault>
-        ensures { IfErr result IsOfDevices }
-    {
+    fn wait(&mut self, now: u64) -> io::Result<()> {
         let timeout = self.timeout(now);
         self.system.poll.poll(&mut self.system.events, timeout)?;
         for event in &self.system.events {
@@ -264,13 +245,11 @@ impl<O: Observer + Drop, S: Serving<O::Wire> + Drop> Server<O, S> {
     }
 
     /// One round: answers a datagram, gives each peer that may be ready a turn, and accepts a connection.
-    fn round(&mut self, now: u64) -> Result<(), ProgramFault>
-        ensures { IfErr result IsOfDevices }
-    {
+    fn round(&mut self, now: u64) -> Result<(), ServeFault> {
         if let Some(discovery) = &mut self.discovery {
             discovery.answer_one(&self.peers, &self.observer, now);
         }
-        self.last_round = self.peers.round(now)?;
+        self.last_round = self.peers.round(now).map_err(ServeFault::Keep)?;
         if self.last_round.ended > 0 {
             self.ended = self.ended.saturating_add(self.last_round.ended as u64);
             if let Some(acceptor) = &mut self.acceptor {

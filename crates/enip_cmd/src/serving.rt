@@ -1,11 +1,24 @@
 //! What serves the peers of a device, round by round: with or without a file that keeps its state.
 
-ghost use Rattle.std.specs.Prelude.{IfErr};
-ghost use Rattle.enip_commands.specs.Statuses.{IsOfDevices};
-
 use enip_adapter::DiscoveryBuffer;
-use enip_commands::ProgramFault;
+use enip_keep::KeepError;
 use enip_server::{Peers, RoundEnd, Wire};
+use std::io;
+
+/// Why a device is not served any longer.
+#[derive(Clone, Copy, Debug)]
+pub(crate) enum ServeFault {
+    /// A socket, the clock or memory failed.
+    System(io::Error),
+    /// What a round has changed could not be kept.
+    Keep(KeepError),
+}
+
+impl From<io::Error> for ServeFault {
+    fn from(error: io::Error) -> ServeFault {
+        ServeFault::System(error)
+    }
+}
 
 /// Serves peers on wires.
 pub(crate) trait Serving<W: Wire + Drop> {
@@ -23,8 +36,7 @@ pub(crate) trait Serving<W: Wire + Drop> {
     /// # Errors
     ///
     /// If what the round has changed cannot be kept. No answer has left then, and no further round is served.
-    fn round(&mut self, now: u64) -> Result<RoundEnd, ProgramFault>
-        ensures { IfErr result IsOfDevices };
+    fn round(&mut self, now: u64) -> Result<RoundEnd, KeepError>;
 
     /// The earliest time at which a round is due although no wire is ready.
     fn next_moment(&self) -> Option<u64>;
@@ -46,7 +58,7 @@ impl<W: Wire + Drop> Serving<W> for Peers<W> {
         Peers::mark_ready(self, slot, ends);
     }
 
-    fn round(&mut self, now: u64) -> Result<RoundEnd, ProgramFault> {
+    fn round(&mut self, now: u64) -> Result<RoundEnd, KeepError> {
         Ok(Peers::round(self, now))
     }
 
