@@ -26,6 +26,7 @@ mod entry;
 mod keeper;
 mod lives;
 mod memory;
+mod numbered;
 mod server;
 
 pub use device::Device;
@@ -33,4 +34,5 @@ pub use entry::{Entry, KeepError};
 pub use keeper::{Keeper, Restart};
 pub use lives::{Event, live};
 pub use memory::MemoryKeeper;
+pub use numbered::{Numbered, RoundNote};
 pub use server::Server;
