@@ -86,7 +86,11 @@ pub(crate) fn resolved(alloc: Global, name: &[u8]) -> Result<Vec<u8>, AllocError
     Ok(resolved)
 }
 
-pub(crate) fn with_suffix(alloc: Global, name: &[u8], suffix: &[u8]) -> Result<Vec<u8>, AllocError> {
+pub(crate) fn with_suffix(
+    alloc: Global,
+    name: &[u8],
+    suffix: &[u8],
+) -> Result<Vec<u8>, AllocError> {
     let mut longer = Vec::new(alloc);
     longer.extend_from_slice(name)?;
     longer.extend_from_slice(suffix)?;

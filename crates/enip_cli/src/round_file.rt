@@ -92,9 +92,7 @@ fn last_round(line: &[u8]) -> LastRound {
 
 /// The number in a line.
 fn number_in(line: &[u8]) -> Option<u64> {
-    let digits = line
-        .strip_prefix(START.as_bytes())?
-        .strip_suffix(b"\n")?;
+    let digits = line.strip_prefix(START.as_bytes())?.strip_suffix(b"\n")?;
     if digits.len() != DIGITS || !digits.iter().all(|digit| digit.is_ascii_digit()) {
         return None;
     }
