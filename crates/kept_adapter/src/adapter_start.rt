@@ -1,5 +1,6 @@
 //! What an adapter is made from.
-ghost use Rattle.std.specs.Prelude.{◌≡◌, ◌≤◌, ForSome, None};
+ghost use Rattle.std.specs.Prelude.{◌≡◌, ◌≤◌, None};
+ghost use Rattle.std.specs.Option.{ForSome};
 ghost use Rattle.cip_objects.specs.Configuration.{fault_of};
 
 use cip_objects::Config;
