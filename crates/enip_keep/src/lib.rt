@@ -27,6 +27,7 @@ mod keeper;
 mod lives;
 mod memory;
 mod server;
+mod tally;
 
 pub use device::Device;
 pub use entry::{Entry, KeepError};
@@ -34,3 +35,4 @@ pub use keeper::{Keeper, Restart};
 pub use lives::{Event, live};
 pub use memory::MemoryKeeper;
 pub use server::Server;
+pub use tally::Tally;
