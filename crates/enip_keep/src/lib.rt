@@ -1,6 +1,7 @@
 //! A device whose state outlives power cuts: no answer leaves before what it reports is kept.
 //!
-//! A [`Server`] holds a [`Device`], which serves requests in rounds, and a [`Keeper`], which keeps entries over a crash.
+//! A [`Server`] holds a [`Device`], which serves requests in rounds, and a [`Keeper`], which keeps entries over a
+//! crash.
 //! A round has three steps:
 //!
 //! 1. The device serves its requests, and holds the answers back.

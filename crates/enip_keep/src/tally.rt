@@ -1,14 +1,14 @@
 //! A device that counts.
-ghost use Rattle.std.specs.Prelude.{◌≡◌, ◌≤◌, ◌++◌, ◌∷◌, ℕ, [], false, if◌then◌else◌, take, length, All, IfOk, Some, None};
+ghost use Rattle.std.specs.Prelude.{◌≡◌, if◌then◌else◌, take, All, IfOk};
 ghost use Rattle.enip_keep.specs.Kept.{pairs_of, IsKeepable};
-ghost use Rattle.enip_keep.specs.Tally.{added, entries_of, kept_of, total_in, is_tally, IsSilent, Answers, Releases};
+ghost use Rattle.enip_keep.specs.Tally.{entries_of, total_in, is_tally};
 
 use crate::{Device, Entry, KeepError};
 use std::alloc::{AllocError, Global};
 use std::marker::Model;
 
-/// A device that counts: an example of a [`Device`], and for tests. A request adds a number, modulo 256, and is answered
-/// with the total, which is kept. The configuration is the first total.
+/// A device that counts: an example of a [`Device`], and for tests. A request adds a number, modulo 256, and is
+/// answered with the total, which is kept. The configuration is the first total.
 #[derive(Drop)]
 pub struct Tally {
     alloc: Global,
@@ -29,7 +29,12 @@ impl Model for Tally {
 
     ghost Value = { TallyState };
 
-    ghost view = { λ t. record { total = t.total; kept = t.kept; answers = t.answers.items; released = t.released } };
+    ghost view = { λ t. record {
+      total = t.total;
+      kept = t.kept;
+      answers = t.answers.items;
+      released = t.released;
+    } };
 
     ghost invariant = { λ t. (pairs_of t.changes.items ≡ entries_of t.total) × All IsKeepable t.changes.items
         × (t.released ≤ length t.answers.items) };
@@ -125,7 +130,7 @@ impl Device for Tally {
 
 /// The total that is kept, or the first one if none is. `None` if the entries are not those of a total.
 fn total_in(first: u8, entries: &[Entry]) -> Option<u8>
-    ensures { result ≡ (if is_tally (pairs_of entries.now) then Some (total_in first (pairs_of entries.now)) else None) }
+    ensures { let kept = pairs_of entries.now in result ≡ (if is_tally kept then Some (total_in first kept) else None) }
 {
     match entries {
         [] => Some(first),
