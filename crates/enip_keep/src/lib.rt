@@ -25,6 +25,7 @@
 mod device;
 mod entry;
 mod keeper;
+pub mod laws;
 mod lives;
 mod memory;
 mod server;
