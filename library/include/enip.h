@@ -113,7 +113,7 @@ enum {
     ENIP_CONFIG_TOML = 7,       /* the text is not TOML, or not UTF-8 */
     ENIP_CONFIG_VALUE = 8,      /* a value is missing, of another type or out of range */
     ENIP_CONFIG_KEY = 9,        /* a key is unknown */
-    ENIP_CONFIG_OBJECT = 10,    /* an own object: its class, instance or name, or more than 32 objects */
+    ENIP_CONFIG_OBJECT = 10,    /* an application object: its class, instance or name, or more than 32 objects */
     ENIP_CONFIG_ATTRIBUTE = 11, /* an attribute of one: its number, type, value, range or size, or more than 32 */
     ENIP_CONFIG_SERVICE = 12    /* a service of one: its number or sizes, or more than 16 */
 };
@@ -261,9 +261,9 @@ ENIP_API int enip_adapter_write(enip_adapter *adapter, uint32_t instance, size_t
                                 size_t length);
 
 /*
- * Writes length bytes, 1 or more, to an attribute of an own object, or to the data of an assembly (class 4, attribute
- * 3), from offset on, whether peers may set it or not. A SHORT_STRING is written as a whole, from offset 0. A checked
- * attribute is written too, and its range does not count. Peers read the bytes from now on.
+ * Writes length bytes, 1 or more, to an attribute of an application object, or to the data of an assembly (class 4,
+ * attribute 3), from offset on, whether peers may set it or not. A SHORT_STRING is written as a whole, from offset 0. A
+ * checked attribute is written too, and its range does not count. Peers read the bytes from now on.
  * ENIP_OK; ENIP_ABSENT if there is no such attribute, or its value cannot hold the bytes; ENIP_MISUSE.
  */
 ENIP_API int enip_adapter_write_attribute(enip_adapter *adapter, uint16_t class_code, uint32_t instance,
@@ -277,8 +277,8 @@ ENIP_API int enip_adapter_write_attribute(enip_adapter *adapter, uint16_t class_
 ENIP_API int enip_adapter_changes(const enip_adapter *adapter, uint32_t instance, uint32_t *changes);
 
 /*
- * Does the same for an attribute of an own object, or the data of an assembly (class 4, attribute 3). The set of a
- * checked attribute counts if the owner accepted it.
+ * Does the same for an attribute of an application object, or the data of an assembly (class 4, attribute 3). The set
+ * of a checked attribute counts if the owner accepted it.
  * ENIP_OK; ENIP_ABSENT if there is no such attribute; ENIP_MISUSE.
  */
 ENIP_API int enip_adapter_attribute_changes(const enip_adapter *adapter, uint16_t class_code, uint32_t instance,

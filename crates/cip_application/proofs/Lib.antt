@@ -4,4 +4,5 @@ pub mod Sound
 pub mod Contents
 pub mod Writes
 pub mod AfterSet
+pub mod Names
 pub mod Allowed

@@ -3,10 +3,10 @@ use Rattle.std.proofs.Common.{◌≡◌, ℕ, zero, suc, ◌<◌, List, [], ◌�
 use Rattle.cip_bytes.specs.Reading.{◌>>=◌, ◌>>◌, map_ok}
 use Rattle.cip_application.specs.declared.attribute.SetFault.{SetFault}
 use Rattle.cip_application.specs.declared.attribute.SetFault.TheVariants.{AttributeNotSettable, AttributeNotSupported}
-use Rattle.cip_application.specs.Attributes.{AttributeValues, attribute_at, attribute_set, attribute_write, needs_approval, one_more}
+use Rattle.cip_application.specs.Attributes.{AttributeValues, attribute_at, attribute_set, attribute_by, needs_approval, one_more}
 use Rattle.cip_application.specs.Check.{demand}
-use Rattle.cip_application.specs.Objects.{ObjectValues, IsAttributeAt, object_with, object_set, object_write, position_of, object_in, objects_set, after_result, objects_approved, objects_write}
-use Rattle.cip_application.specs.Values.{check_value, written_value}
+use Rattle.cip_application.specs.Objects.{ObjectValues, IsAttributeAt, object_with, object_set, object_by, position_of, object_in, objects_set, after_result, objects_approved, objects_by}
+use Rattle.cip_application.specs.Values.{Writing, check_value}
 use Rattle.cip_application.proofs.Lookup.{same_get}
 
 -- a result whose clause follows from another's
@@ -58,25 +58,25 @@ with_written : (o : ObjectValues) (n i : ℕ) (a : AttributeValues) (w : Option 
 with_written o n i a None f e = refl
 with_written o n i a (Some v) f e = ap (λ l. Some (record o { attributes = l })) (f.replaced (record a { value = v }) e)
 
-write_at : (o : ObjectValues) (n i offset : ℕ) (bytes : List ℕ) (a : AttributeValues) → IsAttributeAt o.attributes n i → a ≡ get_or o.attributes i a → object_write o n offset bytes ≡ option_map (λ l. record o { attributes = l }) (option_map (set o.attributes i) (attribute_write a offset bytes))
-write_at o n i offset bytes a f is =
+write_at : (o : ObjectValues) (n i : ℕ) (how : Writing) (a : AttributeValues) → IsAttributeAt o.attributes n i → a ≡ get_or o.attributes i a → object_by how o n ≡ option_map (λ l. record o { attributes = l }) (option_map (set o.attributes i) (attribute_by how a))
+write_at o n i how a f is =
     let there : attribute_at n o.attributes ≡ Some a = f.here a ∙ ap (λ x. Some x) (sym is) in
     let number : a.number ≡ n = ap (λ x. x.number) is ∙ f.numbered a in
-    ap (λ x. option_map (object_with o) (option_and_then (λ y. attribute_write y offset bytes) x)) there
-    ∙ with_written o n i a (written_value a.kind a.value offset bytes) f number
+    ap (λ x. option_map (object_with o) (option_and_then (λ y. attribute_by how y) x)) there
+    ∙ with_written o n i a (how a.kind a.value) f number
 
 unwrap_record : (o : ObjectValues) (w : Option (List AttributeValues)) → record o { attributes = unwrap_or w o.attributes } ≡ unwrap_or (option_map (λ l. record o { attributes = l }) w) o
 unwrap_record o None = refl
 unwrap_record o (Some l) = refl
 
-pub object_written : (o m : ObjectValues) (n i offset : ℕ) (bytes : List ℕ) (a b : AttributeValues) → o ≡ m → IsAttributeAt o.attributes n i → a ≡ get_or o.attributes i a → b ≡ unwrap_or (attribute_write a offset bytes) a → record o { attributes = set o.attributes i b } ≡ unwrap_or (object_write m n offset bytes) m
-object_written o m n i offset bytes a b view f is e =
-    let w = attribute_write a offset bytes in
+pub object_written : (o m : ObjectValues) (n i : ℕ) (how : Writing) (a b : AttributeValues) → o ≡ m → IsAttributeAt o.attributes n i → a ≡ get_or o.attributes i a → b ≡ unwrap_or (attribute_by how a) a → record o { attributes = set o.attributes i b } ≡ unwrap_or (object_by how m n) m
+object_written o m n i how a b view f is e =
+    let w = attribute_by how a in
     ap (λ x. record o { attributes = set o.attributes i x }) (e ∙ ap (unwrap_or w) is)
     ∙ ap (λ l. record o { attributes = l }) (written_in o.attributes i a w)
     ∙ unwrap_record o (option_map (set o.attributes i) w)
-    ∙ ap (λ x. unwrap_or x o) (sym (write_at o n i offset bytes a f is))
-    ∙ ap (λ x. unwrap_or (object_write x n offset bytes) x) view
+    ∙ ap (λ x. unwrap_or x o) (sym (write_at o n i how a f is))
+    ∙ ap (λ x. unwrap_or (object_by how x n) x) view
 
 some_mapped : {A B : Type 0} (f : A → B) (w : Option A) → is_some (option_map f w) ≡ is_some w
 some_mapped f None = refl
@@ -109,25 +109,23 @@ unfolding objects_approved
 approved_nothing m k n content f =
     sym (ap (λ b. cond b (after_result m (objects_set m k n content)) m) f)
 
-pub write_nowhere : (objects : List ObjectValues) (class instance n offset : ℕ) (bytes : List ℕ) → position_of class instance objects ≡ None → objects_write objects class instance n offset bytes ≡ None
-unfolding objects_write
-write_nowhere objects class instance n offset bytes e =
-    ap (option_and_then (λ k. option_map (set objects k) (object_write (object_in objects k) n offset bytes))) e
+pub write_nowhere : (objects : List ObjectValues) (class instance n : ℕ) (how : Writing) → position_of class instance objects ≡ None → objects_by how objects class instance n ≡ None
+write_nowhere objects class instance n how e =
+    ap (option_and_then (λ k. option_map (set objects k) (object_by how (object_in objects k) n))) e
 
-write_there : (objects : List ObjectValues) (class instance k n offset : ℕ) (bytes : List ℕ) (o : ObjectValues) → position_of class instance objects ≡ Some k → k < length objects → o ≡ get_or objects k o → objects_write objects class instance n offset bytes ≡ option_map (set objects k) (object_write o n offset bytes)
-unfolding objects_write
-write_there objects class instance k n offset bytes o e lt is =
-    ap (option_and_then (λ j. option_map (set objects j) (object_write (object_in objects j) n offset bytes))) e
-    ∙ ap (λ x. option_map (set objects k) (object_write x n offset bytes)) (here objects k o lt is)
+write_there : (objects : List ObjectValues) (class instance k n : ℕ) (how : Writing) (o : ObjectValues) → position_of class instance objects ≡ Some k → k < length objects → o ≡ get_or objects k o → objects_by how objects class instance n ≡ option_map (set objects k) (object_by how o n)
+write_there objects class instance k n how o e lt is =
+    ap (option_and_then (λ j. option_map (set objects j) (object_by how (object_in objects j) n))) e
+    ∙ ap (λ x. option_map (set objects k) (object_by how x n)) (here objects k o lt is)
 
-pub objects_written : (objects : List ObjectValues) (class instance k n offset : ℕ) (bytes : List ℕ) (o p : ObjectValues) → position_of class instance objects ≡ Some k → k < length objects → o ≡ get_or objects k o → p ≡ unwrap_or (object_write o n offset bytes) o → set objects k p ≡ unwrap_or (objects_write objects class instance n offset bytes) objects
-objects_written objects class instance k n offset bytes o p at lt is e =
-    let w = object_write o n offset bytes in
+pub objects_written : (objects : List ObjectValues) (class instance k n : ℕ) (how : Writing) (o p : ObjectValues) → position_of class instance objects ≡ Some k → k < length objects → o ≡ get_or objects k o → p ≡ unwrap_or (object_by how o n) o → set objects k p ≡ unwrap_or (objects_by how objects class instance n) objects
+objects_written objects class instance k n how o p at lt is e =
+    let w = object_by how o n in
     ap (set objects k) (e ∙ ap (unwrap_or w) is)
     ∙ written_in objects k o w
-    ∙ ap (λ x. unwrap_or x objects) (sym (write_there objects class instance k n offset bytes o at lt is))
+    ∙ ap (λ x. unwrap_or x objects) (sym (write_there objects class instance k n how o at lt is))
 
-pub objects_reported : (objects : List ObjectValues) (class instance k n offset : ℕ) (bytes : List ℕ) (o : ObjectValues) → position_of class instance objects ≡ Some k → k < length objects → o ≡ get_or objects k o → is_some (object_write o n offset bytes) ≡ is_some (objects_write objects class instance n offset bytes)
-objects_reported objects class instance k n offset bytes o at lt is =
-    sym (some_mapped (set objects k) (object_write o n offset bytes))
-    ∙ ap is_some (sym (write_there objects class instance k n offset bytes o at lt is))
+pub objects_reported : (objects : List ObjectValues) (class instance k n : ℕ) (how : Writing) (o : ObjectValues) → position_of class instance objects ≡ Some k → k < length objects → o ≡ get_or objects k o → is_some (object_by how o n) ≡ is_some (objects_by how objects class instance n)
+objects_reported objects class instance k n how o at lt is =
+    sym (some_mapped (set objects k) (object_by how o n))
+    ∙ ap is_some (sym (write_there objects class instance k n how o at lt is))

@@ -6,7 +6,7 @@ use Rattle.cip_application.specs.declared.attribute.SetFault.{SetFault}
 use Rattle.cip_application.specs.declared.attribute.SetFault.TheVariants.{AttributeNotSettable}
 use Rattle.cip_application.specs.declared.kind.AttributeKind.{AttributeKind}
 use Rattle.cip_application.specs.Check.{demand}
-use Rattle.cip_application.specs.Values.{check_value, written_value}
+use Rattle.cip_application.specs.Values.{check_value, Writing, from_offset, as_whole}
 
 pub record AttributeValues : Type 0 where
   pub number : ℕ
@@ -59,10 +59,17 @@ attribute_set a content = do
   check_value a.kind content
   Ok (record a { value = content; changes = one_more a.changes })
 
--- The attribute after the device itself wrote these bytes from an offset on, settable or not. It is not counted.
+-- The attribute after the device itself wrote it in this way, settable or not. It is not counted.
+abbrev pub attribute_by : Writing → AttributeValues → Option AttributeValues
+attribute_by w a = option_map (λ value. record a { value = value }) (w a.kind a.value)
+
+-- The attribute after the device itself wrote these bytes from an offset on.
 abbrev pub attribute_write : AttributeValues → ℕ → List ℕ → Option AttributeValues
-attribute_write a offset bytes =
-    option_map (λ value. record a { value = value }) (written_value a.kind a.value offset bytes)
+attribute_write a offset bytes = attribute_by (from_offset offset bytes) a
+
+-- The attribute after the device itself put these bytes in place of its value.
+abbrev pub attribute_restore : AttributeValues → List ℕ → Option AttributeValues
+attribute_restore a bytes = attribute_by (as_whole bytes) a
 
 -- The attributes, with one more put before the first of a greater number.
 abbrev pub with_placed : AttributeValues → List AttributeValues → List AttributeValues

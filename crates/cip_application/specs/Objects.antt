@@ -2,14 +2,17 @@
 -- model). The first object of a class and an instance number serves, and the first attribute of a number.
 use Rattle.std.specs.Prelude.{◌≡◌, ◌<◌, ℕ, ◌+◌, Bool, ◌==◌, ◌&&◌, if◌then◌else◌, List, [], ◌∷◌, length, max}
 use Rattle.std.specs.Prelude.{slice_index_or, slice_set, Option, Some, None, option_map, option_and_then, ok_or}
-use Rattle.std.specs.Prelude.{Result, Ok, Err}
+use Rattle.std.specs.Prelude.{Result, Ok, Err, map}
+use Rattle.std.specs.List.{flat_map}
 use Rattle.cip_bytes.specs.Reading.{◌>>=◌, map_ok}
 use Rattle.cip_application.specs.declared.application.ClassSummary.{ClassSummary}
+use Rattle.cip_application.specs.declared.object.AttributeName.{AttributeName}
 use Rattle.cip_application.specs.declared.attribute.SetFault.{SetFault}
 use Rattle.cip_application.specs.declared.attribute.SetFault.TheVariants.{AttributeNotSupported}
 use Rattle.cip_application.specs.declared.config.ServiceConfig.{ServiceConfig}
 use Rattle.cip_application.specs.Attributes.{AttributeValues, attribute_at, with_attribute, attribute_set}
-use Rattle.cip_application.specs.Attributes.{attribute_write, needs_approval, AreAllowed}
+use Rattle.cip_application.specs.Attributes.{attribute_by, needs_approval, AreAllowed}
+use Rattle.cip_application.specs.Values.{Writing, from_offset, as_whole}
 
 pub record ObjectValues : Type 0 where
   pub class : ℕ
@@ -38,11 +41,18 @@ object_set o number content = do
   after ← attribute_set a content
   Ok (object_with o after)
 
+-- The object after the device itself wrote an attribute in this way.
+abbrev pub object_by : Writing → ObjectValues → ℕ → Option ObjectValues
+object_by w o number =
+    option_map (object_with o) (option_and_then (attribute_by w) (attribute_at number o.attributes))
+
 -- The object after the device itself wrote these bytes into an attribute, from an offset on.
 abbrev pub object_write : ObjectValues → ℕ → ℕ → List ℕ → Option ObjectValues
-object_write o number offset bytes =
-    option_map (object_with o)
-    (option_and_then (λ a. attribute_write a offset bytes) (attribute_at number o.attributes))
+object_write o number offset bytes = object_by (from_offset offset bytes) o number
+
+-- The object after the device itself put these bytes in place of an attribute's value.
+abbrev pub object_restore : ObjectValues → ℕ → List ℕ → Option ObjectValues
+object_restore o number bytes = object_by (as_whole bytes) o number
 
 abbrev pub is_object : ℕ → ℕ → ObjectValues → Bool
 is_object class instance o = (o.class == class) && (o.instance == instance)
@@ -87,13 +97,29 @@ objects_approved objects position number content =
     after_result objects (objects_set objects position number content)
     else objects
 
--- The objects after the device itself wrote these bytes into an attribute, from an offset on. None if there is no such
--- attribute, or if its value cannot hold them.
+-- The objects after the device itself wrote an attribute in this way. None if there is no such attribute, or if its
+-- value cannot hold what is written.
+abbrev pub objects_by : Writing → List ObjectValues → ℕ → ℕ → ℕ → Option (List ObjectValues)
+objects_by w objects class instance number =
+    option_and_then (λ k. option_map (slice_set objects k) (object_by w (object_in objects k) number))
+    (position_of class instance objects)
+
+-- The objects after the device itself wrote these bytes into an attribute, from an offset on.
 unfoldable pub objects_write : List ObjectValues → ℕ → ℕ → ℕ → ℕ → List ℕ → Option (List ObjectValues)
 objects_write objects class instance number offset bytes =
-    option_and_then
-    (λ k. option_map (slice_set objects k) (object_write (object_in objects k) number offset bytes))
-    (position_of class instance objects)
+    objects_by (from_offset offset bytes) objects class instance number
+
+-- The objects after the device itself put these bytes in place of an attribute's value.
+unfoldable pub objects_restore : List ObjectValues → ℕ → ℕ → ℕ → List ℕ → Option (List ObjectValues)
+objects_restore objects class instance number bytes = objects_by (as_whole bytes) objects class instance number
+
+-- The names of the attributes of an object, in the order of their numbers.
+abbrev pub names_in : ObjectValues → List AttributeName
+names_in o = map (λ a. record { class = o.class; instance = o.instance; attribute = a.number }) o.attributes
+
+-- The names of all attributes, object by object.
+abbrev pub names_of : List ObjectValues → List AttributeName
+names_of objects = flat_map names_in objects
 
 -- Each value of each object is one that its attribute may have.
 abbrev pub AllAllowed : List ObjectValues → Type 0

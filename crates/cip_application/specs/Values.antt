@@ -36,6 +36,11 @@ check_value kind value = do
   check_size (size_for kind value) value
   demand (is_allowed kind value) InvalidAttributeValue
 
+-- The bytes are a value of this kind. The range binds peers alone, and a text is not longer than its room.
+abbrev pub is_whole : AttributeKind → List ℕ → Bool
+is_whole (Fixed size range) bytes = length bytes == size
+is_whole (ShortString room) bytes = is_ok (check_value (ShortString room) bytes)
+
 -- The list `old`, with these bytes in it from an offset on.
 abbrev pub with_bytes_at : List ℕ → ℕ → List ℕ → List ℕ
 with_bytes_at old offset bytes = take offset old ++ (bytes ++ drop (offset + length bytes) old)
@@ -47,3 +52,16 @@ written_value (Fixed size range) old offset bytes =
     if nat_le (offset + length bytes) (length old) then Some (with_bytes_at old offset bytes) else None
 written_value (ShortString room) old offset bytes =
     if (offset == 0) && is_ok (check_value (ShortString room) bytes) then Some bytes else None
+
+-- How the device itself writes a value: by its kind and the value before. None if the value cannot hold what is
+-- written.
+abbrev pub Writing : Type 0
+Writing = AttributeKind → List ℕ → Option (List ℕ)
+
+-- These bytes are written from an offset on.
+abbrev pub from_offset : ℕ → List ℕ → Writing
+from_offset offset bytes kind old = written_value kind old offset bytes
+
+-- These bytes are put in place of the value.
+abbrev pub as_whole : List ℕ → Writing
+as_whole bytes kind old = if is_whole kind bytes then Some bytes else None

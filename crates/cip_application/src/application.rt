@@ -1,7 +1,7 @@
 //! The application objects of a device: a list of objects to a caller.
 //! Text: docs/PROTOCOL.md, "Objects".
 ghost use Rattle.std.specs.Prelude.{◌≡◌, ◌≤◌, ◌<◌, IfOk, IfErr, IfSome, OnErr, OnOk, Ok, Err, None, length};
-ghost use Rattle.std.specs.Prelude.{option_copied, unwrap_or, is_some, slice_index_or, map};
+ghost use Rattle.std.specs.Prelude.{option_copied, unwrap_or, is_some, slice_index_or, slice_get, map};
 ghost use Rattle.std.specs.List.{All};
 ghost use Rattle.std.specs.Box.{boxed_slice_items};
 ghost use Rattle.cip_application.specs.Attributes.{AttributeValues, attribute_at, can_be_set};
@@ -9,14 +9,15 @@ ghost use Rattle.cip_application.specs.Attributes.{check_before_asking};
 ghost use Rattle.cip_application.specs.Configuration.{fault_of, objects_of_config, object_of_config, AreOwn};
 ghost use Rattle.cip_application.specs.Configuration.{AreInOrder};
 ghost use Rattle.cip_application.specs.Objects.{position_of, object_in, value_in, value_of, service_in, objects_set};
-ghost use Rattle.cip_application.specs.Objects.{objects_write, objects_approved, changes_of, class_of};
+ghost use Rattle.cip_application.specs.Objects.{objects_write, objects_restore, objects_approved, changes_of};
+ghost use Rattle.cip_application.specs.Objects.{class_of, names_of};
 ghost use Rattle.cip_application.specs.Objects.{AllAllowed};
 ghost use Rattle.cip_application.specs.Whole.{IsSound};
 
 use crate::attribute::SetFault;
 use crate::config::{ObjectConfig, ObjectFault, SERVICE_DATA_LIMIT, ServiceConfig, fault};
 use crate::kind::VALUE_LIMIT;
-use crate::object::Object;
+use crate::object::{AttributeName, Object};
 use std::alloc::{AllocError, Global};
 use std::boxed::BoxedSlice;
 use std::marker::Model;
@@ -248,6 +249,41 @@ impl ApplicationObjects {
             return false;
         };
         self.objects[position].write(attribute, offset, bytes)
+    }
+
+    /// Puts bytes in place of an attribute's value, for the device itself, even if peers cannot set it, and returns
+    /// whether it did. The bytes must have the size of the value, or be a text that is not longer than its room.
+    /// Otherwise, or if there is no such attribute, it returns `false` and changes nothing. It is not counted as a
+    /// change, and the attribute's range does not bind it.
+    ///
+    /// ```
+    /// objects.restore(768, 1, 1, &[0x10, 0x27]); // false if the value does not have two bytes
+    /// ```
+    pub fn restore(&mut self, class: u16, instance: u32, attribute: u16, bytes: &[u8]) -> bool
+        ensures restored { self.new
+            ≡ unwrap_or (objects_restore self.old class instance attribute bytes.now) self.old }
+        ensures reported { result ≡ is_some (objects_restore self.old class instance attribute bytes.now) }
+    {
+        let Some(position) = self.position(class, instance) else {
+            return false;
+        };
+        self.objects[position].restore(attribute, bytes)
+    }
+
+    /// The name of an attribute by its index among all: object by object, in the order of the attribute numbers. `None`
+    /// past the last.
+    pub fn name(&self, index: usize) -> Option<AttributeName>
+        ensures { result ≡ slice_get (names_of self.now) index }
+    {
+        let mut left = index;
+        for object in self.objects.iter() {
+            let count = object.attribute_count();
+            if left < count {
+                return Some(object.name(left));
+            }
+            left -= count;
+        }
+        None
     }
 
     /// How often peers have set an attribute, modulo 2^32. Refused sets and the device's own writes do not count.

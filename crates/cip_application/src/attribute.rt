@@ -4,7 +4,8 @@ ghost use Rattle.std.specs.Prelude.{◌≡◌, ◌≤◌, ◌+◌, IfOk, IfErr, 
 ghost use Rattle.std.specs.Prelude.{is_some, Some};
 ghost use Rattle.std.specs.Prelude.{◌&&◌, nat_le, not};
 ghost use Rattle.cip_application.specs.Values.{capacity, with_bytes_at};
-ghost use Rattle.cip_application.specs.Attributes.{attribute_set, attribute_write, check_before_asking};
+ghost use Rattle.cip_application.specs.Attributes.{attribute_set, attribute_write, attribute_restore};
+ghost use Rattle.cip_application.specs.Attributes.{check_before_asking};
 
 use crate::kind::{AttributeKind, VALUE_LIMIT};
 use std::alloc::{AllocError, Global};
@@ -196,6 +197,19 @@ impl Attribute {
                 true
             }
         }
+    }
+
+    /// Puts bytes in place of the value, for the device itself, and returns whether it did. If they are not a value of
+    /// the attribute's kind, nothing changes.
+    pub(crate) fn restore(&mut self, bytes: &[u8]) -> bool
+        ensures restored { self.new ≡ unwrap_or (attribute_restore self.old bytes.now) self.old }
+        ensures reported { result ≡ is_some (attribute_restore self.old bytes.now) }
+    {
+        if !self.kind.is_whole(bytes) {
+            return false;
+        }
+        self.replace(bytes);
+        true
     }
 
     /// Replaces the value.

@@ -1,7 +1,7 @@
 //! The kinds of attributes, and which values they can have (Volume 1, elementary data types).
 //! Text: docs/PROTOCOL.md, "Objects".
-ghost use Rattle.std.specs.Prelude.{◌≡◌, ◌≤◌, OnOk, length};
-ghost use Rattle.cip_application.specs.Values.{capacity, size_for, is_allowed, check_value};
+ghost use Rattle.std.specs.Prelude.{◌≡◌, ◌≤◌, OnOk, length, true};
+ghost use Rattle.cip_application.specs.Values.{capacity, size_for, is_allowed, is_whole, check_value};
 
 use crate::attribute::SetFault;
 use crate::number::NumberRange;
@@ -88,5 +88,17 @@ impl AttributeKind {
             return Err(SetFault::InvalidAttributeValue);
         }
         Ok(())
+    }
+
+    /// Whether these bytes are a value of this kind, in its range or not: they have the size of the value, or are a text
+    /// that is not longer than its room.
+    pub fn is_whole(&self, bytes: &[u8]) -> bool
+        ensures whole { result ≡ is_whole self.now bytes.now }
+        ensures fits { result ≡ true → length bytes.now ≤ capacity self.now }
+    {
+        match *self {
+            AttributeKind::Fixed { size, .. } => bytes.len() == usize::from(size),
+            AttributeKind::ShortString { .. } => self.check(bytes).is_ok(),
+        }
     }
 }

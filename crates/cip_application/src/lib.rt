@@ -28,3 +28,4 @@ pub use config::{
 };
 pub use kind::{AttributeKind, VALUE_LIMIT};
 pub use number::{NumberRange, NumberType};
+pub use object::AttributeName;

@@ -1,14 +1,15 @@
 //! An application object: its attributes in the order of their numbers, and its own services.
 //! Text: docs/PROTOCOL.md, "Objects".
-ghost use Rattle.std.specs.Prelude.{◌≡◌, ◌≤◌, ◌<◌, IfOk, IfErr, IfSome, OnErr, OnOk, Ok, Err, MatchOption, None};
+ghost use Rattle.std.specs.Prelude.{◌≡◌, ◌≤◌, ◌<◌, IfOk, IfErr, IfSome, OnErr, OnOk, Ok, Err, MatchOption, None, Some};
 ghost use Rattle.std.specs.Prelude.{length, map, option_map, option_copied, unwrap_or, is_some, insert};
-ghost use Rattle.std.specs.Prelude.{slice_index_or};
+ghost use Rattle.std.specs.Prelude.{slice_index_or, slice_get};
 ghost use Rattle.std.specs.List.{All};
 ghost use Rattle.std.specs.Box.{boxed_slice_items};
 ghost use Rattle.cip_application.specs.Attributes.{AttributeValues, attribute_at, can_be_set, with_placed, in_order};
 ghost use Rattle.cip_application.specs.Attributes.{needs_approval, check_before_asking};
 ghost use Rattle.cip_application.specs.Configuration.{attribute_of_config, object_of_config};
-ghost use Rattle.cip_application.specs.Objects.{value_in, service_in, object_set, object_write, IsAttributeAt};
+ghost use Rattle.cip_application.specs.Objects.{value_in, service_in, object_set, object_write, object_restore};
+ghost use Rattle.cip_application.specs.Objects.{names_in, IsAttributeAt};
 ghost use Rattle.cip_application.specs.Values.{capacity};
 ghost use Rattle.cip_application.specs.Whole.{IsShort};
 
@@ -20,6 +21,17 @@ use crate::kind::VALUE_LIMIT;
 use std::alloc::{AllocError, Global};
 use std::boxed::BoxedSlice;
 use std::marker::Model;
+
+/// What an attribute is called: its class, the instance and its number.
+#[derive(Clone, Copy, Debug, PartialEq, Eq)]
+pub struct AttributeName {
+    /// The class.
+    pub class: u16,
+    /// The instance number.
+    pub instance: u16,
+    /// The attribute's number.
+    pub attribute: u16,
+}
 
 /// An application object. Only `new` allocates.
 #[derive(Debug, Drop)]
@@ -177,6 +189,30 @@ impl Object {
             return false;
         };
         self.attributes[index].write(offset, bytes)
+    }
+
+    /// Puts bytes in place of the value of the attribute with this number, for the device itself, and returns whether it
+    /// did. If there is no such attribute, or the bytes are not a value of its kind, nothing changes.
+    pub(crate) fn restore(&mut self, number: u16, bytes: &[u8]) -> bool
+        ensures restored { self.new ≡ unwrap_or (object_restore self.old number bytes.now) self.old }
+        ensures reported { result ≡ is_some (object_restore self.old number bytes.now) }
+    {
+        let Some(index) = attribute_index(&self.attributes, number) else {
+            return false;
+        };
+        self.attributes[index].restore(bytes)
+    }
+
+    /// The name of the attribute at an index.
+    pub(crate) fn name(&self, index: usize) -> AttributeName
+        requires { index < length self.now.attributes }
+        ensures { slice_get (names_in self.now) index ≡ Some result }
+    {
+        AttributeName {
+            class: self.class,
+            instance: self.instance,
+            attribute: self.attributes[index].number(),
+        }
     }
 
     /// The own service with this number.

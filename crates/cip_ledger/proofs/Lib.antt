@@ -1,4 +1,5 @@
 pub mod SlotLemmas
+pub mod KeptLemmas
 pub mod RequestLemmas
 pub mod Fates
 pub mod Settled

@@ -1,5 +1,5 @@
 -- The command ledger's state: for each originator the greatest number that was executed or is in doubt, and its reply.
-use Rattle.std.specs.Prelude.{ℕ, ◌==◌, if◌then◌else◌, Option, List, [], ◌∷◌, find, filter, not}
+use Rattle.std.specs.Prelude.{◌≡◌, ℕ, ◌≤◌, ◌<◌, ◌^◌, ◌==◌, if◌then◌else◌, Option, None, List, [], ◌∷◌, find, filter, not, length, unwrap_or}
 
 -- an originator's slot: the last of its commands, and the reply to it; without a reply the command is in doubt, that is,
 -- the device does not know whether it was executed
@@ -21,6 +21,25 @@ empty_ledger slots life = record { slots = slots; life = life; taken = [] }
 -- the slot of an originator
 abbrev pub slot_of : ℕ → List SlotState → Option SlotState
 slot_of originator taken = find (λ slot. slot.originator == originator) taken
+
+-- each originator has one slot at most
+abbrev pub AreApart : List SlotState → Type 0
+AreApart [] = Unit {0}
+AreApart (slot ∷ taken) = (slot_of slot.originator taken ≡ None) × AreApart taken
+
+-- the kept bytes: nothing is kept of the reply to a command in doubt
+abbrev pub kept_bytes : SlotState → List ℕ
+kept_bytes slot = unwrap_or slot.reply []
+
+-- the originator has 64 bits, the number 32, and the reply at most 480 bytes
+pub record IsSlot (slot : SlotState) : Type 0 where
+  pub originator : slot.originator < 2 ^ 64
+  pub number : slot.number < 2 ^ 32
+  pub short : length (kept_bytes slot) ≤ 480
+
+abbrev pub AreSlots : List SlotState → Type 0
+AreSlots [] = Unit {0}
+AreSlots (slot ∷ taken) = IsSlot slot × AreSlots taken
 
 -- the slots once this one is its originator's: in place of the one that it had, or behind all others
 abbrev pub with_slot : SlotState → List SlotState → List SlotState

@@ -1,6 +1,7 @@
 pub mod AttributeValue
 pub mod Inside
 pub mod Ledger
+pub mod Kept
 pub mod Requests
 pub mod Services
 pub mod Slots

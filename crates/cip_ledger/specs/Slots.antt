@@ -2,7 +2,7 @@
 use Rattle.std.specs.Prelude.{◌≡◌, ℕ, ◌<◌, ◌≤◌, Option, Some, None, List, [], ◌∷◌, ◌++◌, length, slice_index_or, slice_set, vec_len}
 use Rattle.std.specs.Global.{Vec}
 use Rattle.std.specs.Vec.{vec_capacity}
-use Rattle.cip_ledger.specs.Ledger.{SlotState, slot_of, with_slot}
+use Rattle.cip_ledger.specs.Ledger.{SlotState, slot_of, with_slot, AreApart, AreSlots}
 
 pub record SlotsState : Type 0 where
   pub limit : ℕ
@@ -11,11 +11,13 @@ pub record SlotsState : Type 0 where
 abbrev pub slots_in : ℕ → List SlotState → SlotsState
 slots_in limit taken = record { limit = limit; taken = taken }
 
--- there is memory for all slots, and no more of them are taken
+-- there is memory for all slots, and no more of them are taken; each originator has one, with a reply that fits
 pub record HasSlots (limit : ℕ) (taken : Vec SlotState) : Type 0 where
   pub few : limit ≤ 64
   pub memory : limit ≤ vec_capacity taken
   pub within : vec_len taken ≤ limit
+  pub apart : AreApart taken.items
+  pub slots : AreSlots taken.items
 
 -- the slot at an index keeps this reply
 pub record IsKeptAt (taken : List SlotState) (index : ℕ) (reply : List ℕ) : Type 0 where

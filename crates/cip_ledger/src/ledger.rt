@@ -1,6 +1,8 @@
 //! The ledger: what it does with each request.
-ghost use Rattle.std.specs.Prelude.{◌≡◌, ◌<◌, ◌≤◌, ◌∷◌, ◌++◌, ◌+◌, ℕ, length, map, Some, None, IfOk, option_map};
-ghost use Rattle.std.specs.List.{slice_get};
+ghost use Rattle.std.specs.Prelude.{◌≡◌, ◌<◌, ◌≤◌, ◌∷◌, ◌++◌, ◌+◌, ℕ, length, map, Some, None, IfOk, IfSome, option_map};
+ghost use Rattle.std.specs.Prelude.{unwrap_or, is_some, slice_get};
+ghost use Rattle.std.specs.Option.{option_copied};
+ghost use Rattle.cip_ledger.specs.Kept.{kept_in, with_life, restored, IsLedger};
 ghost use Rattle.cip_ledger.specs.Ledger.{empty_ledger, slot_of};
 ghost use Rattle.cip_ledger.specs.Reaching.{embedded_by};
 ghost use Rattle.cip_ledger.specs.Requests as requests;
@@ -38,6 +40,17 @@ pub(crate) enum Verdict<'a> {
     Doubts,
     /// It is new, and is executed.
     Executes,
+}
+
+/// The last command of an originator, and the reply to it, as a slot keeps them.
+#[derive(Clone, Copy, Debug)]
+pub struct KeptCommand<'a> {
+    /// Whose command it is.
+    pub originator: u64,
+    /// The number of the command.
+    pub number: u32,
+    /// The reply, at most 480 bytes. `None` if the command is in doubt.
+    pub reply: Option<&'a [u8]>,
 }
 
 /// The ledger of a device: for each originator the last command that was executed, and its reply, or a command that is
@@ -138,6 +151,79 @@ impl Ledger {
         ensures { result ≡ slice_get (map command_name (doubtful_in self.now)) place }
     {
         self.slots.in_doubt(place)
+    }
+
+    /// The number of the device's life.
+    pub fn life(&self) -> u64
+        ensures { result ≡ self.now.life }
+    {
+        self.life
+    }
+
+    /// Sets the number of the device's life. A device that starts from what was kept of its ledger is still in the life
+    /// that it was in.
+    pub fn set_life(&mut self, life: u64)
+        ensures { self.new ≡ with_life life self.old }
+    {
+        self.life = life;
+    }
+
+    /// How many slots are taken.
+    pub fn slot_count(&self) -> usize
+        ensures count { result ≡ length self.now.taken }
+        ensures ledger { IsLedger self.now }
+    {
+        let _life = self.life;
+        usize::from(self.slots.taken())
+    }
+
+    /// The last command in a taken slot, by the slot's index in the order in which they were taken. `None` past the last.
+    pub fn slot(&self, index: usize) -> Option<KeptCommand<'_>>
+        ensures kept { option_map kept_in result ≡ slice_get self.now.taken index }
+        ensures short { IfSome result (λ kept. IfSome kept.reply (λ reply. length reply.now ≤ KEPT_LIMIT)) }
+    {
+        match self.slots.get(index) {
+            Some(slot) => Some(KeptCommand {
+                originator: slot.originator(),
+                number: slot.number(),
+                reply: slot.reply(),
+            }),
+            None => None,
+        }
+    }
+
+    /// Puts the last command of an originator and its reply into a free slot, as they were kept, and returns whether it
+    /// did. Without a reply the command is in doubt. If no slot is free, the originator has one, or the reply has over
+    /// 480 bytes, nothing changes.
+    ///
+    /// With this call a device starts from what was kept of its ledger, before it answers any peer.
+    ///
+    /// ```
+    /// ledger.set_life(life);
+    /// let restored = ledger.restore(originator, number, Some(reply));
+    /// ```
+    pub fn restore(&mut self, originator: u64, number: u32, reply: Option<&[u8]>) -> bool
+        ensures restored { self.new
+            ≡ unwrap_or (restored (record { originator = originator; number = number; reply = option_copied reply.entry }) self.old)
+            self.old }
+        ensures reported { result
+            ≡ is_some (restored (record { originator = originator; number = number; reply = option_copied reply.entry }) self.old) }
+    {
+        let size = reply.map_or(0, |reply| reply.len());
+        if !self.slots.has_free() || size > KEPT_LIMIT {
+            return false;
+        }
+        let index = self.position(originator);
+        if index.is_some() {
+            return false;
+        }
+        match reply {
+            Some(reply) => {
+                self.slots.keep(index, originator, number, reply);
+            }
+            None => self.slots.doubt(index, originator, number),
+        }
+        true
     }
 
     /// What is to be done with a command: the first check that fails refuses it.

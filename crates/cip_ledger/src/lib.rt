@@ -32,7 +32,7 @@ mod slots;
 mod status;
 
 pub use doubt::DoubtfulCommand;
-pub use ledger::Ledger;
+pub use ledger::{KeptCommand, Ledger};
 pub use request::LEDGER;
 pub use router::LedgerRouter;
 pub use service::{DO_ONCE, FORGET, GET_LAST};

@@ -1,10 +1,9 @@
 //! The slots of the originators. No call after `new` takes memory.
 ghost use Rattle.std.specs.Prelude.{◌≡◌, ℕ, List, ◌≤◌, ◌<◌, nat_lt, [], ◌∷◌, ◌++◌, length, option_map, Some, None};
 ghost use Rattle.std.specs.Prelude.{IfOk, IfSome, IfNone};
-ghost use Rattle.std.specs.Prelude.{slice_index_or, slice_set, map, filter};
-ghost use Rattle.std.specs.List.{slice_get};
+ghost use Rattle.std.specs.Prelude.{slice_index_or, slice_set, slice_get, map, filter};
 ghost use Rattle.cip_ledger.specs.Doubt.{is_doubtful, command_name};
-ghost use Rattle.cip_ledger.specs.Ledger.{SlotState, slot_of, with_slot, without_slot};
+ghost use Rattle.cip_ledger.specs.Ledger.{SlotState, slot_of, with_slot, without_slot, AreApart, AreSlots};
 ghost use Rattle.cip_ledger.specs.Services.{KEPT_LIMIT};
 ghost use Rattle.cip_ledger.specs.Slots.{slots_in, IsKeptAt, IsFound};
 
@@ -56,7 +55,11 @@ impl Slots {
 
     /// How many slots are taken.
     pub(crate) fn taken(&self) -> u16
-        ensures { result ≡ length self.now.taken }
+        ensures count { result ≡ length self.now.taken }
+        ensures few { self.now.limit ≤ MOST_ORIGINATORS }
+        ensures within { length self.now.taken ≤ self.now.limit }
+        ensures apart { AreApart self.now.taken }
+        ensures slots { AreSlots self.now.taken }
     {
         self.taken.len() as u16
     }
@@ -82,6 +85,13 @@ impl Slots {
         ensures { IsFound self.now.taken originator result }
     {
         index_of(&self.taken, originator)
+    }
+
+    /// The slot at an index, in the order in which they were taken.
+    pub(crate) fn get(&self, index: usize) -> Option<&Slot>
+        ensures { option_map (λ slot. slot.now) result ≡ slice_get self.now.taken index }
+    {
+        self.taken.get(index)
     }
 
     /// The slot of an originator that was found at this index.

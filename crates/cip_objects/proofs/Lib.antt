@@ -5,6 +5,8 @@ pub mod Shapes
 pub mod Offers
 pub mod ObjectRefs
 pub mod Writes
+pub mod KeptNames
+pub mod KeptValues
 pub mod Numbers
 pub mod Words
 pub mod Settable

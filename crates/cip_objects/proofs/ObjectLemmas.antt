@@ -12,11 +12,11 @@ use Rattle.cip_application.specs.declared.attribute.SetFault.{SetFault}
 use Rattle.cip_application.specs.declared.attribute.SetFault.TheVariants as faults
 use Rattle.cip_application.specs.declared.kind.AttributeKind.{AttributeKind}
 use Rattle.cip_application.specs.declared.kind.AttributeKind.TheVariants.{Fixed}
-use Rattle.cip_application.specs.Attributes.{AttributeValues, attribute_at, attribute_set, attribute_write, can_be_set, one_more}
+use Rattle.cip_application.specs.Attributes.{AttributeValues, attribute_at, attribute_set, attribute_by, can_be_set, one_more}
 use Rattle.cip_application.specs.Check.{demand as demand_value}
 use Rattle.cip_application.specs.Configuration.{is_taken_class}
-use Rattle.cip_application.specs.Objects.{ObjectValues, position_of, object_in, value_in, object_with, objects_set, objects_write, changes_of, instances_of, greatest_of as greatest_in, summary_of, class_of}
-use Rattle.cip_application.specs.Values.{size_for, check_value, is_allowed as is_allowed_value, written_value}
+use Rattle.cip_application.specs.Objects.{ObjectValues, position_of, object_in, value_in, object_with, objects_set, objects_by, objects_write, objects_restore, changes_of, instances_of, greatest_of as greatest_in, summary_of, class_of}
+use Rattle.cip_application.specs.Values.{size_for, check_value, is_allowed as is_allowed_value, Writing, from_offset, as_whole}
 use Rattle.cip_objects.specs.declared.object_ref.ObjectRef.TheVariants as object_refs
 use Rattle.cip_objects.specs.declared.object_ref.Settable.TheVariants as settables
 use Rattle.cip_objects.specs.declared.service.Service.TheVariants.{Add, Clear, GetAttributeList, GetAttributeSingle, SetAttributeSingle}
@@ -26,14 +26,16 @@ use Rattle.cip_objects.specs.ChangeServices.{Change, change, change_result, is_a
 use Rattle.cip_objects.specs.Changes.{changes_at, counted_in}
 use Rattle.cip_objects.specs.Check.{demand, check_size}
 use Rattle.cip_objects.specs.Contents.{Contents, value_at, bytes_at, with_value, with_change}
-use Rattle.cip_objects.specs.DeviceWrites.{with_attribute_of, object_write}
+use Rattle.cip_objects.specs.DeviceWrites.{with_attribute_by, object_by, object_write}
 use Rattle.cip_objects.specs.Entries.{IdentityValues, AssemblyValues, CounterValues, AreApart, AreDistinct, NoneIsClass, attribute_in, attributes_of_class, class_attributes, counter_attributes, object_attributes, object_shape_of, attribute_shape_of, object_tallies, contents_of}
+use Rattle.cip_objects.specs.Kept.{with_kept, kept_object_kind}
 use Rattle.cip_objects.specs.ObjectMap.{key}
 use Rattle.cip_objects.specs.ObjectRef.{IsFree, IsObjectIndex, IsObjectClass, IsSettable, kind_to_set, Resolves, value_to, bytes_to, after_set, object_in as shape_in}
 use Rattle.cip_objects.specs.ReadServices.{IDENTITY_ATTRIBUTES, all_attributes, numbers_of}
 use Rattle.cip_objects.specs.Status.{set_refusal}
 use Rattle.cip_objects.specs.Tables.{ObjectShape, Shapes, object_at, position_at, attribute_at as shape_at_number, kind_of_settable, kind_in, settable_kind, numbers_in, greatest_number, services_of, application_services, object_services, is_counter_class}
 use Rattle.cip_objects.proofs.Lookup.{find_object, object_value, own_value, object_at-map, above_none, both_true, taken_value, value_at-contents_of}
+use Rattle.cip_objects.proofs.KeptValues.{object_kept}
 use Rattle.cip_objects.proofs.Numbers.{enabled}
 use Rattle.cip_objects.proofs.ObjectRefs.{free_kind}
 use Rattle.cip_objects.proofs.ObjectWrites.{IsOwn, IsWritten, attributes_written, same_parts, attribute_counted, object_written, object_changed, map_set}
@@ -551,37 +553,47 @@ by_value d bs c os m k n a written new (Some v) is own f there e g =
     }
 
 -- the object has the attribute, or not
-by_found : (d : IdentityValues) (bs : List AssemblyValues) (c : CounterValues) (os : List ObjectValues) (m : Contents) (k n offset : ℕ) (bytes : List ℕ) (written : Option Contents) (new : Option (List ObjectValues)) (a : Option AttributeValues) → contents_of d bs c os ≡ m → NoneIsClass bs → AreApart c.enabled (map object_shape_of os) → IsFound c os k → attribute_at n (object_in os k).attributes ≡ a
-    → new ≡ option_map (set os k) (option_map (object_with (object_in os k)) (option_and_then (λ x. attribute_write x offset bytes) a)) → written ≡ with_attribute_of m (object_in os k).class (object_in os k).instance n offset bytes (option_map attribute_shape_of a) → IsDeviceWrite d bs c os m written new
-by_found d bs c os m k n offset bytes written new None is h own f there e g = nothing_written d bs c os m written new is own e g
-by_found d bs c os m k n offset bytes written new (Some a) is h own f there e g =
+by_found : (d : IdentityValues) (bs : List AssemblyValues) (c : CounterValues) (os : List ObjectValues) (m : Contents) (k n : ℕ) (how : Writing) (written : Option Contents) (new : Option (List ObjectValues)) (a : Option AttributeValues) → contents_of d bs c os ≡ m → NoneIsClass bs → AreApart c.enabled (map object_shape_of os) → IsFound c os k → attribute_at n (object_in os k).attributes ≡ a
+    → new ≡ option_map (set os k) (option_map (object_with (object_in os k)) (option_and_then (attribute_by how) a)) → written ≡ with_attribute_by how m (object_in os k).class (object_in os k).instance n (option_map attribute_shape_of a) → IsDeviceWrite d bs c os m written new
+by_found d bs c os m k n how written new None is h own f there e g = nothing_written d bs c os m written new is own e g
+by_found d bs c os m k n how written new (Some a) is h own f there e g =
     let o = object_in os k in
     let read : bytes_at m o.class o.instance n ≡ a.value =
     ap (λ x. bytes_at x o.class o.instance n) (sym is) ∙ ap (λ x. unwrap_or x []) (found_value d bs c os k n h own f ∙ ap (option_map (λ x. x.value)) there) in
-    by_value d bs c os m k n a written new (written_value a.kind a.value offset bytes) is own f there e
-    (g ∙ ap (λ x. option_map (with_value m o.class o.instance n) (written_value a.kind x offset bytes)) read)
+    by_value d bs c os m k n a written new (how a.kind a.value) is own f there e
+    (g ∙ ap (λ x. option_map (with_value m o.class o.instance n) (how a.kind x)) read)
 
 -- there is such an object, or not
-by_place : (d : IdentityValues) (bs : List AssemblyValues) (c : CounterValues) (os : List ObjectValues) (m : Contents) (class instance n offset : ℕ) (bytes : List ℕ) (written : Option Contents) (new : Option (List ObjectValues)) (p : Option ℕ) → contents_of d bs c os ≡ m → NoneIsClass bs → AreApart c.enabled (map object_shape_of os) → position_of class instance os ≡ p
-    → new ≡ option_and_then (λ k. option_map (set os k) (option_map (object_with (object_in os k)) (option_and_then (λ x. attribute_write x offset bytes) (attribute_at n (object_in os k).attributes)))) p
-    → written ≡ with_attribute_of m class instance n offset bytes (option_and_then (λ o. shape_at_number n o.attributes) (option_map object_shape_of (option_map (object_in os) p))) → IsDeviceWrite d bs c os m written new
-by_place d bs c os m class instance n offset bytes written new None is h own place e g = nothing_written d bs c os m written new is own e g
-by_place d bs c os m class instance n offset bytes written new (Some k) is h own place e g =
+by_place : (d : IdentityValues) (bs : List AssemblyValues) (c : CounterValues) (os : List ObjectValues) (m : Contents) (class instance n : ℕ) (how : Writing) (written : Option Contents) (new : Option (List ObjectValues)) (p : Option ℕ) → contents_of d bs c os ≡ m → NoneIsClass bs → AreApart c.enabled (map object_shape_of os) → position_of class instance os ≡ p
+    → new ≡ option_and_then (λ k. option_map (set os k) (option_map (object_with (object_in os k)) (option_and_then (attribute_by how) (attribute_at n (object_in os k).attributes)))) p
+    → written ≡ with_attribute_by how m class instance n (option_and_then (λ o. shape_at_number n o.attributes) (option_map object_shape_of (option_map (object_in os) p))) → IsDeviceWrite d bs c os m written new
+by_place d bs c os m class instance n how written new None is h own place e g = nothing_written d bs c os m written new is own e g
+by_place d bs c os m class instance n how written new (Some k) is h own place e g =
     let at = at_position class instance k os place in
     let o = object_in os k in
-    by_found d bs c os m k n offset bytes written new (attribute_at n o.attributes) is h own (found_at c os class instance k own place) refl e
-    (g ∙ ap (with_attribute_of m class instance n offset bytes) (attribute_at-map n o.attributes)
-    ∙ ap (λ x. with_attribute_of m x instance n offset bytes (option_map attribute_shape_of (attribute_at n o.attributes))) (sym at.of_class)
-    ∙ ap (λ x. with_attribute_of m o.class x n offset bytes (option_map attribute_shape_of (attribute_at n o.attributes))) (sym at.of_instance))
+    by_found d bs c os m k n how written new (attribute_at n o.attributes) is h own (found_at c os class instance k own place) refl e
+    (g ∙ ap (with_attribute_by how m class instance n) (attribute_at-map n o.attributes)
+    ∙ ap (λ x. with_attribute_by how m x instance n (option_map attribute_shape_of (attribute_at n o.attributes))) (sym at.of_class)
+    ∙ ap (λ x. with_attribute_by how m o.class x n (option_map attribute_shape_of (attribute_at n o.attributes))) (sym at.of_instance))
+
+writes_by : (d : IdentityValues) (bs : List AssemblyValues) (c : CounterValues) (os : List ObjectValues) (m : Contents) (class instance n : ℕ) (how : Writing) → contents_of d bs c os ≡ m → NoneIsClass bs → AreApart c.enabled (map object_shape_of os)
+    → IsDeviceWrite d bs c os m (object_by how m class instance n) (objects_by how os class instance n)
+writes_by d bs c os m class instance n how is h own =
+    let s = shapes-contents d bs c os m is in
+    by_place d bs c os m class instance n how _ _ (position_of class instance os) is h own refl refl
+    (ap (λ x. with_attribute_by how m class instance n (option_and_then (λ o. shape_at_number n o.attributes) (object_at class instance x.objects))) s
+    ∙ ap (λ x. with_attribute_by how m class instance n (option_and_then (λ o. shape_at_number n o.attributes) x)) (object_at-map class instance os ∙ ap (option_map object_shape_of) (find_position class instance os)))
 
 pub device_writes : (d : IdentityValues) (bs : List AssemblyValues) (c : CounterValues) (os : List ObjectValues) (m : Contents) (class instance n offset : ℕ) (bytes : List ℕ) → contents_of d bs c os ≡ m → NoneIsClass bs → AreApart c.enabled (map object_shape_of os)
     → IsDeviceWrite d bs c os m (object_write m class instance n offset bytes) (objects_write os class instance n offset bytes)
 unfolding object_write objects_write
-device_writes d bs c os m class instance n offset bytes is h own =
-    let s = shapes-contents d bs c os m is in
-    by_place d bs c os m class instance n offset bytes _ _ (position_of class instance os) is h own refl refl
-    (ap (λ x. with_attribute_of m class instance n offset bytes (option_and_then (λ o. shape_at_number n o.attributes) (object_at class instance x.objects))) s
-    ∙ ap (λ x. with_attribute_of m class instance n offset bytes (option_and_then (λ o. shape_at_number n o.attributes) x)) (object_at-map class instance os ∙ ap (option_map object_shape_of) (find_position class instance os)))
+device_writes d bs c os m class instance n offset bytes is h own = writes_by d bs c os m class instance n (from_offset offset bytes) is h own
+
+pub device_restores : (d : IdentityValues) (bs : List AssemblyValues) (c : CounterValues) (os : List ObjectValues) (m : Contents) (class instance n : ℕ) (bytes : List ℕ) → contents_of d bs c os ≡ m → NoneIsClass bs → AreApart c.enabled (map object_shape_of os)
+    → IsDeviceWrite d bs c os m (with_kept m class instance n bytes (kept_object_kind m.shapes class instance n)) (objects_restore os class instance n bytes)
+unfolding objects_restore
+device_restores d bs c os m class instance n bytes is h own =
+    subst (λ w. IsDeviceWrite d bs c os m w (objects_by (as_whole bytes) os class instance n)) (object_kept m class instance n bytes) (writes_by d bs c os m class instance n (as_whole bytes) is h own)
 
 -- how often peers set an attribute
 pub changes_here : (class instance n : ℕ) (os : List ObjectValues) → changes_of os class instance n ≡ object_changes n (find_object class instance os)

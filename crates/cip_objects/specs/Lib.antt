@@ -27,6 +27,7 @@ pub mod Assembly
 pub mod Lists
 pub mod Members
 pub mod DeviceWrites
+pub mod Kept
 pub mod OwnRequests
 pub mod OwnRows
 pub mod ChangesRun

@@ -21,6 +21,7 @@ ghost use Rattle.cip_objects.specs.ObjectMap.{key};
 ghost use Rattle.cip_objects.specs.AttributeValue.{value_bytes, IsShort};
 
 mod application;
+mod kept;
 
 use crate::assembly::{Assembly, DATA_LIMIT, MEMBER_LIMIT, greatest, position};
 use crate::class::{Class, class_attribute};

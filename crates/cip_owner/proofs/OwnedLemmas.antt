@@ -1,6 +1,7 @@
 -- What the objects do with a request before the owner's reply is given.
 use Rattle.std.proofs.Common.{◌≡◌, ℕ, Bool, true, false, if◌then◌else◌, Option, Some, None, Result, List, slice_index, ap, sym, subst, refl, ◌∙◌, inl, inr, ◌⊎◌, arith}
 use Rattle.std.proofs.lemmas.Bool.Decides.{nat_tests}
+use Rattle.std.specs.Prelude.{is_some}
 use Rattle.cip_objects.specs.declared.status.Refusal.{Refusal}
 use Rattle.cip_objects.specs.Contents.{Contents}
 use Rattle.cip_objects.specs.Execution.{exec}
@@ -9,7 +10,7 @@ use Rattle.cip_objects.specs.Router.{general_status}
 use Rattle.cip_objects.proofs.OwnRequests.{own_is_refused}
 use Rattle.cip_objects.proofs.Refused.{refused}
 use Rattle.cip_owner.specs.Replies.{Reply}
-use Rattle.cip_owner.specs.Owned.{OwnedState, exec_owned, by_owner, own_executed, is_left, IsDone, is_fit, given}
+use Rattle.cip_owner.specs.Owned.{OwnedState, exec_owned, by_owner, own_executed, is_left, IsDone, IsTaken, is_fit, given}
 use Rattle.cip_owner.specs.Owned.{answered, after_reply, answer_with, refused_with, NOT_PREPARED}
 use Rattle.cip_owner.specs.OwnedLaws.{exec_owned_plain}
 
@@ -73,6 +74,29 @@ by_own_request w max_size text (Some own) after new e same done =
       state = done.0 ∙ (ap (λ v. (own_executed v max_size (slice_index text 0) own).after) is ∙ sym (ap (λ x. x.after) (exec_owned_own w max_size text own e)));
       reply = done.1 ∙ (ap (λ v. (own_executed v max_size (slice_index text 0) own).answer) is ∙ sym (ap (λ x. x.answer) (exec_owned_own w max_size text own e)));
     }
+
+-- A request to the owner that is executed first, or is none.
+pub taken : (w : OwnedState) (max_size : ℕ) (text : List ℕ) (old : List ℕ) (own : Option (Result Asked Refusal)) (did : Bool)
+    (after : OwnedState) (new : List ℕ) → own_request w.objects text ≡ own → did ≡ is_some own
+    → IsDone w max_size text old own after new → IsTaken w max_size text did after new
+taken w max_size text old None did after new e is done =
+    subst (λ b. IsTaken w max_size text b after new) (sym is) done.0
+taken w max_size text old (Some own) did after new e is done =
+    subst (λ b. IsTaken w max_size text b after new) (sym is) (
+      done.0 ∙ sym (ap (λ x. x.after) (exec_owned_own w max_size text own e)),
+      done.1 ∙ sym (ap (λ x. x.answer) (exec_owned_own w max_size text own e)),
+    )
+
+-- The same as what is executed, by what the call returned.
+pub taken_executed : (w : OwnedState) (max_size : ℕ) (text : List ℕ) (did : Bool) (after : OwnedState) (new : List ℕ)
+    → IsTaken w max_size text did after new → did ≡ true → AreExecuted w max_size text after new
+taken_executed w max_size text true after new is e = record { state = is.0; reply = is.1 }
+taken_executed w max_size text false after new is e = absurd (cc)
+
+pub not_taken : (w : OwnedState) (max_size : ℕ) (text : List ℕ) (did : Bool) (after : OwnedState) (new : List ℕ)
+    → IsTaken w max_size text did after new → did ≡ false → after ≡ w
+not_taken w max_size text true after new is e = absurd (cc)
+not_taken w max_size text false after new is e = is
 
 -- A request that may be to the owner.
 pub executed_own : (w : OwnedState) (max_size : ℕ) (text : List ℕ) (after : OwnedState) (new : List ℕ)

@@ -1,5 +1,5 @@
 -- The objects, with a reply that the owner of the device prepared: what becomes of a request.
-use Rattle.std.specs.Prelude.{◌≡◌, ℕ, ◌+◌, ◌==◌, ◌&&◌, ◌||◌, Bool, not, nat_lt, nat_le, if◌then◌else◌, List, [], length, slice_index}
+use Rattle.std.specs.Prelude.{◌≡◌, ℕ, ◌+◌, ◌==◌, ◌&&◌, ◌||◌, Bool, true, false, not, nat_lt, nat_le, if◌then◌else◌, List, [], length, slice_index}
 use Rattle.std.specs.Prelude.{Option, Some, None, Result, Ok, Err}
 use Rattle.cip_bytes.specs.Protocol.{general_status_number}
 use Rattle.cip_message.specs.Reply.{reply, reply_of_fields, reply_service}
@@ -100,3 +100,9 @@ IsDone w max_size text old None after new = (after ≡ w) × (new ≡ old)
 IsDone w max_size text old (Some own) after new =
     (after ≡ (own_executed w max_size (slice_index text 0) own).after)
     × (new ≡ (own_executed w max_size (slice_index text 0) own).answer)
+
+-- What a call leaves that executes a request to the owner and returns true, or returns false and leaves the state.
+abbrev pub IsTaken : OwnedState → ℕ → List ℕ → Bool → OwnedState → List ℕ → Type 0
+IsTaken w max_size text true after new =
+    (after ≡ (exec_owned w max_size text).after) × (new ≡ (exec_owned w max_size text).answer)
+IsTaken w max_size text false after new = after ≡ w

@@ -1,9 +1,10 @@
 //! The objects, with a reply that the owner of the device prepared.
-ghost use Rattle.std.specs.Prelude.{◌≡◌, ◌≤◌, [], length, None, IfSome, MatchOption};
+ghost use Rattle.std.specs.Prelude.{◌≡◌, ◌≤◌, [], length, None, is_some, IfSome, MatchOption};
 ghost use Rattle.std.specs.Option.{option_map};
 ghost use Rattle.cip_objects.specs.OwnRequests.{own_request, asked_in};
 ghost use Rattle.cip_objects.specs.Router.{general_status};
-ghost use Rattle.cip_owner.specs.Owned.{exec_owned, asks, answer_with, given, after_reply, is_left, IsDone};
+ghost use Rattle.cip_owner.specs.Owned.{exec_owned, asks, answer_with, given, after_reply, is_left};
+ghost use Rattle.cip_owner.specs.Owned.{IsDone, IsTaken};
 
 use crate::owner::{OWNER_REPLY_LIMIT, OwnerReply};
 use cip_message::reply_service;
@@ -62,17 +63,30 @@ impl OwnedObjects {
         Some(own)
     }
 
-    /// Executes a request to the owner. For any other, nothing is done, and `reply` stays.
+    /// Executes a request to the owner if a reply is prepared. Returns whether it did; otherwise nothing is done, and
+    /// `reply` stays.
+    #[inline(always)]
+    fn take_prepared(&mut self, request: &[u8], max_size: usize, reply: &mut ReplyBuf) -> bool
+        requires request { 2 ≤ length request.now }
+        requires max_size_from { 8 ≤ max_size }
+        requires max_size_to { max_size ≤ REPLY_LIMIT }
+        ensures taken { IsTaken self.old max_size request.now result self.new reply.new.items }
+    {
+        self.prepared.is_some() && self.execute_own(request, max_size, reply)
+    }
+
+    /// Executes a request to the owner, and returns `true`. For any other, nothing is done, and `reply` stays.
     #[inline(never)]
-    fn execute_own(&mut self, request: &[u8], max_size: usize, reply: &mut ReplyBuf)
+    fn execute_own(&mut self, request: &[u8], max_size: usize, reply: &mut ReplyBuf) -> bool
         requires request { 2 ≤ length request.now }
         requires max_size_from { 8 ≤ max_size }
         requires max_size_to { max_size ≤ REPLY_LIMIT }
         ensures done { IsDone self.old max_size request.now reply.old.items
             (own_request self.old.objects request.now) self.new reply.new.items }
+        ensures own { result ≡ is_some (own_request self.old.objects request.now) }
     {
         match self.objects.own_request(request) {
-            None => {}
+            None => return false,
             Some(Err(refusal)) => answer(request[0], refusal.status().number(), &[], reply),
             Some(Ok(own)) if max_size < HEAD_SIZE + usize::from(own.reply_limit) => {
                 answer(
@@ -84,6 +98,7 @@ impl OwnedObjects {
             }
             Some(Ok(own)) => self.give_prepared(own, request[0], reply),
         }
+        true
     }
 
     /// Gives a request to the owner the reply that is prepared. A set that the owner accepts is stored.
@@ -91,16 +106,20 @@ impl OwnedObjects {
         ensures state { self.new ≡ (given self.old service (asked_in own.entry) self.old.prepared).after }
         ensures reply { reply.new.items ≡ (given self.old service (asked_in own.entry) self.old.prepared).answer }
     {
-        let Some(prepared) = self.prepared.take() else {
+        // The reply is some 500 bytes, and is read where it is.
+        let Some(prepared) = self.prepared.as_ref() else {
             answer(service, NOT_PREPARED, &[], reply);
             return;
         };
         if !prepared.is_fit(own.reply_limit) {
             answer(service, NOT_PREPARED, &[], reply);
+            self.prepared = None;
             return;
         }
-        self.store_accepted(own, prepared.status());
-        answer(service, prepared.status(), prepared.data(), reply);
+        let status = prepared.status();
+        answer(service, status, prepared.data(), reply);
+        self.prepared = None;
+        self.store_accepted(own, status);
     }
 
     /// Stores a set of a checked attribute that the owner accepts, and nothing for another request or status.
@@ -127,9 +146,13 @@ impl Router for OwnedObjects {
 
     /// Leaves the state and the reply of the definition `exec_owned`. Allocates nothing.
     ///
-    /// The objects refuse a request to the owner themselves, so that no other request is read twice.
+    /// The objects refuse a request to the owner themselves, so that no other request is read twice. While a reply is
+    /// prepared, it is the other way round: the request is most likely the one that was asked.
     #[inline(always)]
     fn execute(&mut self, request: &[u8], max_size: usize, reply: &mut ReplyBuf) {
+        if self.take_prepared(request, max_size, reply) {
+            return;
+        }
         self.objects.execute(request, max_size, reply);
         if may_be_to_owner(reply.as_slice()) {
             self.execute_own(request, max_size, reply);

@@ -172,7 +172,7 @@ few-fate (ServedByLedger service (ExecutesCommand command)) request =
 few-fate (ServedByLedger service (Frees originator)) request = Zero
 
 -- Of at most one request.
-abbrev reached_of : Device → List Request → List Request
+abbrev pub reached_of : Device → List Request → List Request
 reached_of device [] = []
 reached_of device (request ∷ requests) = reached objects_after objects_answer device (request ∷ [])
 
@@ -180,10 +180,10 @@ few-reached : (device : Device) (requests : List Request) → AtMostOne (reached
 few-reached device [] = Zero
 few-reached device (request ∷ requests) = few-fate (fate device.ledger request.0 request.1) request
 
-abbrev feed_reached : AdapterState → ℕ → ℕ → List ℕ → List Request
+abbrev pub feed_reached : AdapterState → ℕ → ℕ → List ℕ → List Request
 feed_reached a now peer piece = reached_of a.state.shared.objects (feed_requests a now peer piece)
 
-abbrev asks_of : Contents → List Request → List Asked
+abbrev pub asks_of : Contents → List Request → List Asked
 asks_of m requests = flat_map (λ r. listed (asks m r.0 r.1)) requests
 
 same-asks : (m : Contents) (requests : List Request)

@@ -29,3 +29,4 @@ pub mod AskedLemmas
 pub mod WrittenLemmas
 pub mod SettleLemmas
 pub mod RouteLemmas
+pub mod NothingAskedLemmas

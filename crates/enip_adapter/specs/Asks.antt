@@ -9,8 +9,10 @@ use Rattle.cip_objects.specs.Contents.{Contents}
 use Rattle.cip_objects.specs.OwnRequests.{Asked}
 use Rattle.cip_owner.specs.Owned.{asks}
 use Rattle.cip_owner.specs.Replies.{Reply}
-use Rattle.enip_wire.specs.Stream.{Parsed, held_and_taken, parsed}
+use Rattle.enip_wire.specs.declared.reader.FrameView.{FrameView}
+use Rattle.enip_wire.specs.Stream.{Parsed, held_and_taken, parsed, frame_of}
 use Rattle.enip_wire.specs.Stream.Parsed.{Incomplete, WholeFrame, TooLongHeader}
+use Rattle.enip_adapter.specs.declared.asked_head.AskedHead.{AskedHead}
 use Rattle.enip_adapter.specs.declared.peer.PeerSlot.{PeerSlot}
 use Rattle.enip_adapter.specs.declared.peer.Session.{Session}
 use Rattle.enip_adapter.specs.declared.shared.Shared.{Shared}
@@ -59,6 +61,22 @@ abbrev pub asks_by_parsed : Shared → Session → Parsed → List Asked
 asks_by_parsed shared session Incomplete = []
 asks_by_parsed shared session (WholeFrame f) = asks_by_requests shared.objects (requests_in_frame shared session f)
 asks_by_parsed shared session (TooLongHeader h) = []
+
+-- What is asked by a request whose data were copied.
+abbrev pub asked_with : List ℕ → AskedHead → Asked
+asked_with content head = record {
+  class = head.class;
+  instance = head.instance;
+  service = head.service;
+  attribute = head.attribute;
+  content = content;
+  reply_limit = head.reply_limit;
+}
+
+-- By what is seen of a piece: the session of its peer, and the whole frame that it completes.
+abbrev pub asks_by_seen : Shared → Option (Session × FrameView) → List Asked
+asks_by_seen shared None = []
+asks_by_seen shared (Some seen) = asks_by_requests shared.objects (requests_in_frame shared seen.0 (frame_of seen.1))
 
 -- By a piece for the peer with this session, of which these bytes are held.
 abbrev pub asks_by_piece : Shared → List ℕ → List ℕ → Option Session → List Asked

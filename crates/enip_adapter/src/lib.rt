@@ -44,7 +44,7 @@
 #![tactic(auto)]
 
 mod adapter;
-mod asked_request;
+mod asked_head;
 mod commands;
 mod endings;
 pub mod laws;
@@ -56,7 +56,6 @@ mod serving;
 mod shared;
 
 pub use adapter::{Adapter, Fed, Full, Limits};
-pub use asked_request::AskedRequest;
 pub use commands::DiscoveryBuffer;
 pub use endings::{EndReason, EndedConnection, Endings};
 pub use no_reply_reason::NoReplyReason;

@@ -2,22 +2,22 @@
 //! Text: docs/PROTOCOL.md, "A peer".
 
 ghost use Rattle.std.specs.Prelude.{◌≡◌, ◌<◌, ◌≤◌, length};
+ghost use Rattle.std.specs.Borrow.{sem};
+ghost use Rattle.std.specs.Io.BufRead.{Rests};
 ghost use Rattle.enip_wire.specs.Frames.{IsComplete};
 ghost use Rattle.enip_wire.specs.Stream.{bytes_taken, held_and_taken, parsed, cleared};
-ghost use Rattle.cip_ledger.specs.Reaching.{listed};
 ghost use Rattle.enip_adapter.specs.Adapter.{IsWaiting};
-ghost use Rattle.enip_adapter.specs.Asks.{asks_by_parsed};
+ghost use Rattle.enip_adapter.specs.Asks.{asks_by_parsed, asks_by_seen};
 ghost use Rattle.enip_adapter.specs.Turn.{shared_after, session_after};
 ghost use Rattle.enip_adapter.specs.Commands.{parsed_served};
 ghost use Rattle.enip_adapter.specs.Replies.{written};
 
-use crate::asked_request::AskedRequest;
-use crate::commands::{asked, refuse_long, serve};
+use crate::commands::{refuse_long, serve};
 use crate::no_reply_reason::NoReplyReason;
 use crate::reply::{AnswerFrame, Reaction};
 use crate::shared::Shared;
 use cip_objects::ReplyBuf;
-use enip_wire::{FrameReader, Held};
+use enip_wire::{FrameReader, FrameView, Held};
 use std::marker::Model;
 
 /// A peer that has begun, identified by its session handle.
@@ -71,15 +71,18 @@ pub(crate) struct PeerSlot {
 }
 
 impl PeerSlot {
-    /// What the owner would be asked if these bytes of a piece were fed. Nothing changes.
-    pub(crate) fn asked(&mut self, shared: &Shared, piece: &[u8]) -> Option<AskedRequest>
-        ensures state { self.new ≡ self.old }
-        ensures asked { listed result
-            ≡ asks_by_parsed shared.now self.old.session (parsed (held_and_taken self.old.reader piece.now)) }
+    ghost use Rattle.enip_adapter.specs.contracts.peer.PeerSlot.{the_row};
+
+    /// The session, and the frame that these bytes of a piece complete, if they complete one. Nothing changes. The frame
+    /// is lent from the piece, or from the bytes that are held.
+    pub(crate) fn peek<'a>(&'a mut self, piece: &'a [u8]) -> Option<(Session, FrameView<'a>)>
+        ensures* state { sem 𝓛 (Rests the_row self.entry (λ last. last ≡ self.old)) }
+        ensures seen { (shared : Shared) → asks_by_seen shared result
+            ≡ asks_by_parsed shared self.old.session (parsed (held_and_taken self.old.reader piece.now)) }
     {
         let session = self.session;
         match self.reader.peek(piece) {
-            Held::Frame(frame) => asked(shared, session, frame),
+            Held::Frame(frame) => Some((session, frame)),
             Held::More | Held::TooLong(_) => None,
         }
     }

@@ -1,21 +1,21 @@
 //! The peer slots: those that are taken, and the readers of those that are free. No call adds a slot.
 
 ghost use Rattle.std.specs.Prelude.{ℕ, ◌≡◌, ◌==◌, ◌<◌, ◌≤◌, ◌-◌, length, false, is_some, All, IfOk};
+ghost use Rattle.std.specs.Borrow.{sem};
+ghost use Rattle.std.specs.Io.BufRead.{Rests};
 ghost use Rattle.std.specs.Option.{option_map};
 ghost use Rattle.std.specs.List.{position};
-ghost use Rattle.cip_ledger.specs.Reaching.{listed};
 ghost use Rattle.enip_adapter.specs.Adapter.{session_in, IsWaiting};
-ghost use Rattle.enip_adapter.specs.Asks.{asks_at};
+ghost use Rattle.enip_adapter.specs.Asks.{asks_at, asks_by_seen};
 ghost use Rattle.enip_adapter.specs.Lookup.{first_with, without_first};
 ghost use Rattle.enip_adapter.specs.PeerSlots.{IsFed, piece_at, handle_of, no_slot_taken, with_slot};
 ghost use Rattle.enip_adapter.specs.Serving.{is_open};
 
-use crate::asked_request::AskedRequest;
 use crate::peer::{PeerSlot, Session};
 use crate::reply::{AnswerFrame, Reaction};
 use crate::shared::Shared;
 use cip_objects::ReplyBuf;
-use enip_wire::FrameReader;
+use enip_wire::{FrameReader, FrameView};
 use std::alloc::{AllocError, Global};
 use std::marker::Model;
 
@@ -38,6 +38,8 @@ impl Model for PeerSlots {
 }
 
 impl PeerSlots {
+    ghost use Rattle.enip_adapter.specs.contracts.peer_slots.PeerSlots.{the_row};
+
     /// Makes `limit` slots, all free. It allocates all of their memory here.
     ///
     /// # Errors
@@ -112,18 +114,25 @@ impl PeerSlots {
         }
     }
 
-    /// What the owner would be asked if a piece were fed to the peer with this handle. Nothing changes.
-    pub(crate) fn asked(
-        &mut self,
-        shared: &Shared,
+    /// The session of the peer with this handle, and the frame that a piece would complete if it were fed to it. `None` if
+    /// the piece completes no frame, or if the peer holds no slot or is closed. Nothing changes. The frame is lent from
+    /// the piece, or from the bytes that are held of the peer.
+    pub(crate) fn peek<'a>(
+        &'a mut self,
         handle: u32,
-        piece: &[u8],
-    ) -> Option<AskedRequest>
-        ensures state { self.new ≡ self.old }
-        ensures asked { (next_handle : ℕ) → listed result
-            ≡ asks_at self.old.limit next_handle shared.now self.old.taken handle piece.now }
+        piece: &'a [u8],
+    ) -> Option<(Session, FrameView<'a>)>
+        ensures* state { sem 𝓛 (Rests the_row self.entry (λ last. last ≡ self.old)) }
+        ensures seen { (next_handle : ℕ) (shared : Shared) → asks_by_seen shared result
+            ≡ asks_at self.old.limit next_handle shared self.old.taken handle piece.now }
     {
-        asked_of_taken(shared, &mut self.taken, handle, piece)
+        let Some(index) = index_of(&self.taken, handle) else {
+            return None;
+        };
+        if self.taken[index].session.closed {
+            return None;
+        }
+        self.taken[index].peek(piece)
     }
 
     /// Feeds a piece to the peer with this handle. Returns the number of bytes taken and the reaction to them.
@@ -153,23 +162,6 @@ fn index_of(places: &[PeerSlot], handle: u32) -> Option<usize>
     places
         .iter()
         .position(|place| place.session.handle == handle)
-}
-
-/// What the owner would be asked if a piece were fed to the peer with this handle. Nothing changes.
-fn asked_of_taken(
-    shared: &Shared,
-    places: &mut [PeerSlot],
-    handle: u32,
-    piece: &[u8],
-) -> Option<AskedRequest>
-    ensures state { places.new ≡ places.old }
-    ensures asked { (limit next_handle : ℕ) →
-        listed result ≡ asks_at limit next_handle shared.now places.old handle piece.now }
-{
-    match index_of(places, handle) {
-        Some(index) if !places[index].session.closed => places[index].asked(shared, piece),
-        _ => None,
-    }
 }
 
 /// Feeds a piece to the peer with this handle. Returns the number of bytes taken and the reaction to them.

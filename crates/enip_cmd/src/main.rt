@@ -27,6 +27,7 @@ pub mod report;
 mod request;
 mod retry;
 pub mod serve;
+mod serving;
 pub mod show;
 pub mod socket;
 mod wire;
@@ -39,7 +40,7 @@ use clap::error::ErrorKind;
 use enip_adapter::Adapter;
 use enip_cli::{OsArg, PROGRAM, arguments_after, os_args, program, reserve_streams};
 use enip_client::ListCommand;
-use enip_server::NO_IDLE_TIMEOUT;
+use enip_server::{NO_IDLE_TIMEOUT, Peers};
 use error_keeping::ErrorKeeping;
 use fault::Fault;
 use frame_log::FrameLog;
@@ -54,7 +55,7 @@ use reason::{CLOCK, CommandError, Reason};
 use replay::{draw, replay};
 use report::Reported;
 use request::{Device, Request, run_request};
-use serve::{ServeOptions, Sockets, serve_connections};
+use serve::{Sockets, serve_connections};
 use show::show;
 use std::io;
 use std::net::TcpListener;
@@ -302,21 +303,19 @@ fn run_serve<'a>(
     let address = HostPort::parse(matches.get_str("ADDRESS").unwrap_or(""))?;
     let sockets = bind(rt, address, matches.get_flag("discovery"))?;
     print_listening(rt, &sockets).map_err(|error| CommandError::of_system(ERRORS, error))?;
-    let options = ServeOptions {
-        count,
-        idle_timeout,
-    };
+    let alloc = rt.alloc();
     let served = if matches.get_flag("log") {
         let start = Instant::now(rt).map_err(|error| CommandError::of_system(CLOCK, error))?;
-        let log = FrameLog::new(rt, rt.alloc(), start);
-        serve_connections(rt, rt.alloc(), sockets, adapter, options, &log)
+        let log = FrameLog::new(rt, alloc, start);
+        let peers = Peers::new(alloc, adapter, idle_timeout)?;
+        serve_connections(rt, alloc, sockets, peers, count, &log)
     } else {
-        serve_connections(rt, rt.alloc(), sockets, adapter, options, NoObserver)
+        let peers = Peers::new(alloc, adapter, idle_timeout)?;
+        serve_connections(rt, alloc, sockets, peers, count, NoObserver)
     };
     match served {
         Ok(()) => Ok(0),
-        Err(enip_commands::ProgramFault::Memory) => Err(CommandError::of_memory()),
-        Err(_) => Err(CommandError::of_reason(Reason::Failed(address.text()))),
+        Err(fault) => Err(serve_error(address, fault)),
     }
 }
 

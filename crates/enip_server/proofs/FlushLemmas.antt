@@ -72,7 +72,7 @@ pub out_by : (unsent : Option Turn) (size : ℕ) (before after : List ℕ) → I
 out_by (Some turn) size before after all is = tt
 out_by None size before after all is = is ∙ all_gone None size before refl all
 
-waits_here : (size : ℕ) (before after : List ℕ) → size < length before → after ≡ drop size before → after ≢ []
+pub waits_here : (size : ℕ) (before after : List ℕ) → size < length before → after ≡ drop size before → after ≢ []
 waits_here size before after less is none =
     let gone : length (drop size before) ≡ 0 = ap length (sym is ∙ none) in
     absurd (omega (arith, length-drop size before, gone))

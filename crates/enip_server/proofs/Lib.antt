@@ -1,4 +1,5 @@
 pub mod FlushLemmas
+pub mod ReleaseLemmas
 pub mod FeedLemmas
 pub mod TurnLemmas
 pub mod RoundLemmas
@@ -10,3 +11,4 @@ pub mod HandleLemmas
 pub mod RoundMoves
 pub mod RoundAsks
 pub mod LifeLemmas
+pub mod HeldLemmas

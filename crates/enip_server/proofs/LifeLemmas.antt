@@ -1,9 +1,11 @@
 -- Lists of calls, and one peer that keeps its slot among them.
 use Rattle.std.proofs.Common.{◌≡◌, ◌≢◌, ◌+◌, ℕ, zero, suc, List, [], ◌∷◌, get_or, slice_get, slice_set}
 use Rattle.std.proofs.Common.{Bool, true, false, eqb, Option, Some, None, is_none, Result, Ok, Err, inl, inr, refl, sym, ap}
-use Rattle.std.proofs.Common.{subst, ◌∙◌, arith}
+use Rattle.std.proofs.Common.{subst, ◌∙◌, append-nil, arith}
 use Rattle.std.proofs.lemmas.Bool.{eqb-true, eqb-false}
 use Rattle.std.proofs.lemmas.List.Quantifiers.{position-Some}
+use Rattle.std.proofs.KnownBytes.{Appends-nil, Appends-kept, Consumes-nil}
+use Rattle.std.specs.Io.KnownBytes.{Consumes}
 use Rattle.std.specs.List.{AllByRecursion}
 use Rattle.cip_objects.specs.OwnRequests.{Asked}
 use Rattle.cip_owner.specs.Replies.{Reply}
@@ -19,17 +21,17 @@ use Rattle.enip_server.specs.PeerStates.{peer_state_of}
 use Rattle.enip_server.specs.Transfers.{Transfers, GoesOnWith}
 use Rattle.enip_server.specs.Rounds.{ServerState, new_peers, new_peer_io, first_free, IsAdded, marked_ready_in, marked_ready_at}
 use Rattle.enip_server.specs.Rounds.{written_by, nobody, no_answer, same_nobody}
-use Rattle.enip_server.specs.Runs.{IsStep, IsRun, HoldsSlot, KeepsSlot}
-use Rattle.enip_server.specs.Runs.IsStep.{Adds, MarksReady, Rounds, Rounds_alone, Writes_own}
+use Rattle.enip_server.specs.Runs.{IsStep, IsRun, HoldsSlot, KeepsSlot, IsStill, IsStillAt, AreStill}
+use Rattle.enip_server.specs.Runs.IsStep.{Adds, MarksReady, Rounds, Rounds_alone, Writes_own, Releases}
 use Rattle.enip_server.specs.Runs.IsRun.{Still, Goes_on}
 use Rattle.enip_server.specs.Runs.KeepsSlot.{Begins, Stays_on}
-use Rattle.enip_server.proofs.ApartLemmas.{AreSound, sound_new, sound_come, sound_of, of_woken, are_of_themselves, AreOf}
+use Rattle.enip_server.proofs.ApartLemmas.{AreSound, sound_new, sound_come, sound_of, of_woken, are_of_themselves, IsOf, AreOf}
 use Rattle.enip_server.proofs.HandleLemmas.{next_begun, next_given}
 use Rattle.enip_server.proofs.TransferLemmas.{MovesBy, moves_by_then, moves_by_weaker, moves_not, moves_other}
 use Rattle.enip_server.proofs.RoundMoves.{round_moves, sound_round, other_goes_on}
 
 -- what a list holds at an index after another index was set
-get_set_other : {X : Type 0} → (xs : List X) (i j : ℕ) (x : X) → i ≢ j → slice_get (slice_set xs i x) j ≡ slice_get xs j
+pub get_set_other : {X : Type 0} → (xs : List X) (i j : ℕ) (x : X) → i ≢ j → slice_get (slice_set xs i x) j ≡ slice_get xs j
 get_set_other [] i j x differs = refl
 get_set_other (y ∷ ys) zero zero x differs = absurd (differs refl)
 get_set_other (y ∷ ys) zero (suc j) x differs = refl
@@ -37,7 +39,7 @@ get_set_other (y ∷ ys) (suc i) zero x differs = refl
 get_set_other (y ∷ ys) (suc i) (suc j) x differs = get_set_other ys i j x (λ same. differs (ap suc same))
 
 -- and at that index, if it exists
-get_set_same : {X : Type 0} → (xs : List X) (i : ℕ) (x y : X) → slice_get xs i ≡ Some y
+pub get_set_same : {X : Type 0} → (xs : List X) (i : ℕ) (x y : X) → slice_get xs i ≡ Some y
     → slice_get (slice_set xs i x) i ≡ Some x
 get_set_same [] i x y there = cc
 get_set_same (z ∷ zs) zero x y there = refl
@@ -50,7 +52,7 @@ got (y ∷ ys) (suc i) d x there = got ys i d x there
 
 module _ {W : Type 0} where
   -- the first free slot is not one that holds a peer
-  free_elsewhere : (slots : List (Option (PeerIo W))) (free slot : ℕ) (io : PeerIo W) → first_free slots ≡ Some free
+  pub free_elsewhere : (slots : List (Option (PeerIo W))) (free slot : ℕ) (io : PeerIo W) → first_free slots ≡ Some free
       → slice_get slots slot ≡ Some (Some io) → free ≢ slot
   free_elsewhere slots free slot io is there same =
       let none : is_none (get_or slots free (Some io)) ≡ true
@@ -63,6 +65,42 @@ module _ {W : Type 0} where
   same_line : (slots : List (Option (PeerIo W))) (slot : ℕ) (io after : PeerIo W) → slice_get slots slot ≡ Some (Some io)
       → slice_get slots slot ≡ Some (Some after) → after ≡ io
   same_line slots slot io after there stays = cc
+
+-- ---- a release
+
+module _ {W : Type 0} (left written : W → Option (List ℕ)) where
+  of_still_at : (slot place : Option (PeerIo W)) → IsStillAt left written slot place → IsOf slot place
+  of_still_at None place is = subst (IsOf None) (sym is) tt
+  of_still_at (Some io) None is = absurd is
+  of_still_at (Some io) (Some after) is = ap (λ (l : PeerIo W). l.peer) is.same
+
+  of_still : (slots places : List (Option (PeerIo W))) → AreStill left written slots places → AreOf slots places
+  of_still [] [] is = tt
+  of_still [] (place ∷ places) is = absurd is
+  of_still (slot ∷ slots) [] is = absurd is
+  of_still (slot ∷ slots) (place ∷ places) is = (of_still_at slot place is.0, of_still slots places is.1)
+
+  still_here : (slot place : Option (PeerIo W)) → IsStillAt left written slot place → (io after : PeerIo W)
+      → slot ≡ Some io → place ≡ Some after → IsStill left written io after
+  still_here None place is io after there stays = cc
+  still_here (Some found) None is io after there stays = absurd is
+  still_here (Some found) (Some placed) is io after there stays =
+      let first : found ≡ io = cc in
+      let last : placed ≡ after = cc in
+      subst (λ l. IsStill left written l after) first (subst (λ l. IsStill left written found l) last is)
+
+  still_in : (slots places : List (Option (PeerIo W))) → AreStill left written slots places → (slot : ℕ)
+      (io after : PeerIo W) → slice_get slots slot ≡ Some (Some io) → slice_get places slot ≡ Some (Some after)
+      → IsStill left written io after
+  still_in [] [] is slot io after there stays = cc
+  still_in [] (place ∷ places) is slot io after there stays = absurd is
+  still_in (first ∷ slots) [] is slot io after there stays = absurd is
+  still_in (first ∷ slots) (place ∷ places) is zero io after there stays =
+      let old : first ≡ Some io = cc in
+      let new : place ≡ Some after = cc in
+      still_here first place is.0 io after old new
+  still_in (first ∷ slots) (place ∷ places) is (suc slot) io after there stays =
+      still_in slots places is.1 slot io after there stays
 
 module _ {W O : Type 0} (left written : W → Option (List ℕ)) (known : W → Option KnownCalls) (counts : W → WireCounts)
     (answer : O → Asked → Option Reply) (next : O → Asked → O) where
@@ -93,6 +131,9 @@ module _ {W O : Type 0} (left written : W → Option (List ℕ)) (known : W → 
       sound_round left written known counts no_answer same_nobody now nobody old nobody new is sound
   sound_step old new (Writes_own write is) sound =
       sound_of old new sound (subst (AreOf old.slots) (sym (ap (λ p. p.slots) is)) (are_of_themselves old.slots))
+      (omega (arith, ap (λ p. p.adapter.state.next_handle) is))
+  sound_step old new (Releases still is) sound =
+      sound_of old new sound (of_still left written old.slots new.slots still)
       (omega (arith, ap (λ p. p.adapter.state.next_handle) is))
 
   sound_run : (old new : ServerState W) → IsRun left written known counts answer next old new → AreSound old → AreSound new
@@ -192,6 +233,28 @@ module _ {W O : Type 0} (left written : W → Option (List ℕ)) (known : W → 
       let is_old : found ≡ io = cc in
       ap (peer_state_of left written known counts a) is_new ∙ ap (peer_state_of left written known counts a) is_old
 
+  -- a release calls nothing, and nothing is written to the wire that holds it back
+  still_moves : (io after : PeerIo W) (a b : AdapterState) → b ≡ a → IsStill left written io after
+      → MovesBy io.peer (GoesOnWith io.peer) (peer_state_of left written known counts a io)
+      (peer_state_of left written known counts b after)
+  still_moves io after a b same is = record {
+    calls = [];
+    received = [];
+    gone = [];
+    each = tt;
+    moves = record {
+      adapter = same;
+      read = subst (λ l. Consumes (left io.wire) l []) (sym is.unread) (Consumes-nil (left io.wire));
+      written = Appends-kept (written io.wire) (written io.wire) (written after.wire) [] (Appends-nil (written io.wire))
+          is.kept;
+      sent = append-nil io.outbox ∙ sym (ap (λ (l : PeerIo W). l.outbox) is.same);
+      rest = io.inbox;
+      taken = append-nil io.inbox;
+      waits = λ _. sym (ap (λ (l : PeerIo W). l.inbox) is.same);
+      closed = λ shut. (λ none. shut (sym (ap (λ (l : PeerIo W). l.closed) is.same) ∙ none), refl);
+    };
+  }
+
   step_moves : (old new : ServerState W) → AreSound old → IsStep left written known counts answer next old new → (slot : ℕ) (io after : PeerIo W)
       → slice_get old.slots slot ≡ Some (Some io) → slice_get new.slots slot ≡ Some (Some after)
       → MovesBy io.peer (GoesOnWith io.peer) (peer_state_of left written known counts old.adapter io)
@@ -210,6 +273,9 @@ module _ {W O : Type 0} (left written : W → Option (List ℕ)) (known : W → 
       stays
   step_moves old new sound (Writes_own write is) slot io after there stays =
       kept_moves old.adapter io new.adapter after (kept_written old new write is slot io after there stays)
+  step_moves old new sound (Releases still is) slot io after there stays =
+      still_moves io after old.adapter new.adapter (ap (λ p. p.adapter) is)
+      (still_in left written old.slots new.slots still slot io after there stays)
 
   -- ---- a peer that keeps its slot
 

@@ -70,7 +70,7 @@ thrown_moves peer P old new shut t = record {
   };
 }
 
-not_out : (n : ℕ) (ns : List ℕ) → (n ∷ ns) ≢ []
+pub not_out : (n : ℕ) (ns : List ℕ) → (n ∷ ns) ≢ []
 not_out n ns is = cc
 
 module _ {O : Type 0} (answer : O → Asked → Option Reply) (after : O → Asked → O) (now peer : ℕ) where

@@ -2,5 +2,6 @@
 pub mod PeerStates
 pub mod Transfers
 pub mod Rounds
+pub mod Held
 pub mod Runs
 pub mod Wires

@@ -1,5 +1,6 @@
 -- Lists of calls of `Peers`, and one peer that keeps its slot among them.
-use Rattle.std.specs.Prelude.{ℕ, ◌≡◌, Bool, List, Option, Some, Result, slice_get}
+use Rattle.std.specs.Prelude.{ℕ, ◌≡◌, ⊤, Bool, List, [], ◌∷◌, Option, Some, None, Result, slice_get}
+use Rattle.std.specs.Io.KnownBytes.{Keeps}
 use Rattle.cip_objects.specs.OwnRequests.{Asked}
 use Rattle.cip_owner.specs.Replies.{Reply}
 use Rattle.enip_adapter.specs.declared.adapter.Full.{Full}
@@ -10,8 +11,30 @@ use Rattle.enip_server.specs.Wires.{KnownCalls}
 use Rattle.enip_server.specs.Rounds.{ServerState, IsRound, IsAdded, marked_ready, written_by}
 use Rattle.enip_server.specs.Rounds.{nobody, no_answer, same_nobody}
 
+-- A peer whose wire was released: nothing is read, what was written to the wire stays written, and nothing else changes
+-- but whether the wire may be ready.
+pub record IsStill {W : Type 0} (left written : W → Option (List ℕ)) (io after : PeerIo W) : Type 0 where
+  pub unread : left after.wire ≡ left io.wire
+  pub kept : Keeps (written io.wire) (written after.wire)
+  pub same : after ≡ record io { wire = after.wire; ready = after.ready }
+
+abbrev pub IsStillAt : {W : Type 0} → (W → Option (List ℕ)) → (W → Option (List ℕ)) → Option (PeerIo W) → Option (PeerIo W)
+    → Type 0
+IsStillAt left written None slot = slot ≡ None
+IsStillAt left written (Some io) None = ⊥
+IsStillAt left written (Some io) (Some after) = IsStill left written io after
+
+abbrev pub AreStill : {W : Type 0} → (W → Option (List ℕ)) → (W → Option (List ℕ)) → List (Option (PeerIo W))
+    → List (Option (PeerIo W)) → Type 0
+AreStill left written [] [] = ⊤
+AreStill left written [] (slot ∷ places) = ⊥
+AreStill left written (io ∷ slots) [] = ⊥
+AreStill left written (io ∷ slots) (slot ∷ places) =
+    IsStillAt left written io slot × AreStill left written slots places
+
 -- One call: a peer is added, or refused; a wire may be ready, or at the end of its stream; a round that asks the owner of
--- the device, in any state, or one that asks nobody; or the device's own write.
+-- the device, in any state, or one that asks nobody; the device's own write; or a release of all wires, if they hold
+-- back what is written to them.
 pub data IsStep {W O : Type 0} (left written : W → Option (List ℕ)) (known : W → Option KnownCalls)
     (counts : W → WireCounts) (answer : O → Asked → Option Reply) (next : O → Asked → O)
     : ServerState W → ServerState W → Type 0 where
@@ -27,6 +50,9 @@ pub data IsStep {W O : Type 0} (left written : W → Option (List ℕ)) (known :
       → IsRound left written known counts no_answer same_nobody now nobody old nobody new
       → IsStep left written known counts answer next old new
   Writes_own : {old new : ServerState W} (write : OwnWrite) → new ≡ written_by write old
+      → IsStep left written known counts answer next old new
+  Releases : {old new : ServerState W} → AreStill left written old.slots new.slots
+      → new ≡ record old { slots = new.slots }
       → IsStep left written known counts answer next old new
 
 -- Calls, one after the other.

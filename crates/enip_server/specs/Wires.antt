@@ -7,10 +7,12 @@ use Rattle.enip_server.specs.declared.wire.ReadOutcome.{ReadOutcome}
 use Rattle.enip_server.specs.declared.wire.ReadOutcome.TheVariants.{Bytes, Drained, WouldBlock, End, Failed}
 
 -- What a wire knows of its calls: the size of the slice that its last read was given, and whether its writing side was
--- shut down.
+-- shut down. A wire that holds back what is written to it also knows the bytes that it released, which no call of a wire
+-- changes.
 pub record KnownCalls : Type 0 where
   pub asked : ℕ
   pub is_shut : Bool
+  pub released : Option (List ℕ)
 
 -- After a read into a slice of this size, and after the writing side was shut down.
 abbrev pub with_asked : ℕ → KnownCalls → KnownCalls

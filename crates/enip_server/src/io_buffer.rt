@@ -1,6 +1,6 @@
 //! A buffer for the input or the output of a peer.
 
-ghost use Rattle.std.specs.Prelude.{◌≡◌, ◌≤◌, ◌==◌, [], length, take, drop};
+ghost use Rattle.std.specs.Prelude.{◌≡◌, ◌≤◌, ◌-◌, ◌==◌, ◌++◌, [], length, take, drop, min};
 ghost use Rattle.std.specs.Io.KnownBytes.{Consumes};
 ghost use Rattle.std.specs.Option.{option_map};
 ghost use Rattle.enip_server.specs.Wires.{AreReadBy, after_read, with_asked};
@@ -81,6 +81,20 @@ impl IoBuffer {
         self.end = text.len();
     }
 
+    /// Appends a front of these bytes: as many as the buffer has capacity left for. Returns how many.
+    pub(crate) fn append(&mut self, bytes: &[u8]) -> usize
+        ensures size { result ≡ min (length bytes.now) (IO_BUFFER_SIZE - length self.old) }
+        ensures appended { self.new ≡ self.old ++ take result bytes.now }
+    {
+        let held = self.end - self.start;
+        move_to_front(&mut self.block, self.start, self.end);
+        let size = bytes.len().min(IO_BUFFER_SIZE - held);
+        self.block[held..held + size].copy_from_slice(&bytes[..size]);
+        self.start = 0;
+        self.end = held + size;
+        size
+    }
+
     /// Replaces the content with what one read of a wire gives. The read is given the whole buffer to fill.
     pub(crate) fn fill<W: Wire>(&mut self, wire: &mut W) -> ReadOutcome
         ensures read { Consumes (W.left wire.old) (W.left wire.new) self.new }
@@ -97,5 +111,16 @@ impl IoBuffer {
             ReadOutcome::WouldBlock | ReadOutcome::End | ReadOutcome::Failed => 0,
         };
         received
+    }
+}
+
+/// Moves the bytes from `start` to `end` to the front of a block.
+fn move_to_front(block: &mut [u8], start: usize, end: usize)
+    requires order { start ≤ end }
+    requires within { end ≤ length block.old }
+    ensures { take (end - start) block.new ≡ drop start (take end block.old) }
+{
+    if start > 0 {
+        block.copy_within(start..end, 0);
     }
 }

@@ -1,16 +1,19 @@
 //! Laws that hold for every list of calls of `Peers`. Each law is the contract of a function that does nothing. It is
 //! stated over the same definitions as the contracts of the calls.
 
-ghost use Rattle.std.specs.Prelude.{ℕ, ◌≡◌, List, Option};
+ghost use Rattle.std.specs.Prelude.{ℕ, ◌≡◌, List, Option, Some, slice_get};
 ghost use Rattle.std.specs.List.{AllByRecursion};
 ghost use Rattle.enip_adapter.specs.Asks.{asks_of_calls, owner_after};
 ghost use Rattle.enip_adapter.specs.Calls.{AdapterState, Call};
+ghost use Rattle.enip_server.specs.declared.held_wire.HeldWire.{HeldWire};
 ghost use Rattle.enip_server.specs.declared.peer_io.PeerIo.{PeerIo};
 ghost use Rattle.enip_server.specs.PeerStates.{PeerState, IsTurn, peer_state_of};
 ghost use Rattle.enip_server.specs.Transfers.{Transfers, IsTurnCall, GoesOnWith, AreAsked};
 ghost use Rattle.enip_server.specs.Rounds.{ServerState, IsRound, new_peers};
-ghost use Rattle.enip_server.specs.Runs.{IsRun, KeepsSlot};
+ghost use Rattle.enip_server.specs.Held.{AreReleased};
+ghost use Rattle.enip_server.specs.Runs.{IsRun, IsStep, KeepsSlot};
 
+use crate::held_wire::HeldWire;
 use crate::wire::Wire;
 use cip_owner::Owner;
 
@@ -44,4 +47,23 @@ pub fn peers_are_served_apart<W: Wire, O: Owner>()
         (calls : List Call) × (received : List ℕ) × (gone : List ℕ) × AllByRecursion (GoesOnWith peer) calls
         × Transfers peer calls received gone (peer_state_of W.left W.written W.known W.counts first.adapter io)
         (peer_state_of W.left W.written W.known W.counts last.adapter after) }
+{}
+
+/// A round sends nothing if the wires hold back what is written to them: of each peer that stays, the bytes that were
+/// written to the wire inside are the same before and after the round, whatever the peers send and the owner answers.
+pub fn nothing_leaves_in_a_round<W: Wire, O: Owner>()
+    ensures { (now slot : ℕ) (first last : O) (old new : ServerState (HeldWire W)) (io after : PeerIo (HeldWire W)) →
+        IsRound ⟦<HeldWire<W> as Wire>⟧.left ⟦<HeldWire<W> as Wire>⟧.written ⟦<HeldWire<W> as Wire>⟧.known
+        ⟦<HeldWire<W> as Wire>⟧.counts O.answer O.after now first old last new →
+        slice_get old.slots slot ≡ Some (Some io) → slice_get new.slots slot ≡ Some (Some after) →
+        W.written after.wire.wire ≡ W.written io.wire.wire }
+{}
+
+/// A release is one of the calls of which `peers_are_served_apart` speaks: no byte is lost, doubled or mixed up by it.
+/// What was written to a wire that holds it back, in a round, is what was written to the wire inside, at releases,
+/// followed by what is held.
+pub fn releases_lose_nothing<W: Wire, O: Owner>()
+    ensures { (old new : ServerState (HeldWire W)) → AreReleased W.left W.written W.known W.counts old new →
+        IsStep ⟦<HeldWire<W> as Wire>⟧.left ⟦<HeldWire<W> as Wire>⟧.written ⟦<HeldWire<W> as Wire>⟧.known
+        ⟦<HeldWire<W> as Wire>⟧.counts O.answer O.after old new }
 {}

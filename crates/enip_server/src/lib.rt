@@ -11,6 +11,7 @@
 //!   the next frame is fed.
 //! - `round_asking` does the same, and asks the owner of the device (`cip_owner::Owner`) about each request to it: its
 //!   reply is the answer to that frame. In `round` such a request is answered "device state conflict" (0x10).
+//! - `release` lets the answers of a round leave, if each wire is a `HeldWire`, which holds back what is written to it.
 //! - Between rounds, `adapter` reads the objects and connections, and `write_data`, `write_attribute`,
 //!   `set_device_status` and `set_device_state` write on behalf of the device itself.
 //!
@@ -68,8 +69,25 @@
 //!     peers.round_asking(now, machine)
 //! }
 //! ```
+//!
+//! A server that stores what a round changed before its answers leave has a `HeldWire` around each wire:
+//!
+//! ```
+//! fn serve_stored<W: Wire + Drop>(
+//!     peers: &mut Peers<HeldWire<W>>,
+//!     now: u64,
+//!     store: &mut Store,
+//! ) -> Result<RoundEnd, StoreError> {
+//!     let end = peers.round(now);
+//!     // if this fails, drop the peers: the answers of this round then never leave
+//!     store.save(peers.adapter())?;
+//!     let ready = peers.release();
+//!     Ok(RoundEnd { ready, ..end })
+//! }
+//! ```
 #![tactic(auto)]
 
+mod held_wire;
 mod io_buffer;
 pub mod laws;
 mod peer_io;
@@ -77,6 +95,7 @@ mod peers;
 mod wire;
 mod wire_counts;
 
+pub use held_wire::HeldWire;
 pub use io_buffer::IO_BUFFER_SIZE;
 pub use peer_io::LINGER;
 pub use peers::{NO_IDLE_TIMEOUT, Peers, RoundEnd};

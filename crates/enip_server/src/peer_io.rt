@@ -306,7 +306,7 @@ fn closed_at(now: u64, close: bool) -> Option<u64>
 }
 
 /// Writes these bytes. Returns how many the wire took, and why it did not take all. `None` if it did.
-fn write_front<W: Wire>(wire: &mut W, bytes: &[u8]) -> (usize, Option<Turn>)
+pub(crate) fn write_front<W: Wire>(wire: &mut W, bytes: &[u8]) -> (usize, Option<Turn>)
     ensures within { result.0 ≤ length bytes.now }
     ensures all { IfNone result.1 (result.0 ≡ length bytes.now) }
     ensures some { IfSome result.1 (λ turn. (result.0 < length bytes.now) × IsWaiting turn) }

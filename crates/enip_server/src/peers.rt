@@ -11,7 +11,9 @@ ghost use Rattle.enip_server.specs.Rounds.{IsSlotServed, AreSlotsServed, IsRound
 ghost use Rattle.enip_server.specs.Rounds.{state_of, new_peers, first_free, IsAdded, marked_ready, is_ready, earliest_of, next_moment};
 ghost use Rattle.enip_server.specs.Rounds.{due_with, due_by, moment_or_none, written_by};
 ghost use Rattle.enip_server.specs.Rounds.{nobody, no_answer, same_nobody};
+ghost use Rattle.enip_server.specs.Held.{IsSlotReleased, AreSlotsReleased, AreReleased};
 
+use crate::held_wire::HeldWire;
 use crate::peer_io::{PeerIo, Turn};
 use crate::wire::Wire;
 use cip_owner::{NoOwner, Owner};
@@ -265,6 +267,54 @@ impl<W: Wire + Drop> Peers<W> {
             }
         }
         earliest
+    }
+}
+
+impl<W: Wire + Drop> Peers<HeldWire<W>> {
+    /// Releases the wires of all peers, after a round: what each holds is written to the wire inside, as far as that
+    /// takes it. The rest stays held, and goes first at the next release. A peer that can go on now has a turn in the
+    /// next round. No peer is ended, and the adapter and the idle timeout do not change.
+    ///
+    /// Returns whether a wire may be ready now, in place of `RoundEnd::ready` of the round before. If the wire inside
+    /// takes no more, its peer waits: once the system reports the wire as writable, call `mark_ready`, `round` and
+    /// `release`.
+    ///
+    /// ```
+    /// let end = peers.round(now);
+    /// let ready = peers.release();
+    /// let end = RoundEnd { ready, ..end };
+    /// ```
+    pub fn release(&mut self) -> bool
+        ensures released { AreReleased W.left W.written W.known W.counts (state_of self.old) (state_of self.new) }
+        ensures ready { result ≡ list_any is_ready (state_of self.new).slots }
+    {
+        release_slots(&mut self.slots)
+    }
+}
+
+/// Releases the wires in these slots. Returns whether one of the peers may have a turn now.
+fn release_slots<W: Wire + Drop>(slots: &mut [Option<PeerIo<HeldWire<W>>>]) -> bool
+    ensures released { AreSlotsReleased W.left W.written W.known W.counts slots.old slots.new }
+    ensures ready { result ≡ list_any is_ready slots.new }
+{
+    let Some((slot, others)) = slots.split_first_mut() else {
+        return false;
+    };
+    let ready = release_slot(slot);
+    release_slots(others) || ready
+}
+
+/// Releases the wire in a slot. Returns whether its peer may have a turn now.
+fn release_slot<W: Wire + Drop>(slot: &mut Option<PeerIo<HeldWire<W>>>) -> bool
+    ensures released { IsSlotReleased W.left W.written W.known W.counts slot.old slot.new }
+    ensures ready { result ≡ is_ready slot.new }
+{
+    match slot {
+        Some(io) => {
+            io.release();
+            io.ready
+        }
+        None => false,
     }
 }
 

@@ -30,8 +30,8 @@ pub trait Wire {
     // The bytes that were written, if the wire knows them.
     ghost written: { Self → Option (List ℕ) };
 
-    // What the wire knows of its calls, if it does: how much its last read was given to fill, and whether its writing
-    // side was shut down.
+    // What the wire knows of its calls, if it does: how much its last read was given to fill, whether its writing side
+    // was shut down, and the bytes that it released, if it holds back what is written to it.
     ghost known: { Self → Option KnownCalls };
 
     // How the calls went.

@@ -16,7 +16,11 @@ mod client;
 #[cfg(test)]
 mod commands;
 #[cfg(test)]
+mod keep;
+#[cfg(test)]
 mod server;
+#[cfg(test)]
+mod states;
 #[cfg(test)]
 mod texts;
 #[cfg(test)]

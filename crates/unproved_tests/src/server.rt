@@ -1,6 +1,8 @@
 //! Tests of `enip_server`: several peers at once, over scripted wires.
 
 mod caller;
+mod held;
+mod kept;
 mod owner;
 mod turns;
 mod wires;

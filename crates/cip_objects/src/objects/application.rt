@@ -105,9 +105,15 @@ impl Objects {
         Ok(())
     }
 
-    /// Whether there is an application object.
+    /// Whether the configuration gives the device application objects. A device without one asks its owner nothing.
+    ///
+    /// ```
+    /// if !objects.has_application_objects() {
+    ///     return None; // no request is to the owner
+    /// }
+    /// ```
     #[inline(always)]
-    pub(crate) fn has_application_objects(&self) -> bool
+    pub fn has_application_objects(&self) -> bool
         ensures { result ≡ not (length self.now.shapes.objects == 0) }
     {
         self.application.count() != 0

@@ -4,15 +4,18 @@
 ghost use Rattle.std.specs.Prelude.{◌≡◌, ◌<◌, ◌≤◌, length, false, IfSome, is_some, is_none};
 ghost use Rattle.std.specs.Borrow.{sem};
 ghost use Rattle.std.specs.Io.BufRead.{Rests};
+ghost use Rattle.std.specs.Option.{option_map};
 ghost use Rattle.cip_ledger.specs.Reaching.{listed};
+ghost use Rattle.cip_objects.specs.OwnRequests.{asked_in};
 ghost use Rattle.enip_adapter.specs.Adapter.{feed_output};
 
 use super::lend;
 use crate::adapter::{Adapter, Fed};
-use crate::asked_request::AskedRequest;
+use crate::asked_head::{copy_asked, lend_asked};
+use crate::commands::asked;
 use crate::peer::Peer;
 use crate::reply::LONGEST_ANSWER;
-use cip_owner::{Owner, OwnerReply};
+use cip_owner::{OwnRequest, Owner, OwnerReply};
 
 impl Adapter {
     ghost use Rattle.enip_adapter.specs.Asks.{asks_of_call, prepared_feed, with_reply};
@@ -23,26 +26,34 @@ impl Adapter {
 
     /// What the owner of the device would be asked if these bytes were fed now: the own request of the frame that they
     /// complete, if it would reach the objects. `None` if nothing would be asked. Takes the time into account as `tick`
-    /// does; nothing else changes.
+    /// does; nothing else changes. The data of the request are lent from a buffer of the adapter.
     ///
     /// A repeat of a request on a connection asks nothing, and neither does a command that the ledger has executed.
     ///
     /// ```
     /// let fed = match adapter.asked(now, &peer, piece) {
     ///     Some(request) => {
-    ///         let reply = conveyor.answer(&request.lent());
+    ///         let reply = conveyor.answer(&request);
     ///         adapter.feed_prepared(now, &peer, piece, reply)
     ///     }
     ///     None => adapter.feed(now, &peer, piece),
     /// };
     /// ```
-    pub fn asked(&mut self, now: u64, peer: &Peer, piece: &[u8]) -> Option<AskedRequest>
-        ensures state { self.new ≡ after_call self.old (Call.Ticks now) }
-        ensures asked { listed result ≡ asks_of_call self.old (Call.Feeds now peer.now piece.now) }
-        ensures ticked { listed result ≡ asks_of_call self.new (Call.Feeds now peer.now piece.now) }
+    pub fn asked(&mut self, now: u64, peer: &Peer, piece: &[u8]) -> Option<OwnRequest<'_>>
+        ensures* state { sem 𝓛 (Rests the_row self.entry (λ last. last ≡ after_call self.old (Call.Ticks now))) }
+        ensures asked { listed (option_map asked_in result)
+            ≡ asks_of_call self.old (Call.Feeds now peer.now piece.now) }
+        ensures ticked { listed (option_map asked_in result)
+            ≡ asks_of_call (after_call self.old (Call.Ticks now)) (Call.Feeds now peer.now piece.now) }
     {
         self.shared.advance(now);
-        self.places.asked(&self.shared, peer.handle, piece)
+        // Most devices have no application objects. Then nothing is asked, and no byte is looked at.
+        if !self.shared.objects.router.objects.has_application_objects() {
+            return None;
+        }
+        let seen = self.places.peek(peer.handle, piece);
+        let head = copy_asked(asked(&self.shared, seen), &mut self.reply);
+        lend_asked(head, &self.reply)
     }
 
     /// Feeds bytes as `feed` does, with the owner's reply to the request that they ask. `None` is answered 0x10, as a
@@ -113,7 +124,7 @@ impl Adapter {
     {
         match self.asked(now, peer, piece) {
             Some(request) => {
-                let reply = owner.answer(&request.lent());
+                let reply = owner.answer(&request);
                 self.feed_prepared(now, peer, piece, reply)
             }
             None => self.feed(now, peer, piece),

@@ -1,40 +1,50 @@
 //! What the owner of the device would be asked by a frame.
 //! Text: docs/PROTOCOL.md, "A peer".
 
-ghost use Rattle.std.specs.Prelude.{◌≡◌, ◌≤◌, [], ◌∷◌, find, length};
+ghost use Rattle.std.specs.Prelude.{◌≡◌, ◌≤◌, [], ◌∷◌, find, length, IfSome};
 ghost use Rattle.std.specs.Option.{option_map};
 ghost use Rattle.cip_ledger.specs.Reaching.{listed};
 ghost use Rattle.cip_manager.specs.Connection.{is_named};
+ghost use Rattle.cip_objects.specs.OwnRequests.{asked_in};
 ghost use Rattle.enip_wire.specs.Bodies.{rr_body_of, unit_body_of};
 ghost use Rattle.enip_wire.specs.Stream.{frame_of};
-ghost use Rattle.enip_adapter.specs.Asks.{request_lent, asks_by_requests};
+ghost use Rattle.enip_adapter.specs.Asks.{request_lent, asks_by_requests, asks_by_seen};
 ghost use Rattle.enip_adapter.specs.DeviceRuns as runs;
 ghost use Rattle.enip_adapter.specs.SendRRData.{route_of};
 
 use super::requests::Route;
-use crate::asked_request::AskedRequest;
 use crate::peer::Session;
 use crate::shared::Shared;
 use cip_bytes::protocol::{Command, SEQUENCE_COUNT_SIZE, UNCONNECTED_LIMIT};
+use cip_owner::OwnRequest;
 use enip_wire::{FrameView, rr_body, unit_body};
 
-/// What the owner would be asked if a whole frame were served. `None` if the frame has no request to the owner, or
-/// none that would be executed now.
-pub(crate) fn asked(shared: &Shared, session: Session, frame: FrameView<'_>) -> Option<AskedRequest>
-    ensures { listed result
-        ≡ asks_by_requests shared.now.objects (runs.requests_in_frame shared.now session (frame_of frame.entry)) }
+/// What the owner would be asked if a peer's whole frame were served, by the peer's session and the frame. `None` if
+/// there is no frame, or if it has no request to the owner, or none that would be executed now.
+pub(crate) fn asked<'a>(
+    shared: &Shared,
+    seen: Option<(Session, FrameView<'a>)>,
+) -> Option<OwnRequest<'a>>
+    ensures asked { listed (option_map asked_in result) ≡ asks_by_seen shared.now seen.entry }
+    ensures short { IfSome result (λ own. length own.data.now ≤ 500) }
 {
+    let (session, frame) = seen?;
     let (request, max_size) = request_in_frame(shared, session, frame)?;
     asked_by_request(shared, request, max_size)
 }
 
 /// What the owner would be asked by a request to the device, whose reply may have `max_size` bytes.
-fn asked_by_request(shared: &Shared, request: &[u8], max_size: usize) -> Option<AskedRequest>
-    ensures { listed result ≡ asks_by_requests shared.now.objects ((max_size, request.now) ∷ []) }
+fn asked_by_request<'a>(
+    shared: &Shared,
+    request: &'a [u8],
+    max_size: usize,
+) -> Option<OwnRequest<'a>>
+    ensures asked { listed (option_map asked_in result)
+        ≡ asks_by_requests shared.now.objects ((max_size, request.now) ∷ []) }
+    ensures short { IfSome result (λ own. length own.data.now ≤ 500) }
 {
     let (reaching, limit) = shared.objects.reaching(request, max_size)?;
-    let own = shared.objects.router.asks(reaching, limit)?;
-    Some(AskedRequest::of(own))
+    shared.objects.router.asks(reaching, limit)
 }
 
 /// The request that would reach the device if a whole frame were served, and the limit on its reply.

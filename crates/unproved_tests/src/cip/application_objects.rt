@@ -77,7 +77,7 @@ fn conveyor(alloc: Global, class: u16) -> Result<ObjectConfig, Fail> {
 }
 
 /// The objects of the demo configuration and a conveyor of class 768.
-fn objects(alloc: Global) -> Result<Objects, Fail> {
+pub(super) fn objects_with_conveyor(alloc: Global) -> Result<Objects, Fail> {
     let mut config = config(alloc)?;
     config.objects.push(conveyor(alloc, 768)?)?;
     Ok(Objects::new(alloc, &config)?)
@@ -92,7 +92,7 @@ fn check(rt: &impl Abort, objects: &mut Objects, request: &[u8], wanted: &[u8]) 
 
 #[test]
 fn read_and_set(rt: HostRuntime) -> Result<(), Fail> {
-    let mut objects = objects(rt.alloc())?;
+    let mut objects = objects_with_conveyor(rt.alloc())?;
     check(
         &rt,
         &mut objects,
@@ -119,7 +119,7 @@ fn read_and_set(rt: HostRuntime) -> Result<(), Fail> {
 
 #[test]
 fn written_by_the_device(rt: HostRuntime) -> Result<(), Fail> {
-    let mut objects = objects(rt.alloc())?;
+    let mut objects = objects_with_conveyor(rt.alloc())?;
     assert!(rt; objects.write_attribute(768, 2, 3, 1, b"\xff"));
     assert!(rt; objects.write_attribute(768, 2, 1, 0, b"\x01c"));
     assert!(rt; !objects.write_attribute(768, 2, 3, 1, b"\xff\xff"));

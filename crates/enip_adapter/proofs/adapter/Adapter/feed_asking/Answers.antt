@@ -1,4 +1,5 @@
 use Rattle.std.proofs.Common.{refl, sym, ap, ◌∙◌}
+use Rattle.std.specs.Option.{option_map}
 use Rattle.cip_ledger.specs.Reaching.{listed}
 use Rattle.cip_objects.specs.OwnRequests.{asked_in}
 use Rattle.enip_adapter.specs.Adapter.{feed_output}
@@ -7,11 +8,11 @@ use Rattle.enip_adapter.proofs.adapter.Adapter.feed_asking.Goals as goal
 
 pub returns-in-Some : goal.returns-in-Some
 returns-in-Some g c =
-    let fed = owner_asked g.O.Owner.answer g.O.Owner.after c.args.self.now c.asked.new.self c.feed_prepared.follows.lender-at-none
+    let fed = owner_asked g.O.Owner.answer g.O.Owner.after c.args.self.now c.asked.follows.lender-at-none c.feed_prepared.follows.lender-at-none
     c.args.owner.now c.answer-reply.new.self c.args.now c.args.peer.now c.args.piece.now c.feed_prepared.result.taken
     (feed_output c.feed_prepared.result.answer c.feed_prepared.result.no_reply_reason) c.feed_prepared.result.close
-    c.in-Some.request (asked_in c.lent.result) c.answer-reply.result
-    (ap listed (sym c.in-Some.is) ∙ c.asked.ensures.asked) c.asked.ensures.state c.lent.ensures c.answer-reply.ensures.answer
+    (asked_in c.in-Some.request) (asked_in c.in-Some.request) c.answer-reply.result
+    (ap (λ o. listed (option_map asked_in o)) (sym c.in-Some.is) ∙ c.asked.ensures.asked) c.asked.follows.holds-at-none refl c.answer-reply.ensures.answer
     c.answer-reply.ensures.after c.feed_prepared.follows.holds-at-none c.feed_prepared.ensures.taken
     c.feed_prepared.ensures.answer c.feed_prepared.ensures.close in (
       (refl, (λ _. tt), fed.state),
@@ -30,10 +31,10 @@ returns-in-Some g c =
 
 pub returns-in-None : goal.returns-in-None
 returns-in-None g c =
-    let fed = nobody_asked g.O.Owner.answer g.O.Owner.after c.args.self.now c.asked.new.self c.feed.follows.lender-at-none
+    let fed = nobody_asked g.O.Owner.answer g.O.Owner.after c.args.self.now c.asked.follows.lender-at-none c.feed.follows.lender-at-none
     c.args.owner.now c.args.now c.args.peer.now c.args.piece.now c.feed.result.taken
     (feed_output c.feed.result.answer c.feed.result.no_reply_reason) c.feed.result.close
-    (ap listed (sym c.in-None.is) ∙ c.asked.ensures.asked) c.asked.ensures.state c.feed.follows.holds-at-none
+    (ap (λ o. listed (option_map asked_in o)) (sym c.in-None.is) ∙ c.asked.ensures.asked) c.asked.follows.holds-at-none c.feed.follows.holds-at-none
     c.feed.ensures.taken c.feed.ensures.answer c.feed.ensures.close in (
       (refl, (λ _. tt), fed.state),
       record {

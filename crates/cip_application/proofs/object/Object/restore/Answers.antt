@@ -1,0 +1,14 @@
+use Rattle.std.specs.Box.{boxed_slice_items}
+use Rattle.cip_application.specs.Objects.{ObjectValues, IsAttributeAt}
+use Rattle.cip_application.specs.Values.{as_whole}
+use Rattle.cip_application.proofs.Writes.{object_written}
+use Rattle.cip_application.proofs.object.Object.restore.Goals as goal
+
+pub returns-clause-restored : goal.returns-clause-restored
+returns-clause-restored c =
+    let i = c.self.inside in
+    let o : ObjectValues =
+    record { class = i.class; instance = i.instance; attributes = boxed_slice_items i.attributes; services = boxed_slice_items i.services } in
+    let at : IsAttributeAt o.attributes c.args.number c.in-Some.index = rw c.deref.ensures.value at c.in-Some.ensures in
+    object_written o c.args.self.now c.args.number c.in-Some.index (as_whole c.args.bytes.now) c.index_mut.result.now c.restore.new.self
+    c.self.view_is at c.index_mut.ensures.value c.restore.ensures.restored

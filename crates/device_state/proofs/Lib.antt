@@ -1,0 +1,5 @@
+pub mod EntryLists
+pub mod KeyLemmas
+pub mod Puts
+pub mod LedgerPuts
+pub mod StateLemmas

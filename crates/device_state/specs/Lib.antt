@@ -1,0 +1,4 @@
+pub mod Keys
+pub mod Saved
+pub mod Restored
+pub mod Laws

@@ -1,0 +1,87 @@
+//! The entries of the command ledger.
+ghost use Rattle.std.specs.Prelude.{◌≡◌, ◌≤◌, length, slice_get, Some};
+ghost use Rattle.cip_ledger.specs.Kept.{kept_in};
+ghost use Rattle.device_state.specs.Restored.{done, slot_in, life_done, slot_done, ledger_done};
+ghost use Rattle.device_state.specs.Saved.{entry_in, ledger_entries, slot_bytes};
+
+use crate::key::key_of;
+use crate::restoring::Outcome;
+use byteorder::{ByteOrder, LittleEndian};
+use cip_bytes::{append, append_u8, append_u32};
+use cip_ledger::{KeptCommand, LEDGER, Ledger};
+use cip_objects::{AttributeName, ReplyBuf};
+
+/// The state of a command that is done.
+const DONE: u8 = 0;
+
+/// The bytes of a slot before the reply: the originator, the number and the state.
+const SLOT_HEAD: usize = 13;
+
+/// Writes a slot to `bytes`, in place of its old content.
+fn write_slot(kept: KeptCommand<'_>, bytes: &mut ReplyBuf)
+    requires { length kept.reply.now ≤ 480 }
+    ensures { bytes.new.items ≡ slot_bytes (kept_in kept.entry) }
+{
+    bytes.clear();
+    append(bytes, &kept.originator.to_le_bytes());
+    append_u32(bytes, kept.number);
+    append_u8(bytes, DONE);
+    append(bytes, kept.reply);
+}
+
+/// The key of an entry of the ledger, by its index: the life, then the slots. Its bytes are written to `bytes`. `None`
+/// past the last slot.
+pub(crate) fn ledger_entry(ledger: &Ledger, index: usize, bytes: &mut ReplyBuf) -> Option<u64>
+    ensures { entry_in result bytes.new.items ≡ slice_get (ledger_entries (Some ledger.now)) index }
+{
+    if index == 0 {
+        bytes.clear();
+        append(bytes, &ledger.life().to_le_bytes());
+        return Some(key_of(LEDGER, 0, 0));
+    }
+    if index > ledger.slot_count() {
+        return None;
+    }
+    write_slot(ledger.slot(index - 1)?, bytes);
+    Some(key_of(LEDGER, index as u16, 0))
+}
+
+/// Puts an entry of the ledger back.
+pub(crate) fn restore_in_ledger(ledger: &mut Ledger, name: AttributeName, bytes: &[u8]) -> Outcome
+    ensures { done ledger.new result ≡ ledger_done ledger.old name bytes.now }
+{
+    if name.attribute != 0 {
+        return Outcome::Unknown;
+    }
+    if name.instance == 0 {
+        return restore_life(ledger, bytes);
+    }
+    restore_slot(ledger, bytes)
+}
+
+/// Puts the number of the device's life back.
+fn restore_life(ledger: &mut Ledger, bytes: &[u8]) -> Outcome
+    ensures { done ledger.new result ≡ life_done ledger.old bytes.now }
+{
+    if bytes.len() != 8 {
+        return Outcome::Unfit;
+    }
+    ledger.set_life(LittleEndian::read_u64(bytes));
+    Outcome::Used
+}
+
+/// Puts a slot back.
+fn restore_slot(ledger: &mut Ledger, bytes: &[u8]) -> Outcome
+    ensures { done ledger.new result ≡ slot_done ledger.old (slot_in bytes.now) }
+{
+    if bytes.len() < SLOT_HEAD || bytes[12] != DONE {
+        return Outcome::Unfit;
+    }
+    let originator = LittleEndian::read_u64(bytes);
+    let number = LittleEndian::read_u32(&bytes[8..]);
+    if ledger.restore(originator, number, &bytes[SLOT_HEAD..]) {
+        Outcome::Used
+    } else {
+        Outcome::Unfit
+    }
+}

@@ -1,0 +1,39 @@
+//! The state of a device as entries, each a key and bytes, and a device that starts from them.
+//!
+//! What is saved is all that can change while a device runs and matters after a restart: the data of the assemblies, the
+//! counter, the attributes of the application objects, and the command ledger with the number of the device's life.
+//! Sessions and connections are not saved. [`saved_entry`] gives one entry after another, and [`restore`] puts one back.
+//! `saved` in `specs/Saved.antt` defines the entries, and `restored` in `specs/Restored.antt` the device after them.
+//! [`laws`] states that a device of the same configuration that starts from what was saved goes on with the same values
+//! and the same ledger.
+//!
+//! A key has 48 bits: the class, the instance and the attribute. The entries come in the order of the configuration, so
+//! a saved form that wants rising keys sorts them. They are the whole state, and replace those that were saved before:
+//! a slot of the ledger that was freed has no entry.
+//!
+//! Nothing here allocates.
+//!
+//! ```
+//! let mut bytes = ReplyBuf::new();
+//! let mut index = 0;
+//! while let Some(key) = saved_entry(adapter.objects(), adapter.ledger(), index, &mut bytes) {
+//!     write(key, &bytes); // your own
+//!     index += 1;
+//! }
+//! // after a restart, before the adapter is made of these objects and this ledger
+//! for (key, bytes) in entries {
+//!     restore(&mut objects, &mut ledger, key, bytes);
+//! }
+//! ```
+#![tactic(auto)]
+
+mod identity;
+mod key;
+pub mod laws;
+mod ledger;
+mod restoring;
+mod saving;
+
+pub use identity::{identity_key, is_same_device};
+pub use restoring::{Outcome, restore};
+pub use saving::saved_entry;

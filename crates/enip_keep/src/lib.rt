@@ -1,0 +1,42 @@
+//! A device whose state outlives power cuts: no answer leaves before what it reports is kept.
+//!
+//! A [`Server`] holds a [`Device`], which serves requests in rounds, and a [`Keeper`], which keeps entries over a
+//! crash.
+//! A round has three steps:
+//!
+//! 1. The device serves its requests, and holds the answers back.
+//! 2. The keeper commits the entries that differ from what is kept.
+//! 3. The device releases the answers.
+//!
+//! If a commit fails, nothing leaves, and the server serves no more until the next start. A start loads the entries and
+//! makes the device from them.
+//!
+//! `live` states what that is worth, for every list of rounds, crashes and starts: whatever a crash leaves is what is
+//! kept after rounds in the order of their execution, with each round whose answers left among them.
+//!
+//! ```
+//! let mut server = Server::start(alloc, keeper, &configuration)?;
+//! loop {
+//!     server.round(requests)?; // the answers have left, and a crash finds what they report
+//! }
+//! ```
+#![tactic(auto)]
+
+mod device;
+mod entry;
+mod keeper;
+pub mod laws;
+mod lives;
+mod memory;
+mod numbered;
+mod server;
+mod tally;
+
+pub use device::Device;
+pub use entry::{Entry, KeepError};
+pub use keeper::{Keeper, Restart};
+pub use lives::{Event, live};
+pub use memory::MemoryKeeper;
+pub use numbered::{Numbered, RoundNote};
+pub use server::Server;
+pub use tally::Tally;

@@ -1,0 +1,5 @@
+pub mod Kept
+pub mod Calls
+pub mod Lives
+pub mod Memory
+pub mod Crashes

@@ -1,0 +1,3 @@
+-- The modules of these definitions.
+pub mod Changes
+pub mod Rounds

@@ -1,0 +1,117 @@
+-- Rounds of peers whose wires hold back what is written to them, and what is kept of a device in them.
+use Rattle.std.specs.Prelude.{ℕ, ◌≡◌, List, [], ◌∷◌, false, Option, Some, None, Result, slice_get}
+use Rattle.std.proofs.Common.{sym, ap, ◌∙◌}
+use Rattle.std.specs.List.{list_any}
+use Rattle.enip_adapter.specs.declared.adapter.Full.{Full}
+use Rattle.enip_adapter.specs.Calls.{AdapterState, Call}
+use Rattle.enip_adapter.specs.Runs.{after_calls}
+use Rattle.enip_keep.specs.Kept.{Kept, set_all}
+use Rattle.enip_server.specs.declared.held_wire.HeldWire.{HeldWire}
+use Rattle.enip_server.specs.declared.peer_io.PeerIo.{PeerIo}
+use Rattle.enip_server.specs.declared.peers.RoundEnd.{RoundEnd}
+use Rattle.enip_server.specs.declared.wire_counts.WireCounts.{WireCounts}
+use Rattle.enip_server.specs.Held.{held_known, held_written, AreReleased}
+use Rattle.enip_server.specs.Rounds.{ServerState, IsRound, IsAdded, marked_ready, ended_in, is_ready, next_moment}
+use Rattle.enip_server.specs.Rounds.{nobody, no_answer, same_nobody}
+use Rattle.enip_server.specs.Wires.{KnownCalls}
+use Rattle.kept_server.specs.declared.round.ReadyWire.{ReadyWire}
+use Rattle.kept_server.specs.declared.round.RoundInput.{RoundInput}
+
+-- What rounds execute: the adapter. With it, the entries that are to be kept of it, and those that were found at the
+-- start.
+pub record DeviceContents : Type 0 where
+  pub adapter : AdapterState
+  pub saved : Kept
+  pub found : Kept
+
+-- The contents with this adapter, if these are the entries of an adapter.
+abbrev pub contents_with : (AdapterState → Kept) → Kept → AdapterState → DeviceContents
+contents_with save found adapter = record { adapter = adapter; saved = save adapter; found = found }
+
+-- What is kept: what was found, and over it the entries of the adapter. Entries that were found and are not the
+-- adapter's stay.
+abbrev pub kept_of : DeviceContents → Kept
+kept_of c = set_all c.saved c.found
+
+-- The bytes that were written to the wire inside, of each peer that stays, are the same.
+abbrev pub SendsNothing : {W : Type 0} → (W → Option (List ℕ)) → ServerState (HeldWire W) → ServerState (HeldWire W) → Type 0
+SendsNothing {W} written old new =
+    (slot : ℕ) (io after : PeerIo (HeldWire W)) → slice_get old.slots slot ≡ Some (Some io)
+    → slice_get new.slots slot ≡ Some (Some after) → written after.wire.wire ≡ written io.wire.wire
+
+-- What was written to the wire inside of a peer, if there is one.
+abbrev pub written_inside : {W : Type 0} → (W → Option (List ℕ)) → Option (Option (PeerIo (HeldWire W)))
+    → Option (List ℕ)
+written_inside written None = None
+written_inside written (Some None) = None
+written_inside written (Some (Some io)) = written io.wire.wire
+
+-- If nothing is done, nothing is sent.
+pub nothing_by_itself : {W : Type 0} (written : W → Option (List ℕ)) (p : ServerState (HeldWire W))
+    → SendsNothing written p p
+nothing_by_itself written p slot io after there stays = ap (written_inside written) (sym stays ∙ there)
+
+-- Each peer stays, with its wire as it is.
+abbrev pub KeepsWires : {W : Type 0} → ServerState (HeldWire W) → ServerState (HeldWire W) → Type 0
+KeepsWires {W} old new =
+    (slot : ℕ) (io : PeerIo (HeldWire W)) → slice_get old.slots slot ≡ Some (Some io)
+    → (after : PeerIo (HeldWire W)) × (slice_get new.slots slot ≡ Some (Some after)) × (after.wire ≡ io.wire)
+
+-- A wire that holds nothing yet.
+abbrev pub new_held : {W : Type 0} → W → HeldWire W
+new_held wire = record {
+  wire = wire;
+  held = [];
+  was_deferred = false;
+  has_failed = false;
+  shut_waits = false;
+  is_shut = false;
+  asked = 0;
+  counts = record { reads = 0; drained = 0; waits = 0; ends = 0 };
+}
+
+-- A connection is added at a time, if there is one.
+abbrev pub IsAccepted : {W : Type 0} → ℕ → Option W → ServerState (HeldWire W) → ServerState (HeldWire W) → Type 0
+IsAccepted now None old new = new ≡ old
+IsAccepted now (Some wire) old new = (result : Result ℕ Full) × IsAdded now (new_held wire) old new result
+
+-- These wires are marked ready, one after the other.
+abbrev pub marked_all : {W : Type 0} → List ReadyWire → List (Option (PeerIo W)) → List (Option (PeerIo W))
+marked_all [] slots = slots
+marked_all (wire ∷ wires) slots = marked_all wires (marked_ready wire.ends slots wire.slot)
+
+abbrev pub with_marks : {W : Type 0} → List ReadyWire → ServerState W → ServerState W
+with_marks wires p = record p { slots = marked_all wires p.slots }
+
+-- A round of such peers, which asks nobody.
+abbrev pub IsHeldRound : {W : Type 0} → (W → Option (List ℕ)) → (W → Option (List ℕ)) → ℕ → ServerState (HeldWire W)
+    → ServerState (HeldWire W) → Type 0
+IsHeldRound left written now old new =
+    IsRound (λ w. left w.wire) (held_written written) (held_known written) (λ w. w.counts) no_answer same_nobody now
+    nobody old nobody new
+
+-- What a round is asked: its input, and the calls of the adapter that it makes.
+pub record RoundRequests (W : Type 0) : Type 0 where
+  pub input : RoundInput W
+  pub calls : List Call
+
+-- The contents after the requests of a round.
+abbrev pub after_round : {W : Type 0} → (AdapterState → Kept) → DeviceContents → RoundRequests W → DeviceContents
+after_round save c requests = contents_with save c.found (after_calls c.adapter requests.calls)
+
+-- The peers take a round: the connection is added, the wires are marked ready, and then the round is made at the time of
+-- the input. The adapter is that after these calls. The outcome is that of the round.
+pub record TakesRound {W : Type 0} (left written : W → Option (List ℕ)) (requests : RoundRequests W)
+    (old new : ServerState (HeldWire W)) (outcome : RoundEnd) : Type 0 where
+  pub added : ServerState (HeldWire W)
+  pub accepted : IsAccepted requests.input.now requests.input.accepted old added
+  pub round : IsHeldRound left written requests.input.now (with_marks requests.input.ready.items added) new
+  pub executed : new.adapter ≡ after_calls old.adapter requests.calls
+  pub ended : outcome.ended ≡ ended_in (with_marks requests.input.ready.items added).slots new.slots
+  pub next : outcome.next ≡ next_moment new
+
+-- What was held leaves, as far as the wires take it, and the outcome says whether a wire may be ready then.
+pub record SendsHeld {W : Type 0} (left written : W → Option (List ℕ)) (known : W → Option KnownCalls)
+    (counts : W → WireCounts) (old new : ServerState (HeldWire W)) (first last : RoundEnd) : Type 0 where
+  pub released : AreReleased left written known counts old new
+  pub outcome : last ≡ record first { ready = list_any is_ready new.slots }

@@ -1,0 +1,20 @@
+//! A server for several peers of a device whose state is kept over a restart.
+//!
+//! `KeptPeers` is the `Device` of an `enip_keep::Server`: in a round it serves the peers that may be ready, with their
+//! answers held back (`enip_server::HeldWire`). Then it names the entries that differ from what is kept, and once they
+//! are committed it releases the answers. What is kept of an adapter, and how one starts from it, is a `KeptDevice`.
+//!
+//! The device has no owner: a request to one is answered "device state conflict" (0x10).
+#![tactic(auto)]
+
+mod changes;
+mod kept_device;
+mod kept_peers;
+mod lives;
+mod round;
+mod table;
+
+pub use kept_device::KeptDevice;
+pub use kept_peers::KeptPeers;
+pub use lives::live_peers;
+pub use round::{MOST_READY, ReadyWire, RoundInput};

@@ -1,0 +1,5 @@
+pub mod Numbers
+pub mod Checksum
+pub mod States
+pub mod Reading
+pub mod Writing

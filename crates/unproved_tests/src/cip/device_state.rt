@@ -1,0 +1,175 @@
+//! The entries of a device, and a device that starts from them. Keys and bytes are written out by hand.
+
+use super::application_objects::objects_with_conveyor;
+use cip_ledger::Ledger;
+use cip_objects::{Objects, ReplyBuf};
+use device_state::{Outcome, identity_key, is_same_device, restore, saved_entry};
+use std::alloc::Global;
+use std::process::Abort;
+use std::test::Fail;
+
+/// The keys of the entries of the demo device with a conveyor and a ledger of one taken slot, in their order.
+const KEYS: [u64; 10] = [
+    0x0001_0001_0000, // which device it is
+    0x0065_0000_0000, // the life
+    0x0065_0001_0000, // the first slot
+    0x0004_0064_0003, // the data of assembly 100
+    0x0064_0001_0001, // the counter's value
+    0x0064_0001_0002, // its limit
+    0x0064_0001_0003, // its additions
+    0x0300_0002_0001, // the conveyor's name
+    0x0300_0002_0003, // its speed
+    0x0300_0002_0004, // its checked attribute
+];
+
+/// Vendor 0x1234, product code 7, serial number 0x01020304.
+const IDENTITY: &[u8] = b"\x34\x12\x07\x00\x04\x03\x02\x01";
+
+/// Life 0x0102.
+const LIFE: &[u8] = b"\x02\x01\x00\x00\x00\x00\x00\x00";
+
+/// Originator 9, number 5, done, the reply `b2 00 00 00`.
+const SLOT: &[u8] = b"\x09\x00\x00\x00\x00\x00\x00\x00\x05\x00\x00\x00\x00\xb2\x00\x00\x00";
+
+/// A device with changed values, in life 0x0102.
+fn used_device(rt: &impl Abort, alloc: Global) -> Result<(Objects, Option<Ledger>), Fail> {
+    let mut objects = objects_with_conveyor(alloc)?;
+    assert!(rt; objects.write_data(100, 0, b"\xaa\xbb"));
+    assert!(rt; objects.write_attribute(768, 2, 1, 0, b"\x03xyz"));
+    assert!(rt; objects.write_attribute(768, 2, 3, 0, b"\xff\xff")); // out of the range of peers
+    let mut ledger = Ledger::new(alloc, 2, 0x0102)?;
+    assert!(rt; ledger.restore(9, 5, b"\xb2\x00\x00\x00"));
+    Ok((objects, Some(ledger)))
+}
+
+/// The same device as it starts.
+fn fresh_device(alloc: Global) -> Result<(Objects, Option<Ledger>), Fail> {
+    Ok((
+        objects_with_conveyor(alloc)?,
+        Some(Ledger::new(alloc, 2, 7)?),
+    ))
+}
+
+/// Asserts which bytes the entry at an index has.
+fn check(rt: &impl Abort, device: &(Objects, Option<Ledger>), index: usize, wanted: &[u8]) {
+    let mut bytes = ReplyBuf::new();
+    let key = saved_entry(&device.0, device.1.as_ref(), index, &mut bytes);
+    assert_eq!(rt; key, Some(KEYS[index]));
+    assert_eq!(rt; bytes.as_slice(), wanted);
+}
+
+#[test]
+fn entries_of_a_device(rt: HostRuntime) -> Result<(), Fail> {
+    let device = used_device(&rt, rt.alloc())?;
+    let mut bytes = ReplyBuf::new();
+    for index in 0..10 {
+        assert_eq!(rt;
+            saved_entry(&device.0, device.1.as_ref(), index, &mut bytes),
+            Some(KEYS[index])
+        );
+    }
+    assert_eq!(rt;
+        saved_entry(&device.0, device.1.as_ref(), 10, &mut bytes),
+        None
+    );
+    assert_eq!(rt; identity_key(), KEYS[0]);
+    check(&rt, &device, 0, IDENTITY);
+    check(&rt, &device, 1, LIFE);
+    check(&rt, &device, 2, SLOT);
+    check(&rt, &device, 3, b"\xaa\xbb\x00\x00");
+    check(&rt, &device, 4, b"\x00\x00\x00\x00");
+    check(&rt, &device, 5, b"\x64\x00\x00\x00");
+    check(&rt, &device, 7, b"\x03xyz");
+    check(&rt, &device, 8, b"\xff\xff");
+    Ok(())
+}
+
+#[test]
+fn started_from_its_entries(rt: HostRuntime) -> Result<(), Fail> {
+    let old = used_device(&rt, rt.alloc())?;
+    let mut new = fresh_device(rt.alloc())?;
+    let mut bytes = ReplyBuf::new();
+    let mut again = ReplyBuf::new();
+    for index in 0..10 {
+        let key = saved_entry(&old.0, old.1.as_ref(), index, &mut bytes).ok_or("an entry")?;
+        assert_eq!(rt; restore(&mut new.0, &mut new.1, key, &bytes), Outcome::Used);
+    }
+    for index in 0..10 {
+        let key = saved_entry(&old.0, old.1.as_ref(), index, &mut bytes);
+        assert_eq!(rt; saved_entry(&new.0, new.1.as_ref(), index, &mut again), key);
+        assert_eq!(rt; again.as_slice(), bytes.as_slice());
+    }
+    // the changes by peers are not kept
+    assert_eq!(rt; new.0.changes(100), Some(0));
+    Ok(())
+}
+
+/// Asserts what becomes of an entry of a fresh device that has the first slot of the other one.
+fn check_outcome(
+    rt: &impl Abort,
+    alloc: Global,
+    key: u64,
+    bytes: &[u8],
+    wanted: Outcome,
+) -> Result<(), Fail> {
+    let mut device = fresh_device(alloc)?;
+    let _ = restore(&mut device.0, &mut device.1, 0x0065_0001_0000, SLOT);
+    assert_eq!(rt; restore(&mut device.0, &mut device.1, key, bytes), wanted);
+    Ok(())
+}
+
+#[test]
+fn entries_that_do_not_fit(rt: HostRuntime) -> Result<(), Fail> {
+    let rows: [(u64, &[u8], Outcome); 16] = [
+        (0x0004_0064_0003, b"\xaa\xbb\xcc", Outcome::Unfit), // four bytes
+        (0x0004_0064_0004, b"\x04\x00", Outcome::Unfit), // the size is not kept
+        (0x0004_0063_0003, b"\xaa\xbb", Outcome::Unknown), // no assembly 99
+        (0x0064_0001_0001, b"\x01\x00", Outcome::Unfit),
+        (0x0064_0002_0001, b"\x01\x00\x00\x00", Outcome::Unknown),
+        (0x0300_0002_0001, b"\x05abcde", Outcome::Unfit), // a room of 4
+        (0x0300_0002_0001, b"\x02abc", Outcome::Unfit), // its length says 2
+        (0x0300_0002_0001, b"\x00", Outcome::Used),
+        (0x0300_0002_0002, b"\x00", Outcome::Unknown),
+        (0x0300_0002_0003, b"\xff\xff", Outcome::Used),
+        (0x0065_0000_0000, b"\x01", Outcome::Unfit),
+        (0x0065_0002_0000, SLOT, Outcome::Unfit), // the originator has a slot
+        (
+            0x0065_0002_0000,
+            b"\x0a\x00\x00\x00\x00\x00\x00\x00\x05\x00\x00\x00\x02",
+            Outcome::Unfit,
+        ), // not done
+        (
+            0x0065_0002_0000,
+            b"\x0a\x00\x00\x00\x00\x00\x00\x00\x05\x00\x00\x00\x00",
+            Outcome::Used,
+        ),
+        (
+            0x0001_0001_0000,
+            b"\x34\x12\x07\x00\x05\x03\x02\x01",
+            Outcome::OtherDevice,
+        ),
+        (0x1_0004_0064_0003, b"\xaa\xbb\xcc\xdd", Outcome::Unknown), // a key of 49 bits
+    ];
+    for (key, bytes, wanted) in rows {
+        check_outcome(&rt, rt.alloc(), key, bytes, wanted)?;
+    }
+    Ok(())
+}
+
+#[test]
+fn without_a_ledger(rt: HostRuntime) -> Result<(), Fail> {
+    let mut objects = objects_with_conveyor(rt.alloc())?;
+    let mut ledger = None;
+    let mut bytes = ReplyBuf::new();
+    assert_eq!(rt;
+        saved_entry(&objects, ledger.as_ref(), 1, &mut bytes),
+        Some(KEYS[3])
+    );
+    assert_eq!(rt;
+        restore(&mut objects, &mut ledger, KEYS[1], LIFE),
+        Outcome::Unknown
+    );
+    assert!(rt; is_same_device(&objects, IDENTITY));
+    assert!(rt; !is_same_device(&objects, b""));
+    Ok(())
+}

@@ -1,0 +1,161 @@
+//! Peers of a device whose state is kept, over a keeper in memory that can fail.
+
+use super::wires::{Call, ScriptedWire};
+use arrayvec::ArrayVec;
+use cip_objects::{Config, Objects};
+use enip_adapter::Adapter;
+use enip_keep::{Entry, KeepError, MemoryKeeper, Server};
+use enip_server::NO_IDLE_TIMEOUT;
+use kept_server::{KeptDevice, KeptPeers, ReadyWire, RoundInput};
+use std::alloc::{AllocError, Global};
+use std::cell::Cell;
+use std::process::Abort;
+use std::test::Fail;
+use test_fixtures::adapter::{LIMITS, LISTEN, REGISTER, REGISTERED, config};
+
+/// Set_Attribute_Single of the data of assembly 100 to 7, 8, 9, 10 in session 1, and its answer.
+const SET: &[u8] = b"\x6f\0\x1c\0\x01\0\0\0\0\0\0\0\x01\x02\x03\x04\x05\x06\x07\x08\0\0\0\0\
+    \0\0\0\0\0\0\x02\0\0\0\0\0\xb2\0\x0c\0\x10\x03\x20\x04\x24\x64\x30\x03\x07\x08\x09\x0a";
+
+const SET_REPLY: &[u8] = b"\x6f\0\x14\0\x01\0\0\0\0\0\0\0\x01\x02\x03\x04\x05\x06\x07\x08\0\0\0\0\
+    \0\0\0\0\0\0\x02\0\0\0\0\0\xb2\0\x04\0\x90\0\0\0";
+
+/// The key of the data of assembly 100.
+const KEY: u64 = 0x4_0064_0003;
+
+/// A demo device, of which the data of assembly 100 are kept. It starts from those alone.
+#[derive(Drop)]
+struct DataKept {
+    config: Config,
+}
+
+impl KeptDevice for DataKept {
+    ghost saved = { ? };
+
+    ghost keys = { ? };
+
+    ghost started = { ? };
+
+    ghost refuses = { ? };
+
+    fn idle_timeout(&self) -> u64 {
+        NO_IDLE_TIMEOUT
+    }
+
+    fn start(&self, alloc: Global, entries: &[Entry]) -> Result<Adapter, KeepError> {
+        let mut objects = Objects::new(alloc, &self.config)
+            .ok()
+            .ok_or(KeepError::Memory)?;
+        for entry in entries {
+            if entry.key != KEY || !objects.write_data(100, 0, entry.bytes.as_slice()) {
+                return Err(KeepError::Refused);
+            }
+        }
+        Ok(Adapter::new(alloc, objects, LISTEN, LIMITS)?)
+    }
+
+    fn save(alloc: Global, adapter: &Adapter, into: &mut Vec<Entry>) -> Result<(), AllocError> {
+        into.clear();
+        let mut bytes = Vec::new(alloc);
+        if let Some(data) = adapter.objects().attribute(4, 100, 3) {
+            bytes.extend_from_slice(data.as_slice())?;
+        }
+        into.push(Entry { key: KEY, bytes })?;
+        Ok(())
+    }
+
+    ghost under_keys = { ? };
+
+    ghost same_keys = { ? };
+}
+
+type Served<'a> = Server<KeptPeers<ScriptedWire<'a>, DataKept>, MemoryKeeper>;
+
+/// The input of a round at a time.
+fn input<'a>(
+    now: u64,
+    accepted: Option<ScriptedWire<'a>>,
+    ready: &[usize],
+) -> RoundInput<ScriptedWire<'a>> {
+    let mut wires = ArrayVec::new();
+    for slot in ready {
+        wires.push(ReadyWire {
+            slot: *slot,
+            ends: false,
+        });
+    }
+    RoundInput {
+        now,
+        accepted,
+        ready: wires,
+    }
+}
+
+/// Asserts that these are the data of assembly 100.
+fn assert_data<A: Abort>(rt: &A, server: &Served<'_>, data: [u8; 4]) -> Result<(), Fail> {
+    let found = server
+        .device()
+        .peers()
+        .adapter()
+        .objects()
+        .attribute(4, 100, 3)
+        .ok_or("assembly 100 has data")?;
+    assert_eq!(rt; found.as_slice(), data.as_slice());
+    Ok(())
+}
+
+#[test]
+fn an_answer_leaves_once_its_change_is_kept(rt: HostRuntime) -> Result<(), Fail> {
+    let device = DataKept {
+        config: config(rt.alloc())?,
+    };
+    let made = Cell::new(0);
+    let calls = [
+        Call::GivesAll(REGISTER),
+        Call::Takes(REGISTERED, 28),
+        Call::GivesAll(SET),
+        Call::Takes(SET_REPLY, 44),
+    ];
+    let keeper = MemoryKeeper::new(rt.alloc());
+    let mut server: Served<'_> = Server::start(rt.alloc(), keeper, &device)?;
+    server.round(input(0, Some(ScriptedWire::new(&calls, &made)), &[]))?;
+    assert_eq!(rt; made.get(), 2);
+    server.round(input(1, None, &[0]))?;
+    assert_eq!(rt; made.get(), 4);
+    let end = server.device().last_round();
+    assert_eq!(rt; (end.ended, end.ready, end.next), (0, false, None));
+    // a start finds what the answer reported, and no peer
+    server.restart(rt.alloc(), &device)?;
+    assert_data(&rt, &server, [7, 8, 9, 10])?;
+    assert_eq!(rt; server.device().peers().first_free(), Some(0));
+    Ok(())
+}
+
+#[test]
+fn no_answer_leaves_if_the_commit_fails(rt: HostRuntime) -> Result<(), Fail> {
+    let device = DataKept {
+        config: config(rt.alloc())?,
+    };
+    for (keeps_failed, data) in [(false, [0; 4]), (true, [7, 8, 9, 10])] {
+        let made = Cell::new(0);
+        let calls = [
+            Call::GivesAll(REGISTER),
+            Call::Takes(REGISTERED, 28),
+            Call::GivesAll(SET),
+        ];
+        let mut keeper = MemoryKeeper::new(rt.alloc());
+        // the load and the commit of the start succeed; a round without a change commits nothing
+        keeper.fail_after(2, keeps_failed);
+        let mut server: Served<'_> = Server::start(rt.alloc(), keeper, &device)?;
+        server.round(input(0, Some(ScriptedWire::new(&calls, &made)), &[]))?;
+        assert_eq!(rt; server.round(input(1, None, &[0])), Err(KeepError::Storage));
+        assert_eq!(rt; made.get(), 3);
+        // nothing is served any more
+        assert_eq!(rt; server.round(input(2, None, &[0])), Err(KeepError::Stopped));
+        assert_eq!(rt; made.get(), 3);
+        server.restart(rt.alloc(), &device)?;
+        assert_eq!(rt; made.get(), 3);
+        assert_data(&rt, &server, data)?;
+    }
+    Ok(())
+}
