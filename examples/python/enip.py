@@ -413,7 +413,7 @@ class Commander:
         if outcome.kind == ONCE_REFUSED:
             raise EnipError("the device refused the command: " + text_of(OF_GENERAL, outcome.general))
         if outcome.kind == ONCE_IN_DOUBT:
-            raise EnipError("the device does not know whether it executed the command, and its owner has to settle that")
+            raise EnipError("the device does not know whether it executed the command: its owner has to settle that")
         if outcome.kind != ONCE_DONE:
             return None
         self._store(self._life, self.number, None)
