@@ -197,9 +197,9 @@ given_shapes : (w : OwnedState) (service : ℕ) (asked : Asked) (reply : Option 
 given_shapes w service asked None = refl
 given_shapes w service asked (Some reply) =
     elim (is_fit asked reply) as (λ t. (if t then
-      answered (record { objects = after_reply w.objects asked reply.status; prepared = None })
-      (answer_with service reply.status reply.content)
-      else refused_with (record w { prepared = None }) service NOT_PREPARED).after.objects.shapes ≡ w.objects.shapes) [
+    answered (record { objects = after_reply w.objects asked reply.status; prepared = None })
+    (answer_with service reply.status reply.content)
+    else refused_with (record w { prepared = None }) service NOT_PREPARED).after.objects.shapes ≡ w.objects.shapes) [
       | true ↦ reply_shapes w.objects asked reply.status
       | false ↦ refl
     ]
@@ -235,12 +235,14 @@ turn_alike : (f : Fate) (device : Device) (max_size : ℕ) (text : List ℕ)
     (t.router.objects.shapes ≡ device.router.objects.shapes) × (is_some t.ledger ≡ is_some device.ledger)
 turn_alike Passed device max_size text = (owned_shapes device.router max_size text, refl)
 turn_alike (Served service (Replies reply)) device max_size text = (refl, refl)
-turn_alike (Served service (Executes command)) device max_size text =
-    (elim (is_barred command.request) as (λ t. (if t then device.router
+turn_alike (Served service (Executes command)) device max_size text = (
+  elim (is_barred command.request) as (λ t. (if t then device.router
       else objects_after device.router 480 command.request).objects.shapes ≡ device.router.objects.shapes) [
-      | true ↦ refl
-      | false ↦ owned_shapes device.router 480 command.request
-    ], mapped _ device.ledger)
+        | true ↦ refl
+        | false ↦ owned_shapes device.router 480 command.request
+      ],
+  mapped _ device.ledger,
+)
 turn_alike (Served service (Frees originator)) device max_size text = (refl, mapped _ device.ledger)
 
 -- ---- the device's own writes
@@ -255,8 +257,8 @@ data_shapes m instance offset bytes = by_shape (shape_at instance m.shapes.assem
     by_shape (Some s) =
         elim (nat_le (offset + length bytes) (length (bytes_at m ASSEMBLY instance 3)))
         as (λ t. (unwrap_or (if t then
-          Some (with_value m ASSEMBLY instance 3 (with_bytes_at (bytes_at m ASSEMBLY instance 3) offset bytes))
-          else None) m).shapes ≡ m.shapes) [ true ↦ refl | false ↦ refl ]
+        Some (with_value m ASSEMBLY instance 3 (with_bytes_at (bytes_at m ASSEMBLY instance 3) offset bytes))
+        else None) m).shapes ≡ m.shapes) [ true ↦ refl | false ↦ refl ]
 
 object_shapes : (m : Contents) (class instance attribute offset : ℕ) (bytes : List ℕ)
     → (unwrap_or (object_write m class instance attribute offset bytes) m).shapes ≡ m.shapes
@@ -268,6 +270,7 @@ object_shapes m class instance attribute offset bytes =
         → (unwrap_or (option_map (with_value m class instance attribute) v) m).shapes ≡ m.shapes
     by_value None = refl
     by_value (Some v) = refl
+
     by_attribute : (a : Option AttributeShape)
         → (unwrap_or (with_attribute_by (from_offset offset bytes) m class instance attribute a) m).shapes ≡ m.shapes
     by_attribute None = refl
@@ -277,7 +280,7 @@ attribute_shapes : (m : Contents) (class instance attribute offset : ℕ) (bytes
     → (unwrap_or (attribute_write m class instance attribute offset bytes) m).shapes ≡ m.shapes
 attribute_shapes m class instance attribute offset bytes =
     elim ((class == ASSEMBLY) && (attribute == 3)) as (λ t. (unwrap_or (if t then device_write m instance offset bytes
-      else object_write m class instance attribute offset bytes) m).shapes ≡ m.shapes) [
+    else object_write m class instance attribute offset bytes) m).shapes ≡ m.shapes) [
       | true ↦ data_shapes m instance offset bytes
       | false ↦ object_shapes m class instance attribute offset bytes
     ]
