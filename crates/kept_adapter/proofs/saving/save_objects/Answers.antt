@@ -9,14 +9,15 @@ pub loop-key-preserved : goal.loop-key-preserved
 loop-key-preserved c =
     let es : List Entry = saved (state_of c.args.objects.now None) in
     let count = c.loop-key.count in
-    let next : count + 1 ≡ suc count = omega arith in
-    (entry_more es (pairs_of c.loop-key.into.items) (pairs_of c.set_entry.new.into.items) count (count + 1) c.in-Some.key
-    c.saved_entry.new.bytes.items next c.in-Some.ensures.entry c.loop-key.invariant.0
-    (c.in_ok-set_entry.ensures.entry
-    ∙ ap (λ bytes. take count (pairs_of c.loop-key.into.items) ++ (c.in-Some.key, bytes) ∷ []) c.deref.ensures.0),
-    small_next (pairs_of c.set_entry.new.into.items) count (count + 1) next c.in_ok-set_entry.ensures.small,
-    omega (arith, c.in_ok-set_entry.ensures.within),
-    entry_within es count (count + 1) c.in-Some.key c.saved_entry.new.bytes.items next c.in-Some.ensures.entry)
+    let next : count + 1 ≡ suc count = omega arith in (
+      entry_more es (pairs_of c.loop-key.into.items) (pairs_of c.set_entry.new.into.items) count (count + 1) c.in-Some.key
+          c.saved_entry.new.bytes.items next c.in-Some.ensures.entry c.loop-key.invariant.0
+          (c.in_ok-set_entry.ensures.entry
+          ∙ ap (λ bytes. take count (pairs_of c.loop-key.into.items) ++ (c.in-Some.key, bytes) ∷ []) c.deref.ensures.0),
+      small_next (pairs_of c.set_entry.new.into.items) count (count + 1) next c.in_ok-set_entry.ensures.small,
+      omega (arith, c.in_ok-set_entry.ensures.within),
+      entry_within es count (count + 1) c.in-Some.key c.saved_entry.new.bytes.items next c.in-Some.ensures.entry,
+    )
 
 pub returns-clause-entries : goal.returns-clause-entries
 returns-clause-entries c =
