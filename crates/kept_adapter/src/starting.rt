@@ -82,7 +82,7 @@ impl AdapterStart {
             has_lost,
             ..
         } = progress;
-        let ledger = if has_life && !has_lost {
+        let ledger = if has_life && !has_lost && !self.begins_life {
             ledger
         } else {
             self.new_ledger(alloc)?

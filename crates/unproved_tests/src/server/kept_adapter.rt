@@ -29,6 +29,7 @@ fn start_in(alloc: Global, life: u64) -> Result<AdapterStart, Fail> {
             originators: 2,
             life,
         }),
+        begins_life: false,
         listen: LISTEN,
         limits: LIMITS,
         idle_timeout: NO_IDLE_TIMEOUT,
