@@ -1,13 +1,12 @@
 -- Entries that are written one after the other.
-use Rattle.std.proofs.Common.{◌≡◌, ℕ, zero, suc, ◌+◌, ◌-◌, ◌*◌, ◌<◌, ◌≤◌, ◌^◌, nat_lt, Bool, true, false, ◌&&◌, List, [], ◌∷◌, ◌++◌, length, take, map, append_assoc, append-nil, Option, Some, None, option_map, Result, Ok, Err, OnOk, refl, sym, ap, ◌∙◌, subst, arith}
+use Rattle.std.proofs.Common.{◌≡◌, ℕ, zero, suc, ◌+◌, ◌-◌, ◌<◌, ◌≤◌, ◌^◌, Bool, true, false, ◌&&◌, List, [], ◌∷◌, ◌++◌, length, take, map, append_assoc, Option, Some, None, option_map, Result, Ok, Err, OnOk, refl, sym, ap, ◌∙◌, arith}
 use Rattle.std.specs.Prelude.{slice_get, slice_set}
-use Rattle.std.specs.List.{list_all}
 use Rattle.std.proofs.lemmas.Bool.Decides.{nat_tests}
 use Rattle.enip_keep.specs.declared.entry.Entry.{Entry}
 use Rattle.enip_keep.specs.Kept.{Kept, pair_of, pairs_of}
 use Rattle.cip_ledger.specs.Ledger.{SlotState, LedgerState}
 use Rattle.cip_objects.specs.Contents.{Contents}
-use Rattle.device_state.specs.Saved.{Entry as StateEntry, entry_in, entry_of, saved, state_of, slot_bytes, value_entries, ledger_entries}
+use Rattle.device_state.specs.Saved.{Entry as StateEntry, entry_in, entry_of, saved, state_of, value_entries}
 use Rattle.device_state.proofs.EntryLists.{in_ledger, slot_entry, slot_entry_at}
 use Rattle.kept_server.specs.Changes.{is_small, are_small}
 use Rattle.kept_adapter.specs.Keys.{ledger_key}

@@ -8,12 +8,12 @@ use Rattle.std.proofs.Common.{◌⊎◌, inl, inr, sym, ap, subst, ◌∙◌}
 use Rattle.std.proofs.lemmas.List.{map-append}
 use Rattle.cip_application.specs.declared.object.AttributeName.{AttributeName}
 use Rattle.cip_bytes.specs.declared.protocol.TheConstants.{IDENTITY, ASSEMBLY, CONNECTION_MANAGER, COUNTER}
-use Rattle.cip_ledger.specs.Device.{Device, exec_device}
-use Rattle.cip_ledger.specs.Doubt.{can_settle, settled}
+use Rattle.cip_ledger.specs.Device.{Device}
+use Rattle.cip_ledger.specs.Doubt.{settled}
 use Rattle.cip_ledger.specs.Ledger.{LedgerState}
 use Rattle.cip_ledger.specs.Requests.{is_barred}
 use Rattle.cip_ledger.specs.Services.{Replies, Executes, Frees}
-use Rattle.cip_ledger.specs.Turn.{Fate, Passed, Served, Turn, fate, turn_by}
+use Rattle.cip_ledger.specs.Turn.{Fate, Passed, Served, fate, turn_by}
 use Rattle.cip_message.specs.declared.path.Path.{Path}
 use Rattle.cip_objects.specs.declared.status.Refusal.{Refusal}
 use Rattle.cip_objects.specs.ChangeServices.{with_bytes_at, set_attribute_single, set_member, add, clear}
@@ -22,7 +22,7 @@ use Rattle.cip_objects.specs.DeviceWrites.{device_write, object_write, with_data
 use Rattle.cip_objects.specs.Execution.{Outcome, outcome_of_read, outcome_of_change, perform, outcome, exec}
 use Rattle.cip_objects.specs.Service.{service_code, service_in}
 use Rattle.cip_objects.specs.Kept.{kept_names}
-use Rattle.cip_objects.specs.OwnRequests.{Asked, own_request, with_stored}
+use Rattle.cip_objects.specs.OwnRequests.{Asked, own_request}
 use Rattle.cip_objects.specs.ReadServices.{Answer, service_at, get_attribute_single, get_attributes_all}
 use Rattle.cip_objects.specs.ReadServices.{get_attribute_list, get_member}
 use Rattle.cip_objects.specs.Router.{REPLY_TOO_LARGE}
@@ -33,7 +33,7 @@ use Rattle.cip_objects.proofs.Effects.{goes, bound, found_some, read_effect, cha
 use Rattle.cip_objects.proofs.Refuses.{exec_left}
 use Rattle.cip_objects.proofs.Unsettable.{splices}
 use Rattle.cip_application.specs.Values.{from_offset}
-use Rattle.cip_owner.specs.Owned.{OwnedState, exec_owned, by_owner, own_executed, given, refused_with, answered, is_fit}
+use Rattle.cip_owner.specs.Owned.{OwnedState, exec_owned, by_owner, given, refused_with, answered, is_fit}
 use Rattle.cip_owner.specs.Owned.{after_reply, stored_at, answer_with, NOT_PREPARED}
 use Rattle.cip_owner.specs.Replies.{Reply}
 use Rattle.device_state.specs.Keys.{key_of}
@@ -42,7 +42,7 @@ use Rattle.enip_adapter.specs.Calls.{AdapterState, Call}
 use Rattle.enip_adapter.specs.DeviceRuns.{DeviceStep, Requested, WrittenBy, device_after, device_after_step, steps_of_calls}
 use Rattle.enip_adapter.specs.DeviceRuns.{objects_after, objects_answer}
 use Rattle.enip_adapter.specs.OwnWrites.{OwnWrite, WritesData, WritesAttribute, SetsStatus, SetsState, Prepares, Settles}
-use Rattle.enip_adapter.specs.OwnWrites.{attribute_write, device_written, objects_written}
+use Rattle.enip_adapter.specs.OwnWrites.{attribute_write, device_written}
 use Rattle.enip_adapter.specs.Runs.{after_calls}
 use Rattle.enip_adapter.proofs.DeviceLemmas.{calls-end}
 use Rattle.kept_server.specs.Changes.{keys_of}

@@ -1,7 +1,6 @@
 -- The adapter that starts from what was kept.
 use Rattle.std.specs.Prelude.{ℕ, ◌==◌, Bool, IsTrue, true, false, not, ◌&&◌, ◌||◌, if◌then◌else◌}
 use Rattle.std.specs.Prelude.{List, [], ◌∷◌, length, Option, Some, None, option_map}
-use Rattle.std.specs.List.{list_any}
 use Rattle.cip_ledger.specs.Device.{device_of}
 use Rattle.cip_ledger.specs.Ledger.{LedgerState, empty_ledger}
 use Rattle.cip_objects.specs.Configuration.{contents_of_config}
