@@ -28,7 +28,8 @@ pub record Puts (old new : View) (pairs : Kept) : Type 0 where
   pub reals : new.reals ≡ old.reals
 
 -- no doubt and no fault is forgotten, and a crash has no new outcome
-pub record IsCalm {S : Type 0} (view : S → View) (faults : S → ℕ) (recovers : S → Trees → Type 0) (old new : S) : Type 0 where
+pub record IsCalm {S : Type 0} (view : S → View) (faults : S → ℕ) (recovers : S → Trees → Type 0)
+    (old new : S) : Type 0 where
   pub clean : doubt (view old).is_clean ≤ doubt (view new).is_clean
   pub counts : faults old ≤ faults new
   pub outcomes : (db : Trees) → recovers new db → recovers old db
@@ -40,7 +41,8 @@ Looks old new = new ≡ record old { cursors = new.cursors }
 -- the cursor gave this entry, or was at its end
 abbrev pub Gives : View → View → Option Entry → Type 0
 Gives old new None = old.cursors 0 ≡ Some []
-Gives old new (Some entry) = (rest : List Row) × (old.cursors 0 ≡ Some (row_of (pair_of entry) ∷ rest)) × (new.cursors 0 ≡ Some rest)
+Gives old new (Some entry) =
+    (rest : List Row) × (old.cursors 0 ≡ Some (row_of (pair_of entry) ∷ rest)) × (new.cursors 0 ≡ Some rest)
 
 -- the row at the cursor is not one that this keeper writes
 abbrev pub IsForeignAt : View → Type 0

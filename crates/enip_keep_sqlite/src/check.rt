@@ -21,9 +21,11 @@ fn has_table<S: Store>(store: &S) -> bool
 
 /// Reads each row of a store in which no transaction is open. Any row that this keeper does not write is refused.
 pub(crate) fn check<S: Store>(alloc: Global, store: &mut S) -> Result<(), KeepError>
-    requires same { IsClean (S.view store.old) → IsTrue (S.view store.old).is_open → (S.view store.old).trees ≡ (S.view store.old).committed }
+    requires same { IsClean (S.view store.old) → IsTrue (S.view store.old).is_open
+        → (S.view store.old).trees ≡ (S.view store.old).committed }
     ensures rest { IsClean (S.view store.new) → OnOk result (IsAtRest (S.view store.new)) }
-    ensures committed { IsClean (S.view store.new) → OnOk result ((S.view store.new).committed ≡ (S.view store.old).committed) }
+    ensures committed { IsClean (S.view store.new) → OnOk result
+        ((S.view store.new).committed ≡ (S.view store.old).committed) }
     ensures calm { IsCalm S.view S.faults S.recovers store.old store.new }
 {
     if !has_table(store) {

@@ -67,7 +67,8 @@ fn next_entry<S: Store>(
 fn start<S: Store>(alloc: Global, store: &mut S) -> Result<(), KeepError>
     requires shape { IsClean (S.view store.old) → (S.view store.old).shape 0 ≡ kinds.Table }
     ensures live { OnOk result (IsSome ((S.view store.new).cursors 0)) }
-    ensures ok { IsClean (S.view store.new) → OnOk result ((S.view store.new).cursors 0 ≡ Some ((S.view store.old).trees 0)) }
+    ensures ok { IsClean (S.view store.new) → OnOk result
+        ((S.view store.new).cursors 0 ≡ Some ((S.view store.old).trees 0)) }
     ensures looks { IsClean (S.view store.new) → OnOk result (Looks (S.view store.old) (S.view store.new)) }
     ensures sound { IsClean (S.view store.new) → OnOk result ((S.view store.old).is_broken ≡ false) }
     ensures cause { IsClean (S.view store.new) → IfErr result
@@ -84,7 +85,8 @@ fn start<S: Store>(alloc: Global, store: &mut S) -> Result<(), KeepError>
 /// All entries, in the order of their keys. A table with a row that this keeper does not write is refused.
 pub(crate) fn read_all<S: Store>(alloc: Global, store: &mut S) -> Result<Vec<Entry>, KeepError>
     requires shape { IsClean (S.view store.old) → (S.view store.old).shape 0 ≡ kinds.Table }
-    ensures rows { IsClean (S.view store.new) → IfOk result (λ all. map (λ e. row_of (pair_of e)) all.items ≡ (S.view store.old).trees 0) }
+    ensures rows { IsClean (S.view store.new) → IfOk result
+        (λ all. map (λ e. row_of (pair_of e)) all.items ≡ (S.view store.old).trees 0) }
     ensures looks { IsClean (S.view store.new) → OnOk result (Looks (S.view store.old) (S.view store.new)) }
     ensures sound { IsClean (S.view store.new) → OnOk result ((S.view store.old).is_broken ≡ false) }
     ensures cause { IsClean (S.view store.new) → IfErr result (IsRowCause (IsTrue (S.view store.old).is_broken)

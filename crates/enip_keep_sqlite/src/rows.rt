@@ -29,9 +29,11 @@ impl<S: Store + Drop> Rows<S> {
     /// `Foreign` if the first table has a row that is not an entry, or if there is no table. `Storage` if the storage
     /// fails. `Memory` if memory is refused.
     pub fn over(alloc: Global, store: S) -> Result<Rows<S>, KeepError>
-        requires same { IsClean (S.Store.view store) → IsTrue (S.Store.view store).is_open → (S.Store.view store).trees ≡ (S.Store.view store).committed }
+        requires same { IsClean (S.Store.view store) → IsTrue (S.Store.view store).is_open
+            → (S.Store.view store).trees ≡ (S.Store.view store).committed }
         ensures up { IfOk result (λ k. IsClean (S.Store.view k.store) → IsAtRest (S.Store.view k.store)) }
-        ensures committed { IfOk result (λ k. IsClean (S.Store.view k.store) → (S.Store.view k.store).committed ≡ (S.Store.view store).committed) }
+        ensures committed { IfOk result (λ k. IsClean (S.Store.view k.store)
+            → (S.Store.view k.store).committed ≡ (S.Store.view store).committed) }
         ensures calm { IfOk result (λ k. IsCalm S.Store.view S.Store.faults S.Store.recovers store k.store) }
     {
         let mut store = store;
@@ -51,9 +53,11 @@ impl<S: Store + Drop> Keeper for Rows<S> {
 
     ghost faults = { λ k. S.Store.faults k.store };
 
-    ghost settled = { λ k c clean up left. settled_at (S.Store.view k.store) (S.Store.recovers k.store) (S.Store.settled k.store) c up left };
+    ghost settled = { λ k c clean up left.
+        settled_at (S.Store.view k.store) (S.Store.recovers k.store) (S.Store.settled k.store) c up left };
 
-    ghost stays = { λ k clean up. stays_at (S.Store.view k.store) (S.Store.recovers k.store) (S.Store.stays k.store) up };
+    ghost stays = { λ k clean up.
+        stays_at (S.Store.view k.store) (S.Store.recovers k.store) (S.Store.stays k.store) up };
 
     fn load(&mut self, alloc: Global) -> Result<Vec<Entry>, KeepError> {
         read_all(alloc, &mut self.store)

@@ -45,7 +45,8 @@ fn put_one<S: Store>(alloc: Global, store: &mut S, entry: &Entry) -> Result<(), 
     requires shape { IsClean (S.view store.old) → (S.view store.old).shape 0 ≡ kinds.Table }
     requires reals { IsClean (S.view store.old) → (S.view store.old).reals 0 ≡ 0 }
     requires keepable { IsKeepable entry.now }
-    ensures ok { IsClean (S.view store.new) → OnOk result (Puts (S.view store.old) (S.view store.new) (pair_of entry.now ∷ [])) }
+    ensures ok { IsClean (S.view store.new) → OnOk result
+        (Puts (S.view store.old) (S.view store.new) (pair_of entry.now ∷ [])) }
     ensures cause { IsClean (S.view store.new) → IfErr result
         (IsRowCause (IsTrue (S.view store.old).is_broken) ⊥ (S.faults store.old) (S.faults store.new)) }
     ensures calm { IsCalm S.view S.faults S.recovers store.old store.new }
@@ -66,7 +67,8 @@ pub(crate) fn put_all<S: Store>(
     requires shape { IsClean (S.view store.old) → (S.view store.old).shape 0 ≡ kinds.Table }
     requires reals { IsClean (S.view store.old) → (S.view store.old).reals 0 ≡ 0 }
     requires keepable { All IsKeepable changes.now }
-    ensures ok { IsClean (S.view store.new) → OnOk result (Puts (S.view store.old) (S.view store.new) (pairs_of changes.now)) }
+    ensures ok { IsClean (S.view store.new) → OnOk result
+        (Puts (S.view store.old) (S.view store.new) (pairs_of changes.now)) }
     ensures cause { IsClean (S.view store.new) → IfErr result
         (IsRowCause (IsTrue (S.view store.old).is_broken) ⊥ (S.faults store.old) (S.faults store.new)) }
     ensures calm { IsCalm S.view S.faults S.recovers store.old store.new }
