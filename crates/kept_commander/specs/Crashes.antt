@@ -31,7 +31,8 @@ IsMade event sent ends next =
     (commander : CommanderState) × MayMake event sent ends.commander commander
     × (next ≡ ends_with ends commander sent)
 
--- A reply is lost, or is the answer at this position of all that the device sent back, to the last command, and is taken.
+-- A reply is lost, or is the answer at this position of all that the device sent back, to the last command, and is
+-- taken.
 abbrev pub IsAccepted : {M : Type 0} → List ℕ → BothEnds M → BothEnds M → Type 0
 IsAccepted reply ends next =
     (next ≡ ends) ⊎ ((position : ℕ) × (slice_get ends.back position ≡ Some (ends.commander.last_number, reply))

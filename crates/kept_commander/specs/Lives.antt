@@ -60,8 +60,8 @@ Makes (Accept reply) sent serves before after = IsTrue serves × (after ≡ afte
 Makes Abandon sent serves before after = IsTrue serves × (after ≡ abandoned before)
 Makes Restart sent serves before after = ⊤
 
--- An event, from a client that serves or not and what is kept, to the same. If the client serves after it, the event did
--- not fail. If it failed, it may have been done or not.
+-- An event, from a client that serves or not and what it keeps, to the same. If the client serves after it, the event
+-- did not fail. If it failed, it may have been done or not.
 pub record IsStep (event : CommandEvent) (sent : Option Sent) (serves : Bool) (before : CommanderState)
     (serves_after : Bool) (after : CommanderState) : Type 0 where
   pub may : MayMake event sent before after

@@ -14,8 +14,8 @@ use cip_commander::{CommandOutcome, CommandRefused, Commander};
 
 /// A commander, and the keeper that has it over a crash.
 ///
-/// It hands out a message only when the command is kept. If the storage fails, it hands out nothing and takes no command
-/// until the next start.
+/// It hands out a message only when the command is kept. If the storage fails, it hands out nothing and takes no
+/// command until the next start.
 #[derive(Drop)]
 pub struct KeptCommander<K: CommandKeeper + Drop> {
     commander: Commander,
