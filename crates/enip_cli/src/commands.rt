@@ -45,8 +45,6 @@ static COMMANDS: [Row; 11] = [
             Argument::IdleTimeout,
             Argument::Discovery,
             Argument::Log,
-            Argument::Keep,
-            Argument::AcceptOlder,
         ],
     },
     Row {
@@ -55,7 +53,7 @@ static COMMANDS: [Row; 11] = [
         usage: None,
         examples: EXAMPLES_CHECK,
         details: DETAILS_CHECK,
-        arguments: &[Argument::Config, Argument::KeptFile],
+        arguments: &[Argument::Config],
     },
     Row {
         name: "get",

@@ -74,7 +74,7 @@ impl LockedFile {
 }
 
 /// A name with all its symbolic links resolved. If there is no such file, the name itself.
-pub(crate) fn resolved(alloc: Global, name: &[u8]) -> Result<Vec<u8>, AllocError> {
+fn resolved(alloc: Global, name: &[u8]) -> Result<Vec<u8>, AllocError> {
     let mut path = [0; libc::PATH_MAX];
     let found = os::realpath(name, &mut path) == 0;
     let mut resolved = Vec::new(alloc);
@@ -86,11 +86,7 @@ pub(crate) fn resolved(alloc: Global, name: &[u8]) -> Result<Vec<u8>, AllocError
     Ok(resolved)
 }
 
-pub(crate) fn with_suffix(
-    alloc: Global,
-    name: &[u8],
-    suffix: &[u8],
-) -> Result<Vec<u8>, AllocError> {
+fn with_suffix(alloc: Global, name: &[u8], suffix: &[u8]) -> Result<Vec<u8>, AllocError> {
     let mut longer = Vec::new(alloc);
     longer.extend_from_slice(name)?;
     longer.extend_from_slice(suffix)?;
@@ -98,7 +94,7 @@ pub(crate) fn with_suffix(
 }
 
 /// The folder that a file is in.
-pub(crate) fn folder_of(name: &[u8]) -> &[u8] {
+fn folder_of(name: &[u8]) -> &[u8] {
     match name.iter().rposition(|byte| *byte == b'/') {
         None => b".",
         Some(0) => b"/",

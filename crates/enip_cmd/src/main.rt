@@ -27,7 +27,6 @@ pub mod report;
 mod request;
 mod retry;
 pub mod serve;
-mod serving;
 pub mod show;
 pub mod socket;
 mod wire;
@@ -40,7 +39,7 @@ use clap::error::ErrorKind;
 use enip_adapter::Adapter;
 use enip_cli::{OsArg, PROGRAM, arguments_after, os_args, program, reserve_streams};
 use enip_client::ListCommand;
-use enip_server::{NO_IDLE_TIMEOUT, Peers};
+use enip_server::NO_IDLE_TIMEOUT;
 use error_keeping::ErrorKeeping;
 use fault::Fault;
 use frame_log::FrameLog;
@@ -55,7 +54,7 @@ use reason::{CLOCK, CommandError, Reason};
 use replay::{draw, replay};
 use report::Reported;
 use request::{Device, Request, run_request};
-use serve::{Sockets, serve_connections};
+use serve::{ServeOptions, Sockets, serve_connections};
 use show::show;
 use std::io;
 use std::net::TcpListener;
@@ -303,19 +302,21 @@ fn run_serve<'a>(
     let address = HostPort::parse(matches.get_str("ADDRESS").unwrap_or(""))?;
     let sockets = bind(rt, address, matches.get_flag("discovery"))?;
     print_listening(rt, &sockets).map_err(|error| CommandError::of_system(ERRORS, error))?;
-    let alloc = rt.alloc();
+    let options = ServeOptions {
+        count,
+        idle_timeout,
+    };
     let served = if matches.get_flag("log") {
         let start = Instant::now(rt).map_err(|error| CommandError::of_system(CLOCK, error))?;
-        let log = FrameLog::new(rt, alloc, start);
-        let peers = Peers::new(alloc, adapter, idle_timeout)?;
-        serve_connections(rt, alloc, sockets, peers, count, &log)
+        let log = FrameLog::new(rt, rt.alloc(), start);
+        serve_connections(rt, rt.alloc(), sockets, adapter, options, &log)
     } else {
-        let peers = Peers::new(alloc, adapter, idle_timeout)?;
-        serve_connections(rt, alloc, sockets, peers, count, NoObserver)
+        serve_connections(rt, rt.alloc(), sockets, adapter, options, NoObserver)
     };
     match served {
         Ok(()) => Ok(0),
-        Err(fault) => Err(serve_error(address, fault)),
+        Err(enip_commands::ProgramFault::Memory) => Err(CommandError::of_memory()),
+        Err(_) => Err(CommandError::of_reason(Reason::Failed(address.text()))),
     }
 }
 

@@ -4,17 +4,18 @@
 //! may be ready has one turn, and one connection is accepted. All of a round has the same time, in microseconds since
 //! the start.
 
-ghost use Rattle.std.specs.Prelude.{◌≡◌, ◌≤◌, ◌<◌, ◌⊎◌, ◌↔◌, Some, IfSome, IsSomeAnd, IsTrue};
+ghost use Rattle.std.specs.Prelude.{◌≡◌, ◌≤◌, ◌<◌, ◌⊎◌, ◌↔◌, Some, IfSome, IsSomeAnd, IfErr, IsTrue};
+ghost use Rattle.enip_commands.specs.Statuses.{IsOfDevices};
 
 use crate::acceptor::Acceptor;
 use crate::discovery::Discovery;
 use crate::observer::Observer;
-use crate::serving::{ServeFault, Serving};
-use enip_server::RoundEnd;
+use enip_adapter::Adapter;
+use enip_commands::ProgramFault;
+use enip_server::{Peers, RoundEnd};
 use mio::net::{TcpListener, TcpStream, UdpSocket};
 use mio::{Events, Interest, Poll, Token};
 use std::alloc::Global;
-use std::io;
 use std::net::Net;
 use std::rt::Clock;
 use std::time::{Duration, Instant};
@@ -39,21 +40,34 @@ pub(crate) struct Sockets {
     pub(crate) datagrams: Option<UdpSocket>,
 }
 
-/// Serves `count` connections, until they have come and gone. A connection that fails ends only itself.
-pub(crate) fn serve_connections<R: Clock + Net, O: Observer + Drop, S: Serving<O::Wire> + Drop>(
+/// How a device is served.
+#[derive(Clone, Copy)]
+pub(crate) struct ServeOptions {
+    /// After how many connections to return.
+    pub(crate) count: u64,
+    /// How long a peer may be silent, in microseconds.
+    pub(crate) idle_timeout: u64,
+}
+
+/// Serves connections until as many as the options say have come and gone. A connection that fails ends only itself.
+pub(crate) fn serve_connections<R: Clock + Net, O: Observer + Drop>(
     rt: &R,
     alloc: Global,
     sockets: Sockets,
-    serving: S,
-    count: u64,
+    adapter: Adapter,
+    options: ServeOptions,
     observer: O,
-) -> Result<(), ServeFault> {
-    let mut server = Server::new(rt, alloc, serving, count, observer)?;
+) -> Result<(), ProgramFault>
+    ensures { IfErr result IsOfDevices }
+{
+    let mut server = Server::new(rt, alloc, adapter, options, observer)?;
     server.run(rt, alloc, sockets)
 }
 
 /// The microseconds since `start`.
-fn microseconds_since<C: Clock>(clock: &C, start: Instant) -> io::Result<u64> {
+fn microseconds_since<C: Clock>(clock: &C, start: Instant) -> Result<u64, ProgramFault>
+    ensures { IfErr result IsOfDevices }
+{
     let elapsed = start.elapsed(clock)?;
     Ok(u64::try_from(elapsed.as_micros()).unwrap_or(u64::MAX))
 }
@@ -83,7 +97,9 @@ struct System {
 
 impl System {
     /// A poll without sockets.
-    fn new<R: Clock + Net>(rt: &R, alloc: Global) -> io::Result<System> {
+    fn new<R: Clock + Net>(rt: &R, alloc: Global) -> Result<System, ProgramFault>
+        ensures { IfErr result IsOfDevices }
+    {
         let start = Instant::now(rt)?;
         let poll = Poll::new(rt)?;
         let events = Events::with_capacity(alloc, EVENT_CAPACITY)?;
@@ -97,12 +113,12 @@ impl System {
 
 /// The peers and the sockets of a served device.
 #[derive(Drop)]
-struct Server<O: Observer + Drop, S: Serving<O::Wire> + Drop> {
+struct Server<O: Observer + Drop> {
     system: System,
     /// `None` before the sockets are open, and once all connections were accepted.
     acceptor: Option<Acceptor>,
     discovery: Option<Discovery>,
-    peers: S,
+    peers: Peers<O::Wire>,
     observer: O,
     /// The end of the last round. `ready` is set if a peer was added since.
     last_round: RoundEnd,
@@ -116,16 +132,19 @@ struct Server<O: Observer + Drop, S: Serving<O::Wire> + Drop> {
     rounds_deferred: u32,
 }
 
-impl<O: Observer + Drop, S: Serving<O::Wire> + Drop> Server<O, S> {
+impl<O: Observer + Drop> Server<O> {
     /// A server without sockets and peers.
     fn new<R: Clock + Net>(
         rt: &R,
         alloc: Global,
-        peers: S,
-        count: u64,
+        adapter: Adapter,
+        options: ServeOptions,
         observer: O,
-    ) -> io::Result<Server<O, S>> {
+    ) -> Result<Server<O>, ProgramFault>
+        ensures { IfErr result IsOfDevices }
+    {
         let system = System::new(rt, alloc)?;
+        let peers = Peers::new(alloc, adapter, options.idle_timeout)?;
         let last_round = RoundEnd {
             ended: 0,
             ready: false,
@@ -138,7 +157,7 @@ impl<O: Observer + Drop, S: Serving<O::Wire> + Drop> Server<O, S> {
             peers,
             observer,
             last_round,
-            count,
+            count: options.count,
             accepted: 0,
             ended: 0,
             rounds_deferred: 0,
@@ -146,7 +165,9 @@ impl<O: Observer + Drop, S: Serving<O::Wire> + Drop> Server<O, S> {
     }
 
     /// Takes over the sockets. The system reports them from now on.
-    fn open(&mut self, alloc: Global, sockets: Sockets) -> io::Result<()> {
+    fn open(&mut self, alloc: Global, sockets: Sockets) -> Result<(), ProgramFault>
+        ensures { IfErr result IsOfDevices }
+    {
         let Sockets {
             listener,
             datagrams,
@@ -159,7 +180,9 @@ impl<O: Observer + Drop, S: Serving<O::Wire> + Drop> Server<O, S> {
     }
 
     /// Accepts connections from a listener.
-    fn listen(&mut self, mut listener: TcpListener) -> io::Result<()> {
+    fn listen(&mut self, mut listener: TcpListener) -> Result<(), ProgramFault>
+        ensures { IfErr result IsOfDevices }
+    {
         let registry = self.system.poll.registry();
         registry.register(&mut listener, Token(LISTENER), Interest::READABLE)?;
         self.acceptor = Some(Acceptor::new(listener));
@@ -167,7 +190,9 @@ impl<O: Observer + Drop, S: Serving<O::Wire> + Drop> Server<O, S> {
     }
 
     /// Answers datagrams from a socket.
-    fn answer_datagrams(&mut self, alloc: Global, mut socket: UdpSocket) -> io::Result<()> {
+    fn answer_datagrams(&mut self, alloc: Global, mut socket: UdpSocket) -> Result<(), ProgramFault>
+        ensures { IfErr result IsOfDevices }
+    {
         let registry = self.system.poll.registry();
         registry.register(&mut socket, Token(DATAGRAMS), Interest::READABLE)?;
         self.discovery = Some(Discovery::new(alloc, socket)?);
@@ -180,7 +205,9 @@ impl<O: Observer + Drop, S: Serving<O::Wire> + Drop> Server<O, S> {
         clock: &C,
         alloc: Global,
         sockets: Sockets,
-    ) -> Result<(), ServeFault> {
+    ) -> Result<(), ProgramFault>
+        ensures { IfErr result IsOfDevices }
+    {
         self.open(alloc, sockets)?;
         let mut now = 0;
         for _ in 0..u64::MAX {
@@ -189,7 +216,7 @@ impl<O: Observer + Drop, S: Serving<O::Wire> + Drop> Server<O, S> {
             }
             self.wait(now)?;
             now = microseconds_since(clock, self.system.start)?;
-            self.round(now)?;
+            self.round(now);
         }
         Ok(())
     }
@@ -202,7 +229,9 @@ impl<O: Observer + Drop, S: Serving<O::Wire> + Drop> Server<O, S> {
     }
 
     /// Waits until a socket may be ready or a time limit is reached. `now` is the time of the last round.
-    fn wait(&mut self, now: u64) -> io::Result<()> {
+    fn wait(&mut self, now: u64) -> Result<(), ProgramFault>
+        ensures { IfErr result IsOfDevices }
+    {
         let timeout = self.timeout(now);
         self.system.poll.poll(&mut self.system.events, timeout)?;
         for event in &self.system.events {
@@ -245,11 +274,11 @@ impl<O: Observer + Drop, S: Serving<O::Wire> + Drop> Server<O, S> {
     }
 
     /// One round: answers a datagram, gives each peer that may be ready a turn, and accepts a connection.
-    fn round(&mut self, now: u64) -> Result<(), ServeFault> {
+    fn round(&mut self, now: u64) {
         if let Some(discovery) = &mut self.discovery {
             discovery.answer_one(&self.peers, &self.observer, now);
         }
-        self.last_round = self.peers.round(now).map_err(ServeFault::Keep)?;
+        self.last_round = self.peers.round(now);
         if self.last_round.ended > 0 {
             self.ended = self.ended.saturating_add(self.last_round.ended as u64);
             if let Some(acceptor) = &mut self.acceptor {
@@ -257,7 +286,6 @@ impl<O: Observer + Drop, S: Serving<O::Wire> + Drop> Server<O, S> {
             }
         }
         self.accept_one(now);
-        Ok(())
     }
 
     /// Accepts the next connection, if there is one. If it cannot become a peer it is closed at once.
@@ -318,7 +346,7 @@ impl<O: Observer + Drop, S: Serving<O::Wire> + Drop> Server<O, S> {
         let Some(wire) = self.observer.wire(stream) else {
             return false;
         };
-        if !self.peers.add(now, wire) {
+        if self.peers.add(now, wire).is_err() {
             return false;
         }
         self.last_round.ready = true;
