@@ -50,6 +50,19 @@ pub fn exists(name: &[u8]) -> bool {
     File::open(name).is_ok()
 }
 
+/// Whether there is a file of this name. It can be read and written.
+///
+/// # Errors
+///
+/// That of the system, if there is something of this name that cannot be read and written.
+pub fn can_update(name: &[u8]) -> io::Result<bool> {
+    match File::open_to_update(name) {
+        Ok(_) => Ok(true),
+        Err(error) if error.kind() == ErrorKind::NotFound => Ok(false),
+        Err(error) => Err(error),
+    }
+}
+
 /// The descriptors of the standard streams are below this one.
 const FIRST_FREE: i32 = 3;
 
