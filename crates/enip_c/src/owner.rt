@@ -16,7 +16,7 @@ use crate::buffer::copy_front;
 use crate::kept_adapter::KeptAdapter;
 use crate::status::Status;
 use cip_bytes::protocol::GeneralStatus;
-use cip_owner::{OwnRequest, OwnerReply};
+use cip_owner::{OWNER_REPLY_LIMIT, OwnRequest, OwnerReply};
 use enip_adapter::{Adapter, LONGEST_ANSWER, Peer};
 use std::alloc::Global;
 
@@ -129,25 +129,23 @@ pub extern "C" fn enip_core_adapter_feed_prepared(
     if buffer.len() < LONGEST_ANSWER {
         return Status::Room.number();
     }
-    let Some(reply) = fit_reply(general, content, limit) else {
+    if is_unfit(general, content, limit) {
         return Status::Misuse.number();
-    };
+    }
     let mut adapter = kept.take(alloc);
-    *fed = feed_prepared(&mut adapter, now, peer, piece, reply, buffer);
+    *fed = feed_prepared(&mut adapter, now, peer, piece, general, content, buffer);
     *kept = KeptAdapter::of(adapter);
     Status::Done.number()
 }
 
-/// A reply of the owner to a request that allows `limit` bytes. `None` if it cannot be given.
-fn fit_reply(general: u8, content: &[u8], limit: u16) -> Option<OwnerReply>
-    ensures fit { IfSome result (λ r. r ≡ record { status = general; content = content.now }) }
-    ensures given { IfSome result (λ r. is_unfit limit r ≡ false) }
-    ensures refused { IfNone result (is_unfit limit (record { status = general; content = content.now }) ≡ true) }
+/// Whether a reply of the owner cannot be given to a request that allows `limit` bytes.
+fn is_unfit(general: u8, content: &[u8], limit: u16) -> bool
+    ensures refused { result ≡ is_unfit limit (record { status = general; content = content.now }) }
+    ensures short { result ≡ false → length content.now ≤ OWNER_REPLY_LIMIT }
 {
-    if general == GeneralStatus::ReplyDataTooLarge.number() || content.len() > usize::from(limit) {
-        return None;
-    }
-    OwnerReply::new(general, content)
+    general == GeneralStatus::ReplyDataTooLarge.number()
+        || content.len() > usize::from(limit)
+        || content.len() > OWNER_REPLY_LIMIT
 }
 
 fn feed_prepared(
@@ -155,14 +153,19 @@ fn feed_prepared(
     now: u64,
     peer: u32,
     piece: &[u8],
-    reply: OwnerReply,
+    general: u8,
+    content: &[u8],
     buffer: &mut [u8],
 ) -> Fed
-    requires { LONGEST_ANSWER ≤ length buffer.old }
-    ensures { IsFedPrepared adapter.old adapter.new now peer piece.now reply buffer.old buffer.new result }
+    requires buffer { LONGEST_ANSWER ≤ length buffer.old }
+    requires short { length content.now ≤ OWNER_REPLY_LIMIT }
+    ensures { IsFedPrepared adapter.old adapter.new now peer piece.now
+        (record { status = general; content = content.now }) buffer.old buffer.new result }
 {
+    // The reply is some 500 bytes, and is not moved more than it must be.
+    let reply = OwnerReply::new(general, content);
     return_fed(
-        adapter.feed_prepared(now, &Peer::of(peer), piece, Some(reply)),
+        adapter.feed_prepared(now, &Peer::of(peer), piece, reply),
         buffer,
     )
 }

@@ -3,6 +3,7 @@ use Rattle.std.proofs.Common.{◌≡◌, ◌⊎◌, inl, inr, Bool, true, false,
 use Rattle.enip_keep.specs.declared.lives.Event.{Event}
 use Rattle.enip_keep.specs.declared.lives.Event.TheVariants.{Round, Restart}
 use Rattle.enip_keep.specs.Kept.{Kept}
+use Rattle.enip_keep.specs.LivesLaws.{HasItsStep}
 use Rattle.enip_keep.specs.Lives.{Step, Executed, Restarted, after, IsStepOf, AreStepsOf, AreAfter, IsKeptAfter, Makes}
 
 -- as many, with one more each
@@ -94,3 +95,21 @@ module _ {Input Contents Requests Configuration : Type 0} (brings : Input → Re
       left_by_failed es ws e first k n (found k may)
   left_after es ws e false IsServed MayFind first now k n served found made settled (inr by) =
       kept_of (es ++ e ∷ []) (ws ++ false ∷ []) first by.0 k (made_after es ws e false IsServed MayFind first by.0 n served found by.1) by.2
+
+module _ {Input Requests Configuration : Type 0} (brings : Input → Requests → Type 0) where
+  -- an event that went well has its step
+  pub has_its_step : (earlier later : List (Event Input Configuration)) (event : Event Input Configuration) (went went_later : List Bool)
+      (steps : List (Step Requests Configuration)) → length earlier ≡ length went
+      → AreStepsOf brings (earlier ++ event ∷ later) (went ++ true ∷ went_later) steps → HasItsStep brings earlier went event later went_later steps
+  has_its_step [] later event [] went_later steps n are = ([], are.0, are.1, are.2, are.3, refl, are.4)
+  has_its_step [] later event (w ∷ went) went_later steps n are = absurd cc
+  has_its_step (e ∷ earlier) later event [] went_later steps n are = absurd cc
+  has_its_step (e ∷ earlier) later event (true ∷ went) went_later steps n are =
+      let more = has_its_step earlier later event went went_later are.1 (omega (arith, n)) are.4 in
+      (are.0 ∷ more.0, more.1, more.2, are.2 ∙ ap (λ (xs : List (Step Requests Configuration)). are.0 ∷ xs) more.3, more.4, (are.0, more.0, refl, are.3, more.5), more.6)
+  has_its_step (e ∷ earlier) later event (false ∷ went) went_later steps n (inl are) =
+      let more = has_its_step earlier later event went went_later steps (omega (arith, n)) are in
+      (more.0, more.1, more.2, more.3, more.4, inl more.5, more.6)
+  has_its_step (e ∷ earlier) later event (false ∷ went) went_later steps n (inr are) =
+      let more = has_its_step earlier later event went went_later are.1 (omega (arith, n)) are.4 in
+      (are.0 ∷ more.0, more.1, more.2, are.2 ∙ ap (λ (xs : List (Step Requests Configuration)). are.0 ∷ xs) more.3, more.4, inr (are.0, more.0, refl, are.3, more.5), more.6)

@@ -16,7 +16,8 @@ pairs_of es = map pair_of es
 abbrev pub set : ℕ → List ℕ → Kept → Kept
 set key bytes [] = (key, bytes) ∷ []
 set key bytes (p ∷ rest) =
-    if p.0 == key then (key, bytes) ∷ rest else (if nat_lt key p.0 then (key, bytes) ∷ p ∷ rest else p ∷ set key bytes rest)
+    if p.0 == key then (key, bytes) ∷ rest
+    else (if nat_lt key p.0 then (key, bytes) ∷ p ∷ rest else p ∷ set key bytes rest)
 
 -- with these changes, the first of them first
 abbrev pub set_all : Kept → Kept → Kept

@@ -10,10 +10,10 @@ use std::alloc::Global;
 /// changed.
 ///
 /// What its rounds execute is `contents`: objects, and sessions and connections too. `kept_part` is what of these is
-/// kept, as entries, and `started` is what a start makes of the entries that are kept. Sessions are not among them, so a
-/// start finds none.
+/// kept, as entries, and `started` is what a start makes of the entries that are kept. Sessions are not among them, so
+/// a start finds none. [`Tally`](crate::Tally) is an example.
 pub trait Device {
-    /// What a device is made from, beside the entries that are kept.
+    /// What a device is made from, in addition to the entries that are kept.
     type Configuration;
 
     /// What a round gets: the time, for example, or the requests themselves.
@@ -41,7 +41,8 @@ pub trait Device {
 
     ghost contents: { Self → Contents };
 
-    // The entries that the device takes to be kept: those that it started from, with the changes up to the last release.
+    // The entries that the device takes to be kept: those that it started from, with the changes up to the last
+    // release.
     ghost known_kept: { Self → Kept };
 
     // Between these two states nothing left the device.

@@ -1,6 +1,7 @@
 //! A device whose state outlives power cuts: no answer leaves before what it reports is kept.
 //!
-//! A [`Server`] holds a [`Device`], which serves requests in rounds, and a [`Keeper`], which keeps entries over a crash.
+//! A [`Server`] holds a [`Device`], which serves requests in rounds, and a [`Keeper`], which keeps entries over a
+//! crash.
 //! A round has three steps:
 //!
 //! 1. The device serves its requests, and holds the answers back.
@@ -24,10 +25,12 @@
 mod device;
 mod entry;
 mod keeper;
+pub mod laws;
 mod lives;
 mod memory;
 mod numbered;
 mod server;
+mod tally;
 
 pub use device::Device;
 pub use entry::{Entry, KeepError};
@@ -36,3 +39,4 @@ pub use lives::{Event, live};
 pub use memory::MemoryKeeper;
 pub use numbered::{Numbered, RoundNote};
 pub use server::Server;
+pub use tally::Tally;

@@ -1,7 +1,7 @@
 //! Rounds, crashes and starts, in any order.
-ghost use Rattle.std.specs.Prelude.{◌≡◌, ◌⊎◌, ◌≤◌, ℕ, true, false, List, Bool, [], IsTrue, OnOk, ◌↔◌};
+ghost use Rattle.std.specs.Prelude.{◌≡◌, ◌⊎◌, ◌≤◌, [], IsTrue, OnOk, ◌↔◌};
 ghost use Rattle.enip_keep.specs.Kept.{Kept};
-ghost use Rattle.enip_keep.specs.Server.{IsReady, IsServed, IsKeptOfRound};
+ghost use Rattle.enip_keep.specs.Server.{IsReady};
 ghost use Rattle.enip_keep.specs.Lives.{AreAfter, IsKeptAfter, Makes};
 
 use crate::{Device, Restart, Server};
@@ -28,9 +28,11 @@ where
     requires serving { IsTrue server.old.is_serving }
     requires fresh { went.old.items ≡ [] }
     ensures kept { K.doubt server.new.keeper ≡ 0 → OnOk result ((c : Kept) → K.may_leave server.new.keeper c
-        → IsKeptAfter D.brings D.executed D.kept_part D.started events.items went.new.items (D.contents server.old.device) c) }
+        → IsKeptAfter D.brings D.executed D.kept_part D.started
+        events.items went.new.items (D.contents server.old.device) c) }
     ensures contents { K.doubt server.new.keeper ≡ 0 → OnOk result (IsTrue server.new.is_serving
-        → AreAfter D.brings D.executed D.kept_part D.started events.items went.new.items (D.contents server.old.device) (D.contents server.new.device)) }
+        → AreAfter D.brings D.executed D.kept_part D.started
+        events.items went.new.items (D.contents server.old.device) (D.contents server.new.device)) }
     ensures ready { IsReady K.doubt K.is_up K.kept D.contents D.known_kept D.kept_part server.new }
     ensures doubt { K.doubt server.old.keeper ≤ K.doubt server.new.keeper }
 {

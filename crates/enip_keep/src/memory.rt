@@ -1,5 +1,5 @@
 //! A keeper in memory.
-ghost use Rattle.std.specs.Prelude.{◌≡◌, ◌≤◌, ◌+◌, ◌++◌, ℕ, false, [], IfOk, OnOk, IsTrue, ◌↔◌, Some, None};
+ghost use Rattle.std.specs.Prelude.{◌≡◌, ◌≤◌, ◌+◌, ◌++◌, ℕ, false, [], IfOk, OnOk, IsTrue, ◌↔◌};
 ghost use Rattle.enip_keep.specs.Causes.{HasFailed};
 ghost use Rattle.enip_keep.specs.Kept.{pair_of, pairs_of, set, set_all};
 
@@ -58,7 +58,8 @@ impl MemoryKeeper {
         ensures entries { self.new.entries ≡ self.old.entries }
         ensures failed { IsTrue result → HasFailed self.old.faults self.new.faults }
         ensures faults { self.old.faults ≤ self.new.faults }
-        ensures counted { (calls : ℕ) → self.old.calls_left ≡ Some (calls + 1) → self.new ≡ record self.old { calls_left = Some calls } }
+        ensures counted { (calls : ℕ) → self.old.calls_left ≡ Some (calls + 1)
+            → self.new ≡ record self.old { calls_left = Some calls } }
         ensures sure { self.old.calls_left ≡ None → self.new ≡ self.old }
     {
         match self.calls_left {

@@ -1,5 +1,5 @@
 //! A server that releases the answers of a round once its changes are kept.
-ghost use Rattle.std.specs.Prelude.{◌≡◌, ◌⊎◌, ◌≤◌, ◌<◌, ◌^◌, ℕ, true, false, List, All, IsTrue, IfOk, IfErr, OnOk, OnErr};
+ghost use Rattle.std.specs.Prelude.{◌≡◌, ◌⊎◌, ◌≤◌, false, All, IsTrue, IfOk, IfErr, OnOk, OnErr};
 ghost use Rattle.enip_keep.specs.Causes.{IsCause, IsStartCause};
 ghost use Rattle.enip_keep.specs.Kept.{Kept, pairs_of, set_all, IsKeepable};
 ghost use Rattle.enip_keep.specs.Server.{IsKept, IsReady, IsServed, IsKeptOfRound};
@@ -68,8 +68,8 @@ impl<D: Device + Drop, K: Keeper + Drop> Server<D, K> {
     pub fn round(&mut self, input: D::Input) -> Result<(), KeepError>
         requires { IsReady K.doubt K.is_up K.kept D.contents D.known_kept D.kept_part self.old }
         ensures ready { IsReady K.doubt K.is_up K.kept D.contents D.known_kept D.kept_part self.new }
-        ensures served { OnOk result (IsServed D.brings D.contents D.executed D.holds_answers D.sends_nothing D.sends_held
-            input self.old.device self.new.device) }
+        ensures served { OnOk result (IsServed D.brings D.contents D.executed
+            D.holds_answers D.sends_nothing D.sends_held input self.old.device self.new.device) }
         ensures serving { OnOk result (IsTrue self.old.is_serving × IsTrue self.new.is_serving) }
         ensures durable { K.doubt self.new.keeper ≡ 0 → OnOk result ((c : Kept) → K.may_leave self.new.keeper c
             → c ≡ D.kept_part (D.contents self.new.device)) }
@@ -133,12 +133,14 @@ fn start_device<D: Device + Drop, K: Keeper + Drop>(
     configuration: &D::Configuration,
 ) -> Result<D, KeepError>
     requires { K.doubt keeper.old ≡ 0 → K.is_up keeper.old }
-    ensures contents { K.doubt keeper.new ≡ 0 → IfOk result (λ d. D.contents d ≡ D.started configuration.now (K.kept keeper.old)) }
-    ensures kept { K.doubt keeper.new ≡ 0 → IfOk result (λ d. IsKept (K.is_up keeper.new) (K.kept keeper.new) (D.known_kept d) (D.kept_part (D.contents d))) }
+    ensures contents { K.doubt keeper.new ≡ 0 → IfOk result (λ d.
+        D.contents d ≡ D.started configuration.now (K.kept keeper.old)) }
+    ensures kept { K.doubt keeper.new ≡ 0 → IfOk result (λ d.
+        IsKept (K.is_up keeper.new) (K.kept keeper.new) (D.known_kept d) (D.kept_part (D.contents d))) }
     ensures crash { K.doubt keeper.new ≡ 0 → (c : Kept) → K.may_leave keeper.new c
         → K.may_leave keeper.old c ⊎ (c ≡ D.kept_part (D.started configuration.now (K.kept keeper.old))) }
-    ensures cause { K.doubt keeper.new ≡ 0 → IfErr result (IsStartCause (D.refuses configuration.now (K.kept keeper.old))
-        (K.faults keeper.old) (K.faults keeper.new)) }
+    ensures cause { K.doubt keeper.new ≡ 0 → IfErr result (IsStartCause
+        (D.refuses configuration.now (K.kept keeper.old)) (K.faults keeper.old) (K.faults keeper.new)) }
     ensures doubt { K.doubt keeper.old ≤ K.doubt keeper.new }
     ensures faults { K.faults keeper.old ≤ K.faults keeper.new }
 {

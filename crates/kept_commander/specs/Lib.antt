@@ -2,3 +2,4 @@ pub mod Kept
 pub mod Calls
 pub mod Lives
 pub mod Memory
+pub mod Crashes

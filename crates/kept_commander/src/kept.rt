@@ -35,6 +35,8 @@ impl<K: CommandKeeper + Drop> KeptCommander<K> {
         ensures ready { IfOk result (IsReady K.doubt K.is_up K.kept) }
         ensures serving { IfOk result (λ k. IsTrue k.is_serving) }
         ensures loaded { IfOk result (λ k. K.doubt k.keeper ≡ 0 → k.commander ≡ K.kept keeper) }
+        ensures cause { IfErr result (λ e. (e ≡ Storage) × ((failed : K) × (K.doubt failed ≡ 0
+            → HasFailed (K.faults keeper) (K.faults failed)))) }
         ensures doubt { IfOk result (λ k. K.doubt keeper ≤ K.doubt k.keeper) }
     {
         let commander = keeper.load()?;
@@ -55,6 +57,8 @@ impl<K: CommandKeeper + Drop> KeptCommander<K> {
         ensures ready { IfOk result (IsReady K.doubt K.is_up K.kept) }
         ensures serving { IfOk result (λ k. IsTrue k.is_serving) }
         ensures created { IfOk result (λ k. k.commander ≡ commander) }
+        ensures cause { IfErr result (λ e. (e ≡ Storage) × ((failed : K) × (K.doubt failed ≡ 0
+            → HasFailed (K.faults keeper) (K.faults failed)))) }
         ensures doubt { IfOk result (λ k. K.doubt keeper ≤ K.doubt k.keeper) }
     {
         keeper.replace(&commander)?;

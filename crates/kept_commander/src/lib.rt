@@ -22,6 +22,7 @@
 mod fault;
 mod keeper;
 mod kept;
+pub mod laws;
 mod lives;
 mod memory;
 

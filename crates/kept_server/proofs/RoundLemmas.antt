@@ -1,16 +1,15 @@
 -- Rounds of peers whose wires hold back what is written to them.
-use Rattle.std.proofs.Common.{◌≡◌, ◌≢◌, ◌+◌, ℕ, zero, suc, List, [], ◌∷◌, ◌++◌, slice_get, slice_set, Bool, true, false, eqb}
+use Rattle.std.proofs.Common.{◌≡◌, ◌≢◌, ℕ, List, [], ◌∷◌, ◌++◌, slice_get, slice_set, Bool, true, false, eqb}
 use Rattle.std.proofs.Common.{Option, Some, None, Result, Ok, Err, inl, inr, refl, sym, ap, subst, ◌∙◌}
 use Rattle.std.proofs.lemmas.Bool.{eqb-true, eqb-false}
-use Rattle.cip_owner.specs.declared.owner.NoOwner.{NoOwner}
 use Rattle.enip_adapter.specs.declared.adapter.Full.{Full}
-use Rattle.enip_adapter.specs.Calls.{AdapterState, Call, after_call}
+use Rattle.enip_adapter.specs.Calls.{AdapterState, Call}
 use Rattle.enip_adapter.specs.Calls.Call.{Begins_peer}
 use Rattle.enip_adapter.specs.Runs.{after_calls}
 use Rattle.enip_server.specs.declared.held_wire.HeldWire.{HeldWire}
 use Rattle.enip_server.specs.declared.peer_io.PeerIo.{PeerIo}
 use Rattle.enip_server.specs.Held.{held_known, held_written}
-use Rattle.enip_server.specs.Rounds.{ServerState, IsRound, IsAdded, marked_ready, marked_ready_in, marked_ready_at, new_peer_io}
+use Rattle.enip_server.specs.Rounds.{ServerState, IsAdded, marked_ready, marked_ready_in, marked_ready_at, new_peer_io}
 use Rattle.enip_server.specs.Rounds.{nobody, no_answer, same_nobody, ended_in, next_moment}
 use Rattle.enip_server.specs.declared.peers.RoundEnd.{RoundEnd}
 use Rattle.enip_server.specs.Transfers.{AreAsked}
@@ -46,7 +45,7 @@ module _ {W : Type 0} where
 
   keeps_added : (old new : ServerState (HeldWire W)) (now : ℕ) (wire : HeldWire W) (result : Result ℕ Full)
       → IsAdded now wire old new result → KeepsWires old new
-  keeps_added old new now wire (Ok free) is slot io there =
+  keeps_added old new now wire (Ok free) is = λ slot io there.
       let elsewhere : free ≢ slot = free_elsewhere old.slots free slot io is.1 there in (
         io,
         ap (λ (p : ServerState (HeldWire W)). slice_get p.slots slot) is.3

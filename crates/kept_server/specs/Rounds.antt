@@ -1,7 +1,7 @@
 -- Rounds of peers whose wires hold back what is written to them, and what is kept of a device in them.
 use Rattle.std.specs.Prelude.{ℕ, ◌≡◌, List, [], ◌∷◌, false, Option, Some, None, Result, slice_get}
+use Rattle.std.proofs.Common.{sym, ap, ◌∙◌}
 use Rattle.std.specs.List.{list_any}
-use Rattle.cip_owner.specs.declared.owner.NoOwner.{NoOwner}
 use Rattle.enip_adapter.specs.declared.adapter.Full.{Full}
 use Rattle.enip_adapter.specs.Calls.{AdapterState, Call}
 use Rattle.enip_adapter.specs.Runs.{after_calls}
@@ -38,6 +38,18 @@ abbrev pub SendsNothing : {W : Type 0} → (W → Option (List ℕ)) → ServerS
 SendsNothing {W} written old new =
     (slot : ℕ) (io after : PeerIo (HeldWire W)) → slice_get old.slots slot ≡ Some (Some io)
     → slice_get new.slots slot ≡ Some (Some after) → written after.wire.wire ≡ written io.wire.wire
+
+-- What was written to the wire inside of a peer, if there is one.
+abbrev pub written_inside : {W : Type 0} → (W → Option (List ℕ)) → Option (Option (PeerIo (HeldWire W)))
+    → Option (List ℕ)
+written_inside written None = None
+written_inside written (Some None) = None
+written_inside written (Some (Some io)) = written io.wire.wire
+
+-- If nothing is done, nothing is sent.
+pub nothing_by_itself : {W : Type 0} (written : W → Option (List ℕ)) (p : ServerState (HeldWire W))
+    → SendsNothing written p p
+nothing_by_itself written p slot io after there stays = ap (written_inside written) (sym stays ∙ there)
 
 -- Each peer stays, with its wire as it is.
 abbrev pub KeepsWires : {W : Type 0} → ServerState (HeldWire W) → ServerState (HeldWire W) → Type 0

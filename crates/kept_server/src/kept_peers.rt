@@ -5,7 +5,7 @@ ghost use Rattle.enip_keep.specs.Kept.{Kept, pairs_of};
 ghost use Rattle.enip_server.specs.Rounds.{state_of};
 ghost use Rattle.kept_server.specs.Changes.{keys_of, known, saved};
 ghost use Rattle.kept_server.specs.Rounds.{DeviceContents, RoundRequests, SendsHeld, SendsNothing, TakesRound};
-ghost use Rattle.kept_server.specs.Rounds.{after_round, contents_with, kept_of};
+ghost use Rattle.kept_server.specs.Rounds.{after_round, contents_with, kept_of, nothing_by_itself};
 
 use crate::changes::copy_all;
 use crate::kept_device::KeptDevice;
@@ -125,5 +125,5 @@ impl<W: Wire + Drop, C: KeptDevice> Device for KeptPeers<W, C> {
         self.last_round.ready = self.peers.release();
     }
 
-    ghost silent = { ? };
+    ghost silent = { λ d. nothing_by_itself W.written (state_of d.peers) };
 }

@@ -16,6 +16,8 @@ mod client;
 #[cfg(test)]
 mod commands;
 #[cfg(test)]
+mod keep;
+#[cfg(test)]
 mod server;
 #[cfg(test)]
 mod states;

@@ -116,7 +116,7 @@ fn the_last_of_each_is_taken(rt: HostRuntime) {
 fn a_reply_that_is_not_done_keeps_the_command(rt: HostRuntime) {
     let mut commander = commander(4);
     assert!(rt; commander.command(&ADD_ONE).is_ok());
-    let rows: [(&[u8], CommandOutcome<'_>); 20] = [
+    let rows: [(&[u8], CommandOutcome<'_>); 22] = [
         (b"\xcb\0\x02\0", CommandOutcome::Refused(0x02)),
         (b"\xcb\0\x05\0", CommandOutcome::Refused(0x05)),
         (b"\xcb\0\x08\0", CommandOutcome::Refused(0x08)),

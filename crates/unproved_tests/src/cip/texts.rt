@@ -7,6 +7,7 @@ use cip_class3::Refused;
 use cip_commander::CommandRefused;
 use cip_message::{LengthFault, PathFault, ReplyFault, RequestFault};
 use cip_objects::ConfigFault;
+use kept_commander::{KeptCommandError, StorageFailed};
 use std::test::Fail;
 
 #[test]
@@ -129,6 +130,20 @@ fn of_cip_commander(rt: HostRuntime) -> Result<(), Fail> {
         ),
     ];
     check_texts(&rt, rt.alloc(), &rows)
+}
+
+#[test]
+fn of_kept_commander(rt: HostRuntime) -> Result<(), Fail> {
+    let rows = [
+        (
+            KeptCommandError::Refused(CommandRefused::Pending),
+            "another command is pending",
+        ),
+        (KeptCommandError::Storage, "the storage failed"),
+        (KeptCommandError::Stopped, "stopped by an earlier failure"),
+    ];
+    check_texts(&rt, rt.alloc(), &rows)?;
+    check_texts(&rt, rt.alloc(), &[(StorageFailed, "the storage failed")])
 }
 
 #[test]

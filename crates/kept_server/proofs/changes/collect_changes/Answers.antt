@@ -1,4 +1,4 @@
-use Rattle.std.proofs.Common.{◌≡◌, ◌<◌, ◌+◌, ℕ, [], length, take, List, refl, sym, ap, ◌∙◌, subst, arith, take_all}
+use Rattle.std.proofs.Common.{◌≡◌, ◌<◌, ◌+◌, ℕ, [], length, take, List, sym, ap, ◌∙◌, subst, arith, take_all}
 use Rattle.std.specs.Global.{Vec}
 use Rattle.enip_keep.specs.declared.entry.Entry.{Entry}
 use Rattle.enip_keep.specs.Kept.{Kept, pairs_of}
