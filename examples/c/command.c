@@ -209,6 +209,8 @@ static int send_pending(void) {
     check("answer", enip_once_receive(once, reply, heard.reply, embedded, sizeof embedded, &outcome));
     if (outcome.kind == ENIP_ONCE_REFUSED)
         fail_with("the device refused the command", ENIP_OF_GENERAL, outcome.general);
+    if (outcome.kind == ENIP_ONCE_IN_DOUBT)
+        fail(path, "the device does not know whether it executed the command, and its owner has to settle that");
     if (outcome.kind != ENIP_ONCE_DONE)
         return 0;
     print_hex(stdout, embedded, outcome.reply);

@@ -35,7 +35,7 @@ OF_CALL, OF_NO_REPLY, OF_GENERAL, OF_EXTENDED = range(4)
 OK, ABSENT, FAILED, TOO_LONG, MALFORMED = 0, 7, 9, 11, 12
 GET_ATTRIBUTE_SINGLE, SET_ATTRIBUTE_SINGLE = 0x0E, 0x10
 MESSAGE_ROOM = 504
-ONCE_DONE, ONCE_REFUSED = 1, 3
+ONCE_DONE, ONCE_REFUSED, ONCE_IN_DOUBT = 1, 3, 5
 LEDGER, UNKNOWN_CLASS = 0x65, 0x05
 
 
@@ -412,6 +412,8 @@ class Commander:
         check(library.enip_once_receive(self._once, answer, len(answer), reply, len(answer), ctypes.byref(outcome)))
         if outcome.kind == ONCE_REFUSED:
             raise EnipError("the device refused the command: " + text_of(OF_GENERAL, outcome.general))
+        if outcome.kind == ONCE_IN_DOUBT:
+            raise EnipError("the device does not know whether it executed the command: its owner has to settle that")
         if outcome.kind != ONCE_DONE:
             return None
         self._store(self._life, self.number, None)

@@ -1,5 +1,5 @@
 -- The ledger that is put back.
-use Rattle.std.proofs.Common.{◌≡◌, ℕ, suc, ◌+◌, ◌^◌, ◌<◌, ◌≤◌, ◌≡◌, eqb, nat_lt, false, cond, ◌||◌, List, [], ◌∷◌, ◌++◌, length, append_assoc, Option, Some, None, sym, ap, ◌∙◌, arith}
+use Rattle.std.proofs.Common.{◌≡◌, ℕ, suc, ◌+◌, ◌^◌, ◌<◌, ◌≤◌, ◌≡◌, eqb, nat_lt, false, cond, List, [], ◌∷◌, ◌++◌, length, append_assoc, Option, Some, None, sym, ap, ◌∙◌, arith}
 use Rattle.std.proofs.lemmas.Bool.Decides.{nat_tests}
 use Rattle.std.proofs.lemmas.List.{append-nil, length-append}
 use Rattle.byteorder.specs.Numbers.{little_number-reads_back}
@@ -33,16 +33,27 @@ life_put m slots old life h =
 long : (n : ℕ) → nat_lt (13 + n) 13 ≡ false
 long n = grind (arith, nat_tests)
 
+abbrev slot_of : ℕ → ℕ → Option (List ℕ) → SlotState
+slot_of originator number reply = record { originator = originator; number = number; reply = reply }
+
+slot_back_by : (o n : ℕ) (reply : Option (List ℕ)) → o < 2 ^ 64 → n < 2 ^ 32 → slot_in (slot_bytes (slot_of o n reply)) ≡ Some (slot_of o n reply)
+slot_back_by o n None wide narrow =
+    let b = slot_bytes (slot_of o n None) in
+    let a : number_at 0 8 b ≡ o = little_number-reads_back 8 o (le 4 n ++ 2 ∷ []) wide in
+    let c : number_at 8 4 b ≡ n = little_number-reads_back 4 n (2 ∷ []) narrow in
+    ap (λ k. Some (slot_of k (number_at 8 4 b) None)) a ∙ ap (λ k. Some (slot_of o k None)) c
+slot_back_by o n (Some reply) wide narrow =
+    let b = slot_bytes (slot_of o n (Some reply)) in
+    let size : length b ≡ 13 + length reply = omega (arith, length-append (le 8 o) (le 4 n ++ 0 ∷ reply), length-append (le 4 n) (0 ∷ reply)) in
+    let a : number_at 0 8 b ≡ o = little_number-reads_back 8 o (le 4 n ++ 0 ∷ reply) wide in
+    let c : number_at 8 4 b ≡ n = little_number-reads_back 4 n (0 ∷ reply) narrow in
+    let whole : Option SlotState = Some (slot_of (number_at 0 8 b) (number_at 8 4 b) (Some reply)) in
+    ap (λ t. cond t None whole) (ap (λ k. nat_lt k 13) size ∙ long (length reply))
+    ∙ ap (λ k. Some (slot_of k (number_at 8 4 b) (Some reply))) a
+    ∙ ap (λ k. Some (slot_of o k (Some reply))) c
+
 pub slot_back : (slot : SlotState) → IsSlot slot → slot_in (slot_bytes slot) ≡ Some slot
-slot_back slot is =
-    let b = slot_bytes slot in
-    let size : length b ≡ 13 + length slot.reply = omega (arith, length-append (le 8 slot.originator) (le 4 slot.number ++ 0 ∷ slot.reply), length-append (le 4 slot.number) (0 ∷ slot.reply)) in
-    let o : number_at 0 8 b ≡ slot.originator = little_number-reads_back 8 slot.originator (le 4 slot.number ++ 0 ∷ slot.reply) is.originator in
-    let n : number_at 8 4 b ≡ slot.number = little_number-reads_back 4 slot.number (0 ∷ slot.reply) is.number in
-    let whole : Option SlotState = Some (record { originator = number_at 0 8 b; number = number_at 8 4 b; reply = slot.reply }) in
-    ap (λ t. cond (t || false) None whole) (ap (λ k. nat_lt k 13) size ∙ long (length slot.reply))
-    ∙ ap (λ k. Some (record { originator = k; number = number_at 8 4 b; reply = slot.reply })) o
-    ∙ ap (λ k. Some (record { originator = slot.originator; number = k; reply = slot.reply })) n
+slot_back slot is = slot_back_by slot.originator slot.number slot.reply is.originator is.number
 
 not_first : (n : ℕ) → 1 ≤ n → eqb n 0 ≡ false
 not_first n h = grind (arith, nat_tests)

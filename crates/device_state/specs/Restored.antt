@@ -1,6 +1,6 @@
 -- A device that starts from entries.
 use Rattle.std.specs.Prelude.{ℕ, ◌==◌, nat_lt, Bool, not, ◌&&◌, ◌||◌, is_some, if◌then◌else◌, slice_index}
-use Rattle.std.specs.Prelude.{List, [], ◌∷◌, length, drop, Option, Some, None, bytes_eq}
+use Rattle.std.specs.Prelude.{List, [], ◌∷◌, length, drop, Option, Some, None, option_map, bytes_eq}
 use Rattle.cip_application.specs.declared.object.AttributeName.{AttributeName}
 use Rattle.cip_bytes.specs.Numbers.{number_at}
 use Rattle.cip_bytes.specs.declared.protocol.TheConstants.{IDENTITY}
@@ -36,15 +36,21 @@ identity_outcome m name content =
 
 -- ---- the ledger
 
--- The slot that these bytes spell. None if they are too short, or if the command is not done.
+-- The reply that a state and the bytes behind it spell: that of a command that is done, or none of one that is in doubt.
+abbrev pub reply_in : ℕ → List ℕ → Option (Option (List ℕ))
+reply_in state reply =
+    if state == 0 then Some (Some reply)
+    else (if (state == 2) && (length reply == 0) then Some None else None)
+
+abbrev pub slot_with : List ℕ → Option (List ℕ) → SlotState
+slot_with content reply =
+    record { originator = number_at 0 8 content; number = number_at 8 4 content; reply = reply }
+
+-- The slot that these bytes spell. None if they are too short, or have another state.
 abbrev pub slot_in : List ℕ → Option SlotState
 slot_in content =
-    if nat_lt (length content) 13 || not (slice_index content 12 == 0) then None
-    else Some (record {
-      originator = number_at 0 8 content;
-      number = number_at 8 4 content;
-      reply = drop 13 content;
-    })
+    if nat_lt (length content) 13 then None
+    else option_map (slot_with content) (reply_in (slice_index content 12) (drop 13 content))
 
 abbrev pub if_restored : LedgerState → Option LedgerState → Done LedgerState
 if_restored ledger None = done ledger Unfit

@@ -35,9 +35,14 @@ identity_entry m = entry_of (key_of IDENTITY 1 0) (identity_bytes m)
 abbrev pub life_entry : ℕ → Entry
 life_entry life = entry_of (key_of LEDGER 0 0) (le 8 life)
 
--- A slot: the originator, the number of its last command, 0 because the command is done, and the reply.
+-- The state of a command, and its reply: 0 if the command is done, 2 if it is in doubt.
+abbrev pub state_bytes : Option (List ℕ) → List ℕ
+state_bytes None = 2 ∷ []
+state_bytes (Some reply) = 0 ∷ reply
+
+-- A slot: the originator, the number of its last command, the state of the command and the reply.
 abbrev pub slot_bytes : SlotState → List ℕ
-slot_bytes slot = le 8 slot.originator ++ (le 4 slot.number ++ 0 ∷ slot.reply)
+slot_bytes slot = le 8 slot.originator ++ (le 4 slot.number ++ state_bytes slot.reply)
 
 -- The slots, numbered from 1 in the order in which they were taken.
 abbrev pub slot_entries : ℕ → List SlotState → List Entry

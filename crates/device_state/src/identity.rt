@@ -1,5 +1,5 @@
 //! Which device the entries are of.
-ghost use Rattle.std.specs.Prelude.{◌≡◌, ◌≤◌, ◌*◌, length, bytes_eq};
+ghost use Rattle.std.specs.Prelude.{◌≡◌, ◌<◌, ◌^◌};
 ghost use Rattle.device_state.specs.Keys.{key_of};
 ghost use Rattle.device_state.specs.Restored.{is_same_device};
 ghost use Rattle.device_state.specs.Saved.{identity_bytes};
@@ -11,7 +11,8 @@ use cip_objects::{Objects, ReplyBuf};
 
 /// The key of the entry that says which device it is.
 pub fn identity_key() -> u64
-    ensures { result ≡ key_of IDENTITY 1 0 }
+    ensures key { result ≡ key_of IDENTITY 1 0 }
+    ensures small { result < 2 ^ 48 }
 {
     key_of(IDENTITY, 1, 0)
 }

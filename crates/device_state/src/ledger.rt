@@ -1,5 +1,5 @@
 //! The entries of the command ledger.
-ghost use Rattle.std.specs.Prelude.{◌≡◌, ◌≤◌, length, slice_get, Some};
+ghost use Rattle.std.specs.Prelude.{◌≡◌, ◌<◌, ◌≤◌, ◌^◌, length, slice_get, Some, IfSome};
 ghost use Rattle.cip_ledger.specs.Kept.{kept_in};
 ghost use Rattle.device_state.specs.Restored.{done, slot_in, life_done, slot_done, ledger_done};
 ghost use Rattle.device_state.specs.Saved.{entry_in, ledger_entries, slot_bytes};
@@ -14,25 +14,34 @@ use cip_objects::{AttributeName, ReplyBuf};
 /// The state of a command that is done.
 const DONE: u8 = 0;
 
+/// The state of a command that is in doubt.
+const IN_DOUBT: u8 = 2;
+
 /// The bytes of a slot before the reply: the originator, the number and the state.
 const SLOT_HEAD: usize = 13;
 
 /// Writes a slot to `bytes`, in place of its old content.
 fn write_slot(kept: KeptCommand<'_>, bytes: &mut ReplyBuf)
-    requires { length kept.reply.now ≤ 480 }
+    requires { IfSome kept.reply (λ reply. length reply.now ≤ 480) }
     ensures { bytes.new.items ≡ slot_bytes (kept_in kept.entry) }
 {
     bytes.clear();
     append(bytes, &kept.originator.to_le_bytes());
     append_u32(bytes, kept.number);
-    append_u8(bytes, DONE);
-    append(bytes, kept.reply);
+    match kept.reply {
+        Some(reply) => {
+            append_u8(bytes, DONE);
+            append(bytes, reply);
+        }
+        None => append_u8(bytes, IN_DOUBT),
+    }
 }
 
 /// The key of an entry of the ledger, by its index: the life, then the slots. Its bytes are written to `bytes`. `None`
 /// past the last slot.
 pub(crate) fn ledger_entry(ledger: &Ledger, index: usize, bytes: &mut ReplyBuf) -> Option<u64>
-    ensures { entry_in result bytes.new.items ≡ slice_get (ledger_entries (Some ledger.now)) index }
+    ensures entry { entry_in result bytes.new.items ≡ slice_get (ledger_entries (Some ledger.now)) index }
+    ensures small { IfSome result (λ key. key < 2 ^ 48) }
 {
     if index == 0 {
         bytes.clear();
@@ -74,12 +83,17 @@ fn restore_life(ledger: &mut Ledger, bytes: &[u8]) -> Outcome
 fn restore_slot(ledger: &mut Ledger, bytes: &[u8]) -> Outcome
     ensures { done ledger.new result ≡ slot_done ledger.old (slot_in bytes.now) }
 {
-    if bytes.len() < SLOT_HEAD || bytes[12] != DONE {
+    if bytes.len() < SLOT_HEAD {
         return Outcome::Unfit;
     }
     let originator = LittleEndian::read_u64(bytes);
     let number = LittleEndian::read_u32(&bytes[8..]);
-    if ledger.restore(originator, number, &bytes[SLOT_HEAD..]) {
+    let reply = match bytes[12] {
+        DONE => Some(&bytes[SLOT_HEAD..]),
+        IN_DOUBT if bytes.len() == SLOT_HEAD => None,
+        _ => return Outcome::Unfit,
+    };
+    if ledger.restore(originator, number, reply) {
         Outcome::Used
     } else {
         Outcome::Unfit

@@ -18,7 +18,7 @@ pub enum Outcome {
     /// The device has no such attribute or no ledger. Nothing changes.
     Unknown,
     /// The bytes are not a value of the attribute: they have another size, or are a text that is longer than its room. Or
-    /// the ledger cannot have this slot: none is free, its originator has one, or the command is not done. Nothing
+    /// the ledger cannot have this slot: none is free, its originator has one, or the bytes are not those of a slot. Nothing
     /// changes.
     Unfit,
     /// The entries are of another device. Nothing changes.

@@ -1,5 +1,5 @@
 //! Gives the entries in which the state of a device is saved.
-ghost use Rattle.std.specs.Prelude.{◌≡◌, ◌++◌, Some, slice_get, option_map};
+ghost use Rattle.std.specs.Prelude.{◌≡◌, ◌<◌, ◌^◌, ◌++◌, Some, IfSome, slice_get, option_map};
 ghost use Rattle.device_state.specs.Saved.{state_of, saved, ledger_entries, value_entries, entry_in};
 
 use crate::identity::{identity_key, write_identity};
@@ -22,7 +22,8 @@ pub fn saved_entry(
     index: usize,
     bytes: &mut ReplyBuf,
 ) -> Option<u64>
-    ensures { entry_in result bytes.new.items ≡ slice_get (saved (state_of objects.now (option_map (λ l. l.now) ledger.entry))) index }
+    ensures entry { entry_in result bytes.new.items ≡ slice_get (saved (state_of objects.now (option_map (λ l. l.now) ledger.entry))) index }
+    ensures small { IfSome result (λ key. key < 2 ^ 48) }
 {
     if index == 0 {
         write_identity(objects, bytes);
@@ -41,8 +42,9 @@ fn entry_with_ledger(
     index: usize,
     bytes: &mut ReplyBuf,
 ) -> Option<u64>
-    ensures { entry_in result bytes.new.items
+    ensures entry { entry_in result bytes.new.items
         ≡ slice_get (ledger_entries (Some ledger.now) ++ value_entries objects.now) index }
+    ensures small { IfSome result (λ key. key < 2 ^ 48) }
 {
     let own = 1 + ledger.slot_count();
     if index < own {
@@ -53,7 +55,8 @@ fn entry_with_ledger(
 
 /// The entry of a value that is kept, by its index among these.
 fn value_entry(objects: &Objects, index: usize, bytes: &mut ReplyBuf) -> Option<u64>
-    ensures { entry_in result bytes.new.items ≡ slice_get (value_entries objects.now) index }
+    ensures entry { entry_in result bytes.new.items ≡ slice_get (value_entries objects.now) index }
+    ensures small { IfSome result (λ key. key < 2 ^ 48) }
 {
     let name = objects.kept_name(index)?;
     objects.read_attribute(name.class, u32::from(name.instance), name.attribute, bytes);

@@ -112,7 +112,8 @@ pub struct Adapter {
     next_handle: u64,
     shared: Shared,
     places: PeerSlots,
-    // The router writes its reply here. The content from an earlier call is never used.
+    // The router writes its reply here, and `asked` the data of a request to the owner. The content from an earlier
+    // call is never used.
     reply: ReplyBuf,
     answer: AnswerFrame,
 }

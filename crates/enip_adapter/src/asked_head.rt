@@ -9,7 +9,7 @@ use cip_objects::ReplyBuf;
 use cip_owner::OwnRequest;
 
 /// A request to the owner of the device, apart from its data.
-#[derive(Clone, Copy, Debug)]
+#[derive(Clone, Copy)]
 pub(crate) struct AskedHead {
     class: u16,
     instance: u32,

@@ -73,8 +73,8 @@ pub(crate) struct PeerSlot {
 impl PeerSlot {
     ghost use Rattle.enip_adapter.specs.contracts.peer.PeerSlot.{the_row};
 
-    /// The session, and the frame that these bytes of a piece complete, if they complete one. Nothing changes. The frame
-    /// is lent from the piece, or from the bytes that are held.
+    /// The session, and the frame that these bytes of a piece complete, if they complete one. Nothing changes. The
+    /// frame is lent from the piece, or from the bytes that are held.
     pub(crate) fn peek<'a>(&'a mut self, piece: &'a [u8]) -> Option<(Session, FrameView<'a>)>
         ensures* state { sem 𝓛 (Rests the_row self.entry (λ last. last ≡ self.old)) }
         ensures seen { (shared : Shared) → asks_by_seen shared result

@@ -114,9 +114,9 @@ impl PeerSlots {
         }
     }
 
-    /// The session of the peer with this handle, and the frame that a piece would complete if it were fed to it. `None` if
-    /// the piece completes no frame, or if the peer holds no slot or is closed. Nothing changes. The frame is lent from
-    /// the piece, or from the bytes that are held of the peer.
+    /// The session of the peer with this handle, and the frame that a piece would complete if it were fed to it. `None`
+    /// if the piece completes no frame, or if the peer holds no slot or is closed. Nothing changes. The frame is lent
+    /// from the piece, or from the bytes that are held of the peer.
     pub(crate) fn peek<'a>(
         &'a mut self,
         handle: u32,

@@ -3,7 +3,7 @@ use Rattle.std.proofs.Common.{◌≡◌, ◌⊎◌, inl, inr, ℕ, Bool, true, f
 use Rattle.std.specs.Prelude.{⊤}
 use Rattle.std.proofs.lemmas.List.Elements.{All-cons, All-nil, All-head, All-tail}
 use Rattle.std.proofs.lemmas.List.Kept.{AllPairs-cons}
-use Rattle.cip_commander.specs.Outcome.{Outcome, Done, StillPending, Refused, Malformed, NotPending, outcome_of_text}
+use Rattle.cip_commander.specs.Outcome.{Outcome, Done, StillPending, InDoubt, Refused, Malformed, NotPending, outcome_of_text}
 use Rattle.cip_commander.specs.declared.refusal.CommandRefused.{CommandRefused}
 use Rattle.cip_commander.specs.CommanderRule.{CommanderState, first_refusal, pending_message, outcome_at, after_outcome}
 use Rattle.kept_commander.specs.declared.lives.CommandEvent.{CommandEvent}
@@ -54,6 +54,7 @@ Moves a b = (b ≡ a) ⊎ ((a.last_number < b.last_number) ⊎ ((b.last_number �
 outcome_moves : (c : CommanderState) (o : Outcome) → Moves c (after_outcome c o)
 outcome_moves c (Done reply) = inr (inr (refl, refl))
 outcome_moves c StillPending = inl refl
+outcome_moves c InDoubt = inl refl
 outcome_moves c (Refused status) = inl refl
 outcome_moves c Malformed = inl refl
 outcome_moves c NotPending = inl refl
@@ -188,6 +189,7 @@ not_done (Some request) text other answer is = other answer is
 unchanged : (c : CommanderState) (o : Outcome) → ((answer : List ℕ) → o ≡ Done answer → ⊥) → after_outcome c o ≡ c
 unchanged c (Done answer) other = absurd (other answer refl)
 unchanged c StillPending other = refl
+unchanged c InDoubt other = refl
 unchanged c (Refused status) other = refl
 unchanged c Malformed other = refl
 unchanged c NotPending other = refl

@@ -1,7 +1,5 @@
 use Rattle.std.proofs.Common.{refl, ap, sym, ◌∙◌}
 use Rattle.cip_ledger.specs.Reaching.{listed}
-use Rattle.enip_adapter.specs.Asks.{asks_of_call}
-use Rattle.enip_adapter.specs.Calls.Call.{Feeds}
 use Rattle.enip_adapter.proofs.AskLemmas.{asked_by_feed, ticked_asks, ticked_at}
 use Rattle.enip_adapter.proofs.NothingAskedLemmas.{unasked_feed}
 use Rattle.enip_adapter.proofs.adapter.Adapter.asked.Goals as goal

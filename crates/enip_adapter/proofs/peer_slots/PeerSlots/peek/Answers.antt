@@ -1,4 +1,4 @@
-use Rattle.std.proofs.Common.{◌≡◌, set, get_or, Some, None, refl, sym, ap, ◌∙◌}
+use Rattle.std.proofs.Common.{◌≡◌, set, Some, refl, sym, ap, ◌∙◌}
 use Rattle.std.proofs.lemmas.List.{set-get_or}
 use Rattle.enip_wire.specs.Stream.{held_and_taken, parsed}
 use Rattle.enip_adapter.specs.Asks.{asks_at, asks_by_parsed}

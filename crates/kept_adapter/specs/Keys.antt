@@ -1,0 +1,17 @@
+-- The keys under which entries are kept: those of device_state, but the entries of the ledger come last.
+use Rattle.std.specs.Prelude.{ℕ, ◌+◌, ◌-◌, ◌/◌, ◌^◌, ◌==◌, ◌||◌, nat_le, Bool, if◌then◌else◌, Option, Some, None}
+use Rattle.cip_ledger.specs.declared.request.TheConstants.{LEDGER}
+use Rattle.device_state.specs.Keys.{key_of}
+
+-- The key of an entry of the ledger. That of the life has number 0, and those of the slots are numbered from 1.
+abbrev pub ledger_key : ℕ → ℕ
+ledger_key number = 2 ^ 48 + key_of LEDGER number 0
+
+abbrev pub is_ledger_key : ℕ → Bool
+is_ledger_key key = key / 2 ^ 32 == 2 ^ 16 + LEDGER
+
+-- The key that device_state has for the entry. None if no entry is kept under this key.
+abbrev pub device_key : ℕ → Option ℕ
+device_key key =
+    if is_ledger_key key then Some (key - 2 ^ 48)
+    else (if nat_le (2 ^ 48) key || (key / 2 ^ 32 == LEDGER) then None else Some key)

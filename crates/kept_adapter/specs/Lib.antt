@@ -1,0 +1,5 @@
+-- The modules of these definitions.
+pub mod Keys
+pub mod Saved
+pub mod Started
+pub mod SameKeys

@@ -1,0 +1,267 @@
+-- No call of an adapter changes the keys of what is kept of it: they depend on the tables of the objects, and on whether
+-- there is a ledger.
+use Rattle.std.specs.Prelude.{◌≡◌, ℕ, zero, suc, ◌+◌, ◌==◌, ◌&&◌, nat_lt, nat_le, if◌then◌else◌, Bool, true, false, is_some, refl}
+use Rattle.std.specs.Prelude.{List, [], ◌∷◌, ◌++◌, map, length, Option, Some, None, option_map, unwrap_or, Result, Ok, Err}
+use Rattle.std.specs.Option.{option_and_then}
+use Rattle.std.proofs.Common.{◌⊎◌, inl, inr, cond, sym, ap, ◌∙◌}
+use Rattle.std.proofs.lemmas.List.{map-append}
+use Rattle.cip_application.specs.declared.object.AttributeName.{AttributeName}
+use Rattle.cip_bytes.specs.declared.protocol.TheConstants.{IDENTITY, ASSEMBLY}
+use Rattle.cip_ledger.specs.Device.{Device, exec_device}
+use Rattle.cip_ledger.specs.Doubt.{can_settle, settled}
+use Rattle.cip_ledger.specs.Ledger.{LedgerState}
+use Rattle.cip_ledger.specs.Requests.{is_barred}
+use Rattle.cip_ledger.specs.Services.{Replies, Executes, Frees}
+use Rattle.cip_ledger.specs.Turn.{Fate, Passed, Served, Turn, fate, turn_by}
+use Rattle.cip_message.specs.declared.path.Path.{Path}
+use Rattle.cip_objects.specs.declared.service.Service.{Service}
+use Rattle.cip_objects.specs.declared.service.Service.TheVariants.{GetAttributesAll, GetAttributeList}
+use Rattle.cip_objects.specs.declared.service.Service.TheVariants.{GetAttributeSingle, SetAttributeSingle, GetMember}
+use Rattle.cip_objects.specs.declared.service.Service.TheVariants.{SetMember, Add, Clear}
+use Rattle.cip_objects.specs.declared.status.Refusal.{Refusal}
+use Rattle.cip_objects.specs.ChangeServices.{with_bytes_at, set_attribute_single, set_member, add, clear}
+use Rattle.cip_objects.specs.Contents.{Contents, bytes_at, with_value}
+use Rattle.cip_objects.specs.DeviceWrites.{device_write, object_write, with_data_of, with_attribute_by}
+use Rattle.cip_objects.specs.Execution.{Outcome, perform, outcome, exec}
+use Rattle.cip_objects.specs.Kept.{kept_names}
+use Rattle.cip_objects.specs.OwnRequests.{Asked, own_request, with_stored}
+use Rattle.cip_objects.specs.ReadServices.{get_attribute_single, get_attributes_all, get_attribute_list, get_member}
+use Rattle.cip_objects.specs.Router.{REPLY_TOO_LARGE}
+use Rattle.cip_objects.specs.Tables.{Shape, Shapes, AttributeShape, shape_at, object_at, attribute_at}
+use Rattle.cip_objects.proofs.Approved.{stored_shapes}
+use Rattle.cip_objects.proofs.Effects.{goes, read_effect, change_effect, set_effect, add_effect, clear_effect}
+use Rattle.cip_objects.proofs.Refuses.{exec_left}
+use Rattle.cip_objects.proofs.Unsettable.{splices}
+use Rattle.cip_application.specs.Values.{from_offset}
+use Rattle.cip_owner.specs.Owned.{OwnedState, exec_owned, by_owner, own_executed, given, refused_with, answered, is_fit}
+use Rattle.cip_owner.specs.Owned.{after_reply, stored_at, answer_with, NOT_PREPARED}
+use Rattle.cip_owner.specs.Replies.{Reply}
+use Rattle.device_state.specs.Keys.{key_of}
+use Rattle.device_state.specs.Saved.{value_entry}
+use Rattle.enip_adapter.specs.Calls.{AdapterState, Call}
+use Rattle.enip_adapter.specs.DeviceRuns.{DeviceStep, Requested, WrittenBy, device_after, device_after_step, steps_of_calls}
+use Rattle.enip_adapter.specs.DeviceRuns.{objects_after, objects_answer}
+use Rattle.enip_adapter.specs.OwnWrites.{OwnWrite, WritesData, WritesAttribute, SetsStatus, SetsState, Prepares, Settles}
+use Rattle.enip_adapter.specs.OwnWrites.{attribute_write, device_written, objects_written}
+use Rattle.enip_adapter.specs.Runs.{after_calls}
+use Rattle.enip_adapter.proofs.DeviceLemmas.{calls-end}
+use Rattle.kept_server.specs.Changes.{keys_of}
+use Rattle.kept_adapter.specs.Keys.{ledger_key}
+use Rattle.kept_adapter.specs.Saved.{pair_of, saved_objects, saved_ledger, saved_device, first_entries, ledger_bytes, ENTRIES}
+use Rattle.kept_adapter.specs.Saved.{adapter_keys}
+
+-- ---- the objects keep their tables
+
+performed_shapes : (m : Contents) (s : Service) (path : Path) (content : List ℕ) (o : Outcome)
+    → perform m s path content ≡ Ok o → o.after.shapes ≡ m.shapes
+performed_shapes m GetAttributesAll path content o e =
+    ap (λ (x : Contents). x.shapes) (read_effect m (get_attributes_all m path content) o e)
+performed_shapes m GetAttributeList path content o e =
+    ap (λ (x : Contents). x.shapes) (read_effect m (get_attribute_list m path content) o e)
+performed_shapes m GetAttributeSingle path content o e =
+    ap (λ (x : Contents). x.shapes) (read_effect m (get_attribute_single m path content) o e)
+performed_shapes m SetAttributeSingle path content o e =
+    let c = change_effect (set_attribute_single m path content) o e in
+    let x = set_effect m path content c.change c.first in
+    ap (λ (y : Contents). y.shapes) (c.after ∙ x.leaves)
+performed_shapes m GetMember path content o e =
+    ap (λ (x : Contents). x.shapes) (read_effect m (get_member m path content) o e)
+performed_shapes m SetMember path content o e =
+    let c = change_effect (set_member m path content) o e in
+    let x = splices m path content c.change c.first in
+    ap (λ (y : Contents). y.shapes) (c.after ∙ x.leaves)
+performed_shapes m Add path content o e =
+    let c = change_effect (add m content) o e in
+    let x = add_effect m content c.change c.first in
+    ap (λ (y : Contents). y.shapes) (c.after ∙ x.leaves)
+performed_shapes m Clear path content o e =
+    let c = change_effect (clear m content) o e in
+    let x = clear_effect m content c.change c.first in
+    ap (λ (y : Contents). y.shapes) (c.after ∙ x.leaves)
+
+left_shapes : (m n : Contents) (text : List ℕ)
+    → (n ≡ m) ⊎ ((o : Outcome) × (outcome m text ≡ Ok o) × (n ≡ o.after)) → n.shapes ≡ m.shapes
+left_shapes m n text (inl same) = ap (λ (x : Contents). x.shapes) same
+left_shapes m n text (inr x) =
+    let g = goes m text x.0 x.1 in
+    ap (λ (y : Contents). y.shapes) x.2 ∙ performed_shapes m g.service g.path g.request.data x.0 g.is_performed
+
+executed_shapes : (m : Contents) (max_size : ℕ) (text : List ℕ) → (exec m max_size text).after.shapes ≡ m.shapes
+executed_shapes m max_size text = left_shapes m (exec m max_size text).after text (exec_left m max_size text)
+
+-- ---- and so with a reply of the owner
+
+stored_at_shapes : (m : Contents) (asked : Asked) (attribute : Option ℕ) → (stored_at m asked attribute).shapes ≡ m.shapes
+stored_at_shapes m asked None = refl
+stored_at_shapes m asked (Some attribute) = stored_shapes m asked.class asked.instance attribute asked.content
+
+reply_shapes : (m : Contents) (asked : Asked) (status : ℕ) → (after_reply m asked status).shapes ≡ m.shapes
+reply_shapes m asked status =
+    elim ((asked.service == 0x10) && (status == 0))
+    as (λ t. (if t then stored_at m asked asked.attribute else m).shapes ≡ m.shapes) [
+      | true ↦ stored_at_shapes m asked asked.attribute
+      | false ↦ refl
+    ]
+
+given_shapes : (w : OwnedState) (service : ℕ) (asked : Asked) (reply : Option Reply)
+    → (given w service asked reply).after.objects.shapes ≡ w.objects.shapes
+given_shapes w service asked None = refl
+given_shapes w service asked (Some reply) =
+    elim (is_fit asked reply) as (λ t. (if t then
+    answered (record { objects = after_reply w.objects asked reply.status; prepared = None })
+    (answer_with service reply.status reply.content)
+    else refused_with (record w { prepared = None }) service NOT_PREPARED).after.objects.shapes ≡ w.objects.shapes) [
+      | true ↦ reply_shapes w.objects asked reply.status
+      | false ↦ refl
+    ]
+
+owner_shapes : (w : OwnedState) (max_size : ℕ) (text : List ℕ) (own : Option (Result Asked Refusal))
+    → (by_owner w max_size text own).after.objects.shapes ≡ w.objects.shapes
+owner_shapes w max_size text None = executed_shapes w.objects max_size text
+owner_shapes w max_size text (Some (Err refusal)) = refl
+owner_shapes w max_size text (Some (Ok asked)) = by_size (nat_lt max_size (4 + asked.reply_limit)) _
+  where
+    by_size : (t : Bool) (service : ℕ) → (if t then refused_with w service REPLY_TOO_LARGE
+        else given w service asked w.prepared).after.objects.shapes ≡ w.objects.shapes
+    by_size true service = refl
+    by_size false service = given_shapes w service asked w.prepared
+
+owned_shapes : (w : OwnedState) (max_size : ℕ) (text : List ℕ)
+    → (exec_owned w max_size text).after.objects.shapes ≡ w.objects.shapes
+unfolding exec_owned
+owned_shapes w max_size text = owner_shapes w max_size text (own_request w.objects text)
+
+-- ---- the ledger stays
+
+pub record AreAlike (old new : Device) : Type 0 where
+  pub shapes : new.router.objects.shapes ≡ old.router.objects.shapes
+  pub ledger : is_some new.ledger ≡ is_some old.ledger
+
+mapped : {A : Type 0} (f : A → A) (o : Option A) → is_some (option_map f o) ≡ is_some o
+mapped f None = refl
+mapped f (Some x) = refl
+
+turn_alike : (f : Fate) (device : Device) (max_size : ℕ) (text : List ℕ)
+    → let t = turn_by objects_after objects_answer f device.ledger device.router max_size text in
+    (t.router.objects.shapes ≡ device.router.objects.shapes) × (is_some t.ledger ≡ is_some device.ledger)
+turn_alike Passed device max_size text = (owned_shapes device.router max_size text, refl)
+turn_alike (Served service (Replies reply)) device max_size text = (refl, refl)
+turn_alike (Served service (Executes command)) device max_size text = (
+  elim (is_barred command.request) as (λ t. (if t then device.router
+      else objects_after device.router 480 command.request).objects.shapes ≡ device.router.objects.shapes) [
+        | true ↦ refl
+        | false ↦ owned_shapes device.router 480 command.request
+      ],
+  mapped _ device.ledger,
+)
+turn_alike (Served service (Frees originator)) device max_size text = (refl, mapped _ device.ledger)
+
+-- ---- the device's own writes
+
+data_shapes : (m : Contents) (instance offset : ℕ) (bytes : List ℕ)
+    → (unwrap_or (device_write m instance offset bytes) m).shapes ≡ m.shapes
+unfolding device_write
+data_shapes m instance offset bytes = by_shape (shape_at instance m.shapes.assemblies)
+  where
+    by_shape : (s : Option Shape) → (unwrap_or (with_data_of m instance offset bytes s) m).shapes ≡ m.shapes
+    by_shape None = refl
+    by_shape (Some s) =
+        elim (nat_le (offset + length bytes) (length (bytes_at m ASSEMBLY instance 3)))
+        as (λ t. (unwrap_or (if t then
+        Some (with_value m ASSEMBLY instance 3 (with_bytes_at (bytes_at m ASSEMBLY instance 3) offset bytes))
+        else None) m).shapes ≡ m.shapes) [ true ↦ refl | false ↦ refl ]
+
+object_shapes : (m : Contents) (class instance attribute offset : ℕ) (bytes : List ℕ)
+    → (unwrap_or (object_write m class instance attribute offset bytes) m).shapes ≡ m.shapes
+unfolding object_write
+object_shapes m class instance attribute offset bytes =
+    by_attribute (option_and_then (λ o. attribute_at attribute o.attributes) (object_at class instance m.shapes.objects))
+  where
+    by_value : (v : Option (List ℕ))
+        → (unwrap_or (option_map (with_value m class instance attribute) v) m).shapes ≡ m.shapes
+    by_value None = refl
+    by_value (Some v) = refl
+
+    by_attribute : (a : Option AttributeShape)
+        → (unwrap_or (with_attribute_by (from_offset offset bytes) m class instance attribute a) m).shapes ≡ m.shapes
+    by_attribute None = refl
+    by_attribute (Some a) = by_value (from_offset offset bytes a.kind (bytes_at m class instance attribute))
+
+attribute_shapes : (m : Contents) (class instance attribute offset : ℕ) (bytes : List ℕ)
+    → (unwrap_or (attribute_write m class instance attribute offset bytes) m).shapes ≡ m.shapes
+attribute_shapes m class instance attribute offset bytes =
+    elim ((class == ASSEMBLY) && (attribute == 3)) as (λ t. (unwrap_or (if t then device_write m instance offset bytes
+    else object_write m class instance attribute offset bytes) m).shapes ≡ m.shapes) [
+      | true ↦ data_shapes m instance offset bytes
+      | false ↦ object_shapes m class instance attribute offset bytes
+    ]
+
+written_alike : (write : OwnWrite) (device : Device) → AreAlike device (device_written write device)
+written_alike (WritesData instance offset bytes) device =
+    record { shapes = data_shapes device.router.objects instance offset bytes; ledger = refl }
+written_alike (WritesAttribute class instance attribute offset bytes) device =
+    record { shapes = attribute_shapes device.router.objects class instance attribute offset bytes; ledger = refl }
+written_alike (SetsStatus status) device = record { shapes = refl; ledger = refl }
+written_alike (SetsState state) device = record { shapes = refl; ledger = refl }
+written_alike (Prepares reply) device = record { shapes = refl; ledger = refl }
+written_alike (Settles originator number reply) device =
+    record { shapes = refl; ledger = mapped (λ ledger. settled ledger originator number reply) device.ledger }
+
+-- ---- all steps
+
+step_alike : (device : Device) (step : DeviceStep) → AreAlike device (device_after_step device step)
+step_alike device (Requested request) =
+    let t = turn_alike (fate device.ledger request.0 request.1) device request.0 request.1 in
+    record { shapes = t.0; ledger = t.1 }
+step_alike device (WrittenBy write) = written_alike write device
+
+steps_alike : (device : Device) (steps : List DeviceStep) → AreAlike device (device_after device steps)
+steps_alike device [] = record { shapes = refl; ledger = refl }
+steps_alike device (step ∷ steps) =
+    let first = step_alike device step in
+    let rest = steps_alike (device_after_step device step) steps in
+    record { shapes = rest.shapes ∙ first.shapes; ledger = rest.ledger ∙ first.ledger }
+
+-- ---- the keys
+
+value_keys : (m n : Contents) (names : List AttributeName)
+    → keys_of (map pair_of (map (value_entry m) names)) ≡ keys_of (map pair_of (map (value_entry n) names))
+value_keys m n [] = refl
+value_keys m n (name ∷ names) =
+    ap (λ keys. key_of name.class name.instance name.attribute ∷ keys) (value_keys m n names)
+
+object_keys : (m n : Contents) → n.shapes ≡ m.shapes → keys_of (saved_objects n) ≡ keys_of (saved_objects m)
+object_keys m n same =
+    ap (λ shapes. key_of IDENTITY 1 0 ∷ keys_of (map pair_of (map (value_entry n) (kept_names shapes)))) same
+    ∙ ap (λ keys. key_of IDENTITY 1 0 ∷ keys) (value_keys n m (kept_names m.shapes))
+
+first_keys : (l k : LedgerState) (count : ℕ) → keys_of (first_entries l count) ≡ keys_of (first_entries k count)
+first_keys l k zero = refl
+first_keys l k (suc count) =
+    map-append (λ (entry : ℕ × List ℕ). entry.0) (first_entries l count) ((ledger_key count, ledger_bytes l count) ∷ [])
+    ∙ ap (λ keys. keys ++ ledger_key count ∷ []) (first_keys l k count)
+    ∙ sym (map-append (λ (entry : ℕ × List ℕ). entry.0) (first_entries k count)
+    ((ledger_key count, ledger_bytes k count) ∷ []))
+
+ledger_keys : (l k : Option LedgerState) → is_some k ≡ is_some l → keys_of (saved_ledger k) ≡ keys_of (saved_ledger l)
+ledger_keys None None same = refl
+ledger_keys None (Some k) same = absurd (cc)
+ledger_keys (Some l) None same = absurd (cc)
+ledger_keys (Some l) (Some k) same = first_keys k l ENTRIES
+
+device_keys : (m n : Contents) (l k : Option LedgerState) → n.shapes ≡ m.shapes → is_some k ≡ is_some l
+    → keys_of (saved_device n k) ≡ keys_of (saved_device m l)
+device_keys m n l k shapes ledger =
+    map-append (λ (entry : ℕ × List ℕ). entry.0) (saved_objects n) (saved_ledger k)
+    ∙ ap (λ keys. keys ++ keys_of (saved_ledger k)) (object_keys m n shapes)
+    ∙ ap (λ keys. keys_of (saved_objects m) ++ keys) (ledger_keys l k ledger)
+    ∙ sym (map-append (λ (entry : ℕ × List ℕ). entry.0) (saved_objects m) (saved_ledger l))
+
+pub keys_stay : (a : AdapterState) (calls : List Call) → adapter_keys (after_calls a calls) ≡ adapter_keys a
+keys_stay a calls =
+    let old = a.state.shared.objects in
+    let steps = steps_of_calls a calls in
+    let alike = steps_alike old steps in
+    ap (λ (device : Device). keys_of (saved_device device.router.objects device.ledger)) (calls-end a calls)
+    ∙ device_keys old.router.objects (device_after old steps).router.objects old.ledger (device_after old steps).ledger
+    alike.shapes alike.ledger

@@ -1,0 +1,50 @@
+-- What is kept of an adapter: the entries of device_state, under keys that stay the same.
+use Rattle.std.specs.Prelude.{ℕ, zero, suc, List, [], ◌∷◌, ◌++◌, map, Option, Some, None, slice_get}
+use Rattle.cip_bytes.specs.Numbers.{le}
+use Rattle.cip_ledger.specs.Ledger.{SlotState, LedgerState}
+use Rattle.cip_objects.specs.Contents.{Contents}
+use Rattle.device_state.specs.Saved.{Entry, saved, slot_bytes, state_of}
+use Rattle.enip_adapter.specs.Calls.{AdapterState}
+use Rattle.enip_keep.specs.Kept.{Kept}
+use Rattle.kept_server.specs.Changes.{keys_of}
+use Rattle.kept_adapter.specs.Keys.{ledger_key}
+
+abbrev pub pair_of : Entry → ℕ × List ℕ
+pair_of entry = (entry.key, entry.content)
+
+-- The objects, and which device it is.
+abbrev pub saved_objects : Contents → Kept
+saved_objects objects = map pair_of (saved (state_of objects None))
+
+-- The content of a slot. A free slot has no bytes.
+abbrev pub bytes_of_slot : Option SlotState → List ℕ
+bytes_of_slot None = []
+bytes_of_slot (Some slot) = slot_bytes slot
+
+-- The content of an entry of the ledger: of the life, or of a slot.
+abbrev pub ledger_bytes : LedgerState → ℕ → List ℕ
+ledger_bytes ledger zero = le 8 ledger.life
+ledger_bytes ledger (suc index) = bytes_of_slot (slice_get ledger.taken index)
+
+-- The first entries of the ledger, so many.
+abbrev pub first_entries : LedgerState → ℕ → Kept
+first_entries ledger zero = []
+first_entries ledger (suc count) =
+    first_entries ledger count ++ (ledger_key count, ledger_bytes ledger count) ∷ []
+
+-- The life, and each of the 64 slots that a ledger has at most.
+abbrev pub ENTRIES : ℕ
+ENTRIES = 65
+
+abbrev pub saved_ledger : Option LedgerState → Kept
+saved_ledger None = []
+saved_ledger (Some ledger) = first_entries ledger ENTRIES
+
+abbrev pub saved_device : Contents → Option LedgerState → Kept
+saved_device objects ledger = saved_objects objects ++ saved_ledger ledger
+
+abbrev pub saved_adapter : AdapterState → Kept
+saved_adapter a = saved_device a.state.shared.objects.router.objects a.state.shared.objects.ledger
+
+abbrev pub adapter_keys : AdapterState → List ℕ
+adapter_keys a = keys_of (saved_adapter a)

@@ -1,0 +1,46 @@
+//! What an adapter is made from.
+ghost use Rattle.std.specs.Prelude.{◌≡◌, ◌≤◌, ForSome, None};
+ghost use Rattle.cip_objects.specs.Configuration.{fault_of};
+
+use cip_objects::Config;
+use enip_adapter::{Limits, Listen};
+
+/// A command ledger as it is configured.
+#[derive(Clone, Copy, Debug)]
+pub struct LedgerStart {
+    /// How many originators have a slot, 1 to 64.
+    pub originators: u16,
+    /// The number of the life that the device is in if its ledger starts empty. It must be one that the device was not in
+    /// before.
+    pub life: u64,
+}
+
+/// What an adapter is made from: the configuration of its objects, its ledger, and its limits. The objects accept their
+/// configuration.
+///
+/// ```
+/// let start = AdapterStart { objects, ledger: None, listen, limits, idle_timeout: 60_000_000 };
+/// let mut server = Server::<KeptPeers<TcpWire, AdapterStart>, Rows>::start(alloc, keeper, &start)?;
+/// ```
+#[derive(Debug, Drop)]
+pub struct AdapterStart {
+    /// The configuration of the objects.
+    pub objects: Config,
+    /// The command ledger, if there is one.
+    pub ledger: Option<LedgerStart>,
+    /// The address and the port that ListIdentity reports.
+    pub listen: Listen,
+    /// The capacity, and the first numbers that are assigned.
+    pub limits: Limits,
+    /// For how long a peer may send nothing, in microseconds.
+    pub idle_timeout: u64,
+    ghost accepted: { fault_of objects ≡ None },
+    ghost slots_from: { ForSome ledger (λ l. 1 ≤ l.originators) },
+    ghost slots_to: { ForSome ledger (λ l. l.originators ≤ 64) },
+    ghost peers_from: { 1 ≤ limits.peers },
+    ghost peers_to: { limits.peers ≤ 16 },
+    ghost connections_from: { 1 ≤ limits.connections },
+    ghost connections_to: { limits.connections ≤ 64 },
+    ghost handle: { 1 ≤ limits.first_handle },
+    ghost id: { 1 ≤ limits.first_id },
+}

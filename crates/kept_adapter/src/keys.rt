@@ -1,0 +1,36 @@
+//! The keys under which entries are kept.
+ghost use Rattle.std.specs.Prelude.{◌≡◌, ◌<◌, ◌^◌};
+ghost use Rattle.kept_adapter.specs.Keys.{ledger_key, is_ledger_key, device_key};
+
+use cip_ledger::LEDGER;
+
+/// The entries of the ledger have keys from this one on.
+const LEDGER_KEYS: u64 = 0x1_0000_0000_0000;
+
+/// The key of an entry of the ledger: that of the life is number 0, and those of the slots are numbered from 1.
+pub(crate) fn ledger_key(number: u16) -> u64
+    ensures key { result ≡ ledger_key number }
+    ensures small { result < 2 ^ 63 }
+{
+    LEDGER_KEYS + u64::from(LEDGER) * 0x1_0000_0000 + u64::from(number) * 0x1_0000
+}
+
+/// Whether an entry with this key is one of the ledger.
+pub(crate) fn is_ledger_key(key: u64) -> bool
+    ensures { result ≡ is_ledger_key key }
+{
+    key / 0x1_0000_0000 == 0x1_0000 + u64::from(LEDGER)
+}
+
+/// The key that `device_state` has for an entry, or `None` if no entry is kept under this one.
+pub(crate) fn device_key(key: u64) -> Option<u64>
+    ensures { result ≡ device_key key }
+{
+    if is_ledger_key(key) {
+        return Some(key - LEDGER_KEYS);
+    }
+    if key >= LEDGER_KEYS || key / 0x1_0000_0000 == u64::from(LEDGER) {
+        return None;
+    }
+    Some(key)
+}

@@ -1,0 +1,18 @@
+//! What is kept of an adapter over a restart, and the adapter that starts from it.
+//!
+//! An `AdapterStart` is the `KeptDevice` of a `kept_server`: the entries of `device_state`, for an adapter as a
+//! configuration describes it. Their keys depend on the objects and on whether there is a ledger, and on nothing else, as
+//! a keeper never deletes a key. So the ledger has an entry for each slot that a ledger can have, and that of a free slot
+//! has no bytes.
+//!
+//! A start puts back what it can. If not every entry of the ledger can be put back, the ledger starts empty, in another
+//! life of the device: no command is executed twice.
+#![tactic(auto)]
+
+mod adapter_start;
+mod keys;
+mod progress;
+mod saving;
+mod starting;
+
+pub use adapter_start::{AdapterStart, LedgerStart};

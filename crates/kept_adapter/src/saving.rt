@@ -1,0 +1,118 @@
+//! Writes what is kept of an adapter.
+ghost use Rattle.std.specs.Prelude.{◌≡◌, ◌<◌, ◌≤◌, ◌+◌, ◌^◌, ◌∷◌, ◌++◌, [], suc, length, take, true, Some, IfOk, OnOk};
+ghost use Rattle.enip_keep.specs.Kept.{pairs_of};
+ghost use Rattle.kept_server.specs.Changes.{are_small, keys_of, rise};
+ghost use Rattle.kept_adapter.specs.Saved.{first_entries, ledger_bytes, saved_objects, ENTRIES};
+
+use crate::keys::ledger_key;
+use cip_ledger::{Ledger, MOST_ORIGINATORS};
+use cip_objects::{Objects, ReplyBuf};
+use device_state::saved_entry;
+use enip_keep::Entry;
+use std::alloc::{AllocError, Global};
+
+/// Writes an entry to `into` at an index, in place of what is there, or behind all others.
+fn set_entry(
+    alloc: Global,
+    into: &mut Vec<Entry>,
+    index: usize,
+    key: u64,
+    bytes: &[u8],
+) -> Result<(), AllocError>
+    requires within { index ≤ length into.old.items }
+    ensures entry { OnOk result (take (suc index) (pairs_of into.new.items)
+        ≡ take index (pairs_of into.old.items) ++ (key, bytes.now) ∷ []) }
+    ensures within { OnOk result (index < length into.new.items) }
+{
+    if index == into.len() {
+        into.push(Entry {
+            key,
+            bytes: Vec::new(alloc),
+        })?;
+    }
+    let entry = &mut into[index];
+    entry.key = key;
+    entry.bytes.clear();
+    entry.bytes.extend_from_slice(bytes)
+}
+
+/// Writes the entries of objects to `into`, in place of the first ones that are there. Returns how many they are.
+///
+/// # Errors
+///
+/// `AllocError` if memory is refused.
+pub(crate) fn save_objects(
+    alloc: Global,
+    objects: &Objects,
+    into: &mut Vec<Entry>,
+) -> Result<usize, AllocError>
+    ensures entries { IfOk result (λ count. take count (pairs_of into.new.items) ≡ saved_objects objects.now) }
+    ensures small { IfOk result (λ count. are_small (take count (pairs_of into.new.items)) ≡ true) }
+    ensures within { IfOk result (λ count. count ≤ length into.new.items) }
+{
+    let mut bytes = ReplyBuf::new();
+    let mut count = 0;
+    while let Some(key) = saved_entry(objects, None, count, &mut bytes) {
+        set_entry(alloc, into, count, key, &bytes)?;
+        count += 1;
+    }
+    Ok(count)
+}
+
+/// Writes the entries of a ledger to `into`, in place of those from an index on. Returns the index behind them.
+///
+/// # Errors
+///
+/// `AllocError` if memory is refused.
+pub(crate) fn save_ledger(
+    alloc: Global,
+    objects: &Objects,
+    ledger: &Ledger,
+    start: usize,
+    into: &mut Vec<Entry>,
+) -> Result<usize, AllocError>
+    requires within { start ≤ length into.old.items }
+    requires small { are_small (take start (pairs_of into.old.items)) ≡ true }
+    ensures entries { IfOk result (λ count. take count (pairs_of into.new.items)
+        ≡ take start (pairs_of into.old.items) ++ first_entries ledger.now ENTRIES) }
+    ensures small { IfOk result (λ count. are_small (take count (pairs_of into.new.items)) ≡ true) }
+    ensures within { IfOk result (λ count. count ≤ length into.new.items) }
+{
+    let mut bytes = ReplyBuf::new();
+    let mut count = start;
+    for number in 0..MOST_ORIGINATORS + 1 {
+        write_ledger_bytes(objects, ledger, number, &mut bytes);
+        set_entry(alloc, into, count, ledger_key(number), &bytes)?;
+        count += 1;
+    }
+    Ok(count)
+}
+
+/// Writes the content of an entry of the ledger to `bytes`, by the entry's number: that of the life or of a slot.
+fn write_ledger_bytes(objects: &Objects, ledger: &Ledger, number: u16, bytes: &mut ReplyBuf)
+    ensures { bytes.new.items ≡ ledger_bytes ledger.now number }
+{
+    if usize::from(number) > ledger.slot_count() {
+        bytes.clear();
+        return;
+    }
+    // The first entry says which device it is, and those of the ledger are next.
+    let _ = saved_entry(objects, Some(ledger), 1 + usize::from(number), bytes);
+}
+
+/// Whether the keys of entries rise.
+pub(crate) fn do_keys_rise(entries: &[Entry]) -> bool
+    ensures { result ≡ rise (keys_of (pairs_of entries.now)) }
+{
+    let Some((first, rest)) = entries.split_first() else {
+        return true;
+    };
+    let mut last = first.key;
+    for entry in rest {
+        if entry.key <= last {
+            return false;
+        }
+        last = entry.key;
+    }
+    true
+}

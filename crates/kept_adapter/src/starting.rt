@@ -1,0 +1,137 @@
+//! The start of an adapter, and what is kept of it.
+ghost use Rattle.std.specs.Prelude.{◌≡◌, IfOk, refl};
+ghost use Rattle.cip_objects.specs.Configuration.{contents_of_config};
+ghost use Rattle.enip_keep.specs.Kept.{pairs_of};
+ghost use Rattle.kept_adapter.specs.SameKeys.{keys_stay};
+ghost use Rattle.kept_adapter.specs.Saved.{adapter_keys, saved_adapter};
+ghost use Rattle.kept_adapter.specs.Started.{beginning, configured, new_ledger, put_back_in, started, unused_keys, Refuses};
+ghost use Rattle.kept_adapter.specs.Started.{started_from};
+
+use crate::adapter_start::AdapterStart;
+use crate::progress::Progress;
+use crate::saving::{do_keys_rise, save_ledger, save_objects};
+use cip_ledger::Ledger;
+use cip_objects::Objects;
+use enip_adapter::Adapter;
+use enip_keep::{Entry, KeepError};
+use kept_server::KeptDevice;
+use std::alloc::{AllocError, Global};
+
+impl AdapterStart {
+    /// The keys of the entries from which `start` takes nothing: they are of no value of this device, or the value has
+    /// another size. They stay kept. If an entry of the ledger is among them, the ledger starts empty.
+    ///
+    /// # Errors
+    ///
+    /// `Memory` if memory is refused.
+    ///
+    /// ```
+    /// for key in &start.unused(alloc, &entries)? {
+    ///     report(key);
+    /// }
+    /// ```
+    pub fn unused(&self, alloc: Global, entries: &[Entry]) -> Result<Vec<u64>, KeepError>
+        ensures { IfOk result (λ keys. keys.items ≡ unused_keys (beginning (configured self.now)) (pairs_of entries.now)) }
+    {
+        let objects = self.new_objects(alloc)?;
+        let ledger = self.new_ledger(alloc)?;
+        let keys = Progress::new(objects, ledger).unused_keys(alloc, entries)?;
+        Ok(keys)
+    }
+
+    /// The objects as they are configured.
+    fn new_objects(&self, alloc: Global) -> Result<Objects, AllocError>
+        ensures { IfOk result (λ objects. objects ≡ contents_of_config self.now.objects) }
+    {
+        match Objects::new(alloc, &self.objects) {
+            Ok(objects) => Ok(objects),
+            // The configuration has no other fault.
+            Err(_) => Err(AllocError),
+        }
+    }
+
+    /// The ledger as it is configured, with all slots free.
+    fn new_ledger(&self, alloc: Global) -> Result<Option<Ledger>, AllocError>
+        ensures { IfOk result (λ ledger. ledger ≡ new_ledger self.now.ledger) }
+    {
+        match self.ledger {
+            None => Ok(None),
+            Some(ledger) => Ok(Some(Ledger::new(alloc, ledger.originators, ledger.life)?)),
+        }
+    }
+
+    /// The device once all entries are put back that can be.
+    fn put_back(&self, alloc: Global, entries: &[Entry]) -> Result<Progress, AllocError>
+        ensures { IfOk result (λ p. p ≡ put_back_in self.now (pairs_of entries.now)) }
+    {
+        let objects = self.new_objects(alloc)?;
+        let ledger = self.new_ledger(alloc)?;
+        let mut progress = Progress::new(objects, ledger);
+        progress.put_all_back(entries);
+        Ok(progress)
+    }
+
+    /// The adapter of a device that entries were put back into.
+    fn adapter(&self, alloc: Global, progress: Progress) -> Result<Adapter, AllocError>
+        ensures { IfOk result (λ a. a ≡ started_from self.now progress) }
+    {
+        let Progress {
+            objects,
+            ledger,
+            has_life,
+            has_lost,
+            ..
+        } = progress;
+        let ledger = if has_life && !has_lost {
+            ledger
+        } else {
+            self.new_ledger(alloc)?
+        };
+        match ledger {
+            None => Adapter::new(alloc, objects, self.listen, self.limits),
+            Some(ledger) => Adapter::with_ledger(alloc, objects, ledger, self.listen, self.limits),
+        }
+    }
+}
+
+impl KeptDevice for AdapterStart {
+    ghost saved = { saved_adapter };
+
+    ghost keys = { adapter_keys };
+
+    ghost started = { started };
+
+    ghost refuses = { Refuses };
+
+    fn idle_timeout(&self) -> u64 {
+        self.idle_timeout
+    }
+
+    fn start(&self, alloc: Global, entries: &[Entry]) -> Result<Adapter, KeepError> {
+        let progress = self.put_back(alloc, entries)?;
+        if progress.is_other_device {
+            return Err(KeepError::Refused);
+        }
+        let adapter = self.adapter(alloc, progress)?;
+        let mut saved = Vec::new(alloc);
+        Self::save(alloc, &adapter, &mut saved)?;
+        if !do_keys_rise(&saved) {
+            return Err(KeepError::Refused);
+        }
+        Ok(adapter)
+    }
+
+    fn save(alloc: Global, adapter: &Adapter, into: &mut Vec<Entry>) -> Result<(), AllocError> {
+        let objects = adapter.objects();
+        let mut count = save_objects(alloc, objects, into)?;
+        if let Some(ledger) = adapter.ledger() {
+            count = save_ledger(alloc, objects, ledger, count, into)?;
+        }
+        into.truncate(count);
+        Ok(())
+    }
+
+    ghost under_keys = { λ a. refl };
+
+    ghost same_keys = { keys_stay };
+}
