@@ -1,39 +1,39 @@
 -- No call of an adapter changes the keys of what is kept of it: they depend on the tables of the objects, and on whether
 -- there is a ledger.
-use Rattle.std.specs.Prelude.{◌≡◌, ℕ, zero, suc, ◌+◌, ◌==◌, ◌&&◌, nat_lt, nat_le, if◌then◌else◌, Bool, true, false, is_some, refl}
-use Rattle.std.specs.Prelude.{List, [], ◌∷◌, ◌++◌, map, length, Option, Some, None, option_map, unwrap_or, Result, Ok, Err}
-use Rattle.std.specs.Option.{option_and_then}
-use Rattle.std.proofs.Common.{◌⊎◌, inl, inr, cond, sym, ap, ◌∙◌}
+use Rattle.std.specs.Prelude.{◌≡◌, ℕ, zero, suc, ◌+◌, ◌==◌, ◌&&◌, nat_lt, nat_le, if◌then◌else◌, Bool, true, false, is_some, IfSome, refl}
+use Rattle.std.specs.Prelude.{List, [], ◌∷◌, ◌++◌, map, take, drop, length, slice_index, Option, Some, None, option_map, unwrap_or, Result, Ok, Err}
+use Rattle.std.specs.List.{AllByRecursion, list_any}
+use Rattle.std.specs.Option.{option_and_then, ok_or}
+use Rattle.std.proofs.Common.{◌⊎◌, inl, inr, sym, ap, subst, ◌∙◌}
 use Rattle.std.proofs.lemmas.List.{map-append}
 use Rattle.cip_application.specs.declared.object.AttributeName.{AttributeName}
-use Rattle.cip_bytes.specs.declared.protocol.TheConstants.{IDENTITY, ASSEMBLY}
-use Rattle.cip_ledger.specs.Device.{Device, exec_device}
-use Rattle.cip_ledger.specs.Doubt.{can_settle, settled}
+use Rattle.cip_bytes.specs.declared.protocol.TheConstants.{IDENTITY, ASSEMBLY, CONNECTION_MANAGER, COUNTER}
+use Rattle.cip_ledger.specs.Device.{Device}
+use Rattle.cip_ledger.specs.Doubt.{settled}
 use Rattle.cip_ledger.specs.Ledger.{LedgerState}
 use Rattle.cip_ledger.specs.Requests.{is_barred}
 use Rattle.cip_ledger.specs.Services.{Replies, Executes, Frees}
-use Rattle.cip_ledger.specs.Turn.{Fate, Passed, Served, Turn, fate, turn_by}
+use Rattle.cip_ledger.specs.Turn.{Fate, Passed, Served, fate, turn_by}
 use Rattle.cip_message.specs.declared.path.Path.{Path}
-use Rattle.cip_objects.specs.declared.service.Service.{Service}
-use Rattle.cip_objects.specs.declared.service.Service.TheVariants.{GetAttributesAll, GetAttributeList}
-use Rattle.cip_objects.specs.declared.service.Service.TheVariants.{GetAttributeSingle, SetAttributeSingle, GetMember}
-use Rattle.cip_objects.specs.declared.service.Service.TheVariants.{SetMember, Add, Clear}
 use Rattle.cip_objects.specs.declared.status.Refusal.{Refusal}
 use Rattle.cip_objects.specs.ChangeServices.{with_bytes_at, set_attribute_single, set_member, add, clear}
 use Rattle.cip_objects.specs.Contents.{Contents, bytes_at, with_value}
 use Rattle.cip_objects.specs.DeviceWrites.{device_write, object_write, with_data_of, with_attribute_by}
-use Rattle.cip_objects.specs.Execution.{Outcome, perform, outcome, exec}
+use Rattle.cip_objects.specs.Execution.{Outcome, outcome_of_read, outcome_of_change, perform, outcome, exec}
+use Rattle.cip_objects.specs.Service.{service_code, service_in}
 use Rattle.cip_objects.specs.Kept.{kept_names}
-use Rattle.cip_objects.specs.OwnRequests.{Asked, own_request, with_stored}
-use Rattle.cip_objects.specs.ReadServices.{get_attribute_single, get_attributes_all, get_attribute_list, get_member}
+use Rattle.cip_objects.specs.OwnRequests.{Asked, own_request}
+use Rattle.cip_objects.specs.ReadServices.{Answer, service_at, get_attribute_single, get_attributes_all}
+use Rattle.cip_objects.specs.ReadServices.{get_attribute_list, get_member}
 use Rattle.cip_objects.specs.Router.{REPLY_TOO_LARGE}
 use Rattle.cip_objects.specs.Tables.{Shape, Shapes, AttributeShape, shape_at, object_at, attribute_at}
+use Rattle.cip_objects.specs.Tables.{services_of, object_services, assembly_services, is_counter_class}
 use Rattle.cip_objects.proofs.Approved.{stored_shapes}
-use Rattle.cip_objects.proofs.Effects.{goes, read_effect, change_effect, set_effect, add_effect, clear_effect}
+use Rattle.cip_objects.proofs.Effects.{goes, bound, found_some, read_effect, change_effect, set_effect, add_effect, clear_effect}
 use Rattle.cip_objects.proofs.Refuses.{exec_left}
 use Rattle.cip_objects.proofs.Unsettable.{splices}
 use Rattle.cip_application.specs.Values.{from_offset}
-use Rattle.cip_owner.specs.Owned.{OwnedState, exec_owned, by_owner, own_executed, given, refused_with, answered, is_fit}
+use Rattle.cip_owner.specs.Owned.{OwnedState, exec_owned, by_owner, given, refused_with, answered, is_fit}
 use Rattle.cip_owner.specs.Owned.{after_reply, stored_at, answer_with, NOT_PREPARED}
 use Rattle.cip_owner.specs.Replies.{Reply}
 use Rattle.device_state.specs.Keys.{key_of}
@@ -42,7 +42,7 @@ use Rattle.enip_adapter.specs.Calls.{AdapterState, Call}
 use Rattle.enip_adapter.specs.DeviceRuns.{DeviceStep, Requested, WrittenBy, device_after, device_after_step, steps_of_calls}
 use Rattle.enip_adapter.specs.DeviceRuns.{objects_after, objects_answer}
 use Rattle.enip_adapter.specs.OwnWrites.{OwnWrite, WritesData, WritesAttribute, SetsStatus, SetsState, Prepares, Settles}
-use Rattle.enip_adapter.specs.OwnWrites.{attribute_write, device_written, objects_written}
+use Rattle.enip_adapter.specs.OwnWrites.{attribute_write, device_written}
 use Rattle.enip_adapter.specs.Runs.{after_calls}
 use Rattle.enip_adapter.proofs.DeviceLemmas.{calls-end}
 use Rattle.kept_server.specs.Changes.{keys_of}
@@ -52,39 +52,128 @@ use Rattle.kept_adapter.specs.Saved.{adapter_keys}
 
 -- ---- the objects keep their tables
 
-performed_shapes : (m : Contents) (s : Service) (path : Path) (content : List ℕ) (o : Outcome)
-    → perform m s path content ≡ Ok o → o.after.shapes ≡ m.shapes
-performed_shapes m GetAttributesAll path content o e =
-    ap (λ (x : Contents). x.shapes) (read_effect m (get_attributes_all m path content) o e)
-performed_shapes m GetAttributeList path content o e =
-    ap (λ (x : Contents). x.shapes) (read_effect m (get_attribute_list m path content) o e)
-performed_shapes m GetAttributeSingle path content o e =
-    ap (λ (x : Contents). x.shapes) (read_effect m (get_attribute_single m path content) o e)
-performed_shapes m SetAttributeSingle path content o e =
+-- The services of the objects.
+abbrev ServiceOf : {S : Type 0} → (Contents → S → Path → List ℕ → Result Outcome Refusal) → Type 0
+ServiceOf {S} how = S
+
+abbrev Service : Type 0
+Service = ServiceOf perform
+
+-- A service keeps the tables.
+abbrev Keeps : Service → Type 0
+Keeps s = (m : Contents) (path : Path) (content : List ℕ) (o : Outcome) → perform m s path content ≡ Ok o
+    → o.after.shapes ≡ m.shapes
+
+abbrev KeepAll : List Service → Type 0
+KeepAll services = AllByRecursion Keeps services
+
+read_keeps : (read : Contents → Path → List ℕ → Result Answer Refusal) (m : Contents) (path : Path) (content : List ℕ)
+    (o : Outcome) → outcome_of_read m (read m path content) ≡ Ok o → o.after.shapes ≡ m.shapes
+read_keeps read m path content o e = ap (λ (x : Contents). x.shapes) (read_effect m (read m path content) o e)
+
+set_keeps : (m : Contents) (path : Path) (content : List ℕ) (o : Outcome)
+    → outcome_of_change (set_attribute_single m path content) ≡ Ok o → o.after.shapes ≡ m.shapes
+set_keeps m path content o e =
     let c = change_effect (set_attribute_single m path content) o e in
     let x = set_effect m path content c.change c.first in
     ap (λ (y : Contents). y.shapes) (c.after ∙ x.leaves)
-performed_shapes m GetMember path content o e =
-    ap (λ (x : Contents). x.shapes) (read_effect m (get_member m path content) o e)
-performed_shapes m SetMember path content o e =
+
+member_keeps : (m : Contents) (path : Path) (content : List ℕ) (o : Outcome)
+    → outcome_of_change (set_member m path content) ≡ Ok o → o.after.shapes ≡ m.shapes
+member_keeps m path content o e =
     let c = change_effect (set_member m path content) o e in
     let x = splices m path content c.change c.first in
     ap (λ (y : Contents). y.shapes) (c.after ∙ x.leaves)
-performed_shapes m Add path content o e =
+
+add_keeps : (m : Contents) (path : Path) (content : List ℕ) (o : Outcome)
+    → outcome_of_change (add m content) ≡ Ok o → o.after.shapes ≡ m.shapes
+add_keeps m path content o e =
     let c = change_effect (add m content) o e in
     let x = add_effect m content c.change c.first in
     ap (λ (y : Contents). y.shapes) (c.after ∙ x.leaves)
-performed_shapes m Clear path content o e =
+
+clear_keeps : (m : Contents) (path : Path) (content : List ℕ) (o : Outcome)
+    → outcome_of_change (clear m content) ≡ Ok o → o.after.shapes ≡ m.shapes
+clear_keeps m path content o e =
     let c = change_effect (clear m content) o e in
     let x = clear_effect m content c.change c.first in
     ap (λ (y : Contents). y.shapes) (c.after ∙ x.leaves)
+
+-- So do all of these services, if there are any.
+record AllKeep (services : Option (List Service)) : Type 0 where
+  all : IfSome services KeepAll
+
+either : {x y : Option (List Service)} (t : Bool) → AllKeep x → AllKeep y → AllKeep (if t then x else y)
+either true h k = h
+either false h k = k
+
+each : {A : Type 0} (services : List Service) (o : Option A) → KeepAll services → AllKeep (option_map (λ _. services) o)
+each services None h = record { all = tt }
+each services (Some x) h = record { all = h }
+
+abbrev not_there : Option (List Service)
+not_there = None
+
+abbrev without_services : Option (List Service)
+without_services = Some []
+
+-- Each service that an object offers keeps the tables.
+offered_keep : (shapes : Shapes) (class instance : ℕ) → AllKeep (services_of shapes class instance)
+unfolding services_of
+offered_keep shapes class instance =
+    let whole = read_keeps get_attributes_all in
+    let list = read_keeps get_attribute_list in
+    let single = read_keeps get_attribute_single in
+    let member = read_keeps get_member in
+    let none : AllKeep not_there = record { all = tt } in
+    let empty : AllKeep without_services = record { all = tt } in
+    let of_class : AllKeep (Some (take 1 (drop 2 object_services))) = record { all = (single, tt) } in
+    let of_identity : AllKeep (Some (take 3 object_services)) = record { all = (whole, (list, (single, tt))) } in
+    let of_counter : AllKeep (services_of (record { assemblies = []; has_counter = true; objects = [] }) COUNTER 1)
+    = record { all = (add_keeps, (clear_keeps, (list, (single, (set_keeps, tt))))) } in
+    either (class == IDENTITY) (either (instance == 0) of_class (either (instance == 1) of_identity none))
+    (either (class == ASSEMBLY)
+    (either (instance == 0) of_class
+    (each assembly_services (shape_at instance shapes.assemblies)
+    (list, (single, (set_keeps, (member, (member_keeps, tt)))))))
+    (either (class == CONNECTION_MANAGER) (either (instance == 1) empty none)
+    (either (is_counter_class shapes class)
+    (either (instance == 0) of_class (either (instance == 1) of_counter none))
+    (either (instance == 0) (either (list_any (λ o. o.class == class) shapes.objects) of_class none)
+    (each object_services (object_at class instance shapes.objects) (whole, (list, (single, (set_keeps, tt)))))))))
+
+same_some : {A : Type 0} (x y : A) → ◌≡◌ {A = Option A} (Some x) (Some y) → x ≡ y
+same_some x y e = cc
+
+picked : {A : Type 0} (P : A → Type 0) (t : Bool) (x s : A) (rest : Option A) → P x → (rest ≡ Some s → P s)
+    → (if t then Some x else rest) ≡ Some s → P s
+picked P true x s rest h later e = subst P (same_some x s e) h
+picked P false x s rest h later e = later e
+
+found_keeps : (code : ℕ) (services : List Service) (s : Service) → KeepAll services → service_in code services ≡ Some s
+    → Keeps s
+found_keeps code [] s all e = absurd (cc)
+found_keeps code (x ∷ services) s all e =
+    picked Keeps (service_code x == code) x s (service_in code services) all.0 (found_keeps code services s all.1) e
+
+chosen_keeps : (shapes : Shapes) (class instance code : ℕ) (s : Service) → service_at shapes class instance code ≡ Ok s
+    → Keeps s
+unfolding service_at
+chosen_keeps shapes class instance code s e =
+    let offered = bound (ok_or (services_of shapes class instance) _) _ s e in
+    found_keeps code offered.value s
+    (subst (λ o. IfSome o KeepAll) (found_some (services_of shapes class instance) _ offered.value offered.first)
+    (offered_keep shapes class instance).all)
+    (found_some (service_in code offered.value) _ s offered.rest)
 
 left_shapes : (m n : Contents) (text : List ℕ)
     → (n ≡ m) ⊎ ((o : Outcome) × (outcome m text ≡ Ok o) × (n ≡ o.after)) → n.shapes ≡ m.shapes
 left_shapes m n text (inl same) = ap (λ (x : Contents). x.shapes) same
 left_shapes m n text (inr x) =
     let g = goes m text x.0 x.1 in
-    ap (λ (y : Contents). y.shapes) x.2 ∙ performed_shapes m g.service g.path g.request.data x.0 g.is_performed
+    ap (λ (y : Contents). y.shapes) x.2
+    ∙ chosen_keeps m.shapes g.path.class g.path.instance g.request.service g.service g.is_chosen m g.path
+    g.request.data x.0 g.is_performed
 
 executed_shapes : (m : Contents) (max_size : ℕ) (text : List ℕ) → (exec m max_size text).after.shapes ≡ m.shapes
 executed_shapes m max_size text = left_shapes m (exec m max_size text).after text (exec_left m max_size text)
@@ -119,7 +208,7 @@ owner_shapes : (w : OwnedState) (max_size : ℕ) (text : List ℕ) (own : Option
     → (by_owner w max_size text own).after.objects.shapes ≡ w.objects.shapes
 owner_shapes w max_size text None = executed_shapes w.objects max_size text
 owner_shapes w max_size text (Some (Err refusal)) = refl
-owner_shapes w max_size text (Some (Ok asked)) = by_size (nat_lt max_size (4 + asked.reply_limit)) _
+owner_shapes w max_size text (Some (Ok asked)) = by_size (nat_lt max_size (4 + asked.reply_limit)) (slice_index text 0)
   where
     by_size : (t : Bool) (service : ℕ) → (if t then refused_with w service REPLY_TOO_LARGE
         else given w service asked w.prepared).after.objects.shapes ≡ w.objects.shapes

@@ -1,7 +1,6 @@
 -- The adapter that starts from what was kept.
 use Rattle.std.specs.Prelude.{ℕ, ◌==◌, Bool, IsTrue, true, false, not, ◌&&◌, ◌||◌, if◌then◌else◌}
 use Rattle.std.specs.Prelude.{List, [], ◌∷◌, length, Option, Some, None, option_map}
-use Rattle.std.specs.List.{list_any}
 use Rattle.cip_ledger.specs.Device.{device_of}
 use Rattle.cip_ledger.specs.Ledger.{LedgerState, empty_ledger}
 use Rattle.cip_objects.specs.Configuration.{contents_of_config}
@@ -87,10 +86,11 @@ configured start = state_of (contents_of_config start.objects) (new_ledger start
 abbrev pub put_back_in : AdapterStart → Kept → Progress
 put_back_in start kept = put_all_back (beginning (configured start)) kept
 
--- The ledger as it was kept, in the life in which it was kept. If an entry of the ledger is lost, or the life, the ledger
--- is empty, in a life of its own.
+-- The ledger as it was kept, in the life in which it was kept. If an entry of the ledger is lost, or the life, or if a
+-- new life is wanted, the ledger is empty, in a life of its own.
 abbrev pub trusted_ledger : AdapterStart → Progress → Option LedgerState
-trusted_ledger start p = if p.has_life && not p.has_lost then p.ledger else new_ledger start.ledger
+trusted_ledger start p =
+    if p.has_life && (not p.has_lost && not start.begins_life) then p.ledger else new_ledger start.ledger
 
 abbrev pub started_from : AdapterStart → Progress → AdapterState
 started_from start p = new_adapter (device_of (trusted_ledger start p) p.objects) start.listen start.limits

@@ -1,5 +1,6 @@
 //! What an adapter is made from.
-ghost use Rattle.std.specs.Prelude.{◌≡◌, ◌≤◌, ForSome, None};
+ghost use Rattle.std.specs.Prelude.{◌≡◌, ◌≤◌, None};
+ghost use Rattle.std.specs.Option.{ForSome};
 ghost use Rattle.cip_objects.specs.Configuration.{fault_of};
 
 use cip_objects::Config;
@@ -19,7 +20,7 @@ pub struct LedgerStart {
 /// configuration.
 ///
 /// ```
-/// let start = AdapterStart { objects, ledger: None, listen, limits, idle_timeout: 60_000_000 };
+/// let start = AdapterStart { objects, ledger: None, begins_life: false, listen, limits, idle_timeout: 60_000_000 };
 /// let mut server = Server::<KeptPeers<TcpWire, AdapterStart>, Rows>::start(alloc, keeper, &start)?;
 /// ```
 #[derive(Debug, Drop)]
@@ -28,6 +29,8 @@ pub struct AdapterStart {
     pub objects: Config,
     /// The command ledger, if there is one.
     pub ledger: Option<LedgerStart>,
+    /// Whether the ledger starts empty, in its own life, whatever is kept of it.
+    pub begins_life: bool,
     /// The address and the port that ListIdentity reports.
     pub listen: Listen,
     /// The capacity, and the first numbers that are assigned.

@@ -1,8 +1,8 @@
 //! Writes what is kept of an adapter.
-ghost use Rattle.std.specs.Prelude.{◌≡◌, ◌<◌, ◌≤◌, ◌+◌, ◌^◌, ◌∷◌, ◌++◌, [], suc, length, take, true, Some, IfOk, OnOk};
-ghost use Rattle.enip_keep.specs.Kept.{pairs_of};
+ghost use Rattle.std.specs.Prelude.{◌≡◌, ◌<◌, ◌≤◌, ◌+◌, ◌^◌, ◌∷◌, ◌++◌, [], suc, length, take, true, Some, IfOk, OnOk, option_map};
+ghost use Rattle.enip_keep.specs.Kept.{pair_of, pairs_of};
 ghost use Rattle.kept_server.specs.Changes.{are_small, keys_of, rise};
-ghost use Rattle.kept_adapter.specs.Saved.{first_entries, ledger_bytes, saved_objects, ENTRIES};
+ghost use Rattle.kept_adapter.specs.Saved.{first_entries, ledger_bytes, saved_ledger, saved_objects, ENTRIES};
 
 use crate::keys::ledger_key;
 use cip_ledger::{Ledger, MOST_ORIGINATORS};
@@ -10,6 +10,30 @@ use cip_objects::{Objects, ReplyBuf};
 use device_state::saved_entry;
 use enip_keep::Entry;
 use std::alloc::{AllocError, Global};
+
+/// Makes sure that there is an entry at an index, which is at most behind all others.
+fn add_if_missing(alloc: Global, into: &mut Vec<Entry>, index: usize) -> Result<(), AllocError>
+    requires { index ≤ length into.old.items }
+    ensures front { OnOk result (take index (pairs_of into.new.items) ≡ take index (pairs_of into.old.items)) }
+    ensures within { OnOk result (index < length into.new.items) }
+{
+    if index == into.len() {
+        into.push(Entry {
+            key: 0,
+            bytes: Vec::new(alloc),
+        })?;
+    }
+    Ok(())
+}
+
+/// Gives an entry this key and these bytes.
+fn write_entry(entry: &mut Entry, key: u64, bytes: &[u8]) -> Result<(), AllocError>
+    ensures { OnOk result (pair_of entry.new ≡ (key, bytes.now)) }
+{
+    entry.key = key;
+    entry.bytes.clear();
+    entry.bytes.extend_from_slice(bytes)
+}
 
 /// Writes an entry to `into` at an index, in place of what is there, or behind all others.
 fn set_entry(
@@ -20,20 +44,16 @@ fn set_entry(
     bytes: &[u8],
 ) -> Result<(), AllocError>
     requires within { index ≤ length into.old.items }
+    requires key { key < 2 ^ 63 }
+    requires bytes { length bytes.now < 2 ^ 16 }
+    requires small { are_small (take index (pairs_of into.old.items)) ≡ true }
     ensures entry { OnOk result (take (suc index) (pairs_of into.new.items)
         ≡ take index (pairs_of into.old.items) ++ (key, bytes.now) ∷ []) }
-    ensures within { OnOk result (index < length into.new.items) }
+    ensures within { OnOk result (suc index ≤ length into.new.items) }
+    ensures small { OnOk result (are_small (take (suc index) (pairs_of into.new.items)) ≡ true) }
 {
-    if index == into.len() {
-        into.push(Entry {
-            key,
-            bytes: Vec::new(alloc),
-        })?;
-    }
-    let entry = &mut into[index];
-    entry.key = key;
-    entry.bytes.clear();
-    entry.bytes.extend_from_slice(bytes)
+    add_if_missing(alloc, into, index)?;
+    write_entry(&mut into[index], key, bytes)
 }
 
 /// Writes the entries of objects to `into`, in place of the first ones that are there. Returns how many they are.
@@ -86,6 +106,30 @@ pub(crate) fn save_ledger(
         count += 1;
     }
     Ok(count)
+}
+
+/// The same, if there is a ledger. Nothing is written if there is none.
+///
+/// # Errors
+///
+/// `AllocError` if memory is refused.
+pub(crate) fn save_ledger_if_any(
+    alloc: Global,
+    objects: &Objects,
+    ledger: Option<&Ledger>,
+    start: usize,
+    into: &mut Vec<Entry>,
+) -> Result<usize, AllocError>
+    requires within { start ≤ length into.old.items }
+    requires small { are_small (take start (pairs_of into.old.items)) ≡ true }
+    ensures entries { IfOk result (λ count. take count (pairs_of into.new.items)
+        ≡ take start (pairs_of into.old.items) ++ saved_ledger (option_map (λ l. l.now) ledger.entry)) }
+    ensures small { IfOk result (λ count. are_small (take count (pairs_of into.new.items)) ≡ true) }
+{
+    match ledger {
+        Some(ledger) => save_ledger(alloc, objects, ledger, start, into),
+        None => Ok(start),
+    }
 }
 
 /// Writes the content of an entry of the ledger to `bytes`, by the entry's number: that of the life or of a slot.

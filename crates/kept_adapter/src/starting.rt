@@ -9,7 +9,7 @@ ghost use Rattle.kept_adapter.specs.Started.{started_from};
 
 use crate::adapter_start::AdapterStart;
 use crate::progress::Progress;
-use crate::saving::{do_keys_rise, save_ledger, save_objects};
+use crate::saving::{do_keys_rise, save_ledger_if_any, save_objects};
 use cip_ledger::Ledger;
 use cip_objects::Objects;
 use enip_adapter::Adapter;
@@ -82,7 +82,7 @@ impl AdapterStart {
             has_lost,
             ..
         } = progress;
-        let ledger = if has_life && !has_lost {
+        let ledger = if has_life && !has_lost && !self.begins_life {
             ledger
         } else {
             self.new_ledger(alloc)?
@@ -123,10 +123,8 @@ impl KeptDevice for AdapterStart {
 
     fn save(alloc: Global, adapter: &Adapter, into: &mut Vec<Entry>) -> Result<(), AllocError> {
         let objects = adapter.objects();
-        let mut count = save_objects(alloc, objects, into)?;
-        if let Some(ledger) = adapter.ledger() {
-            count = save_ledger(alloc, objects, ledger, count, into)?;
-        }
+        let values = save_objects(alloc, objects, into)?;
+        let count = save_ledger_if_any(alloc, objects, adapter.ledger(), values, into)?;
         into.truncate(count);
         Ok(())
     }

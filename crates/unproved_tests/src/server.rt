@@ -3,6 +3,7 @@
 mod caller;
 mod held;
 mod kept;
+mod kept_adapter;
 mod owner;
 mod turns;
 mod wires;

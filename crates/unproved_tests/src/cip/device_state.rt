@@ -38,7 +38,7 @@ fn used_device(rt: &impl Abort, alloc: Global) -> Result<(Objects, Option<Ledger
     assert!(rt; objects.write_attribute(768, 2, 1, 0, b"\x03xyz"));
     assert!(rt; objects.write_attribute(768, 2, 3, 0, b"\xff\xff")); // out of the range of peers
     let mut ledger = Ledger::new(alloc, 2, 0x0102)?;
-    assert!(rt; ledger.restore(9, 5, b"\xb2\x00\x00\x00"));
+    assert!(rt; ledger.restore(9, 5, Some(b"\xb2\x00\x00\x00".as_slice())));
     Ok((objects, Some(ledger)))
 }
 
@@ -120,7 +120,7 @@ fn check_outcome(
 
 #[test]
 fn entries_that_do_not_fit(rt: HostRuntime) -> Result<(), Fail> {
-    let rows: [(u64, &[u8], Outcome); 16] = [
+    let rows: [(u64, &[u8], Outcome); 18] = [
         (0x0004_0064_0003, b"\xaa\xbb\xcc", Outcome::Unfit), // four bytes
         (0x0004_0064_0004, b"\x04\x00", Outcome::Unfit), // the size is not kept
         (0x0004_0063_0003, b"\xaa\xbb", Outcome::Unknown), // no assembly 99
@@ -135,9 +135,19 @@ fn entries_that_do_not_fit(rt: HostRuntime) -> Result<(), Fail> {
         (0x0065_0002_0000, SLOT, Outcome::Unfit), // the originator has a slot
         (
             0x0065_0002_0000,
-            b"\x0a\x00\x00\x00\x00\x00\x00\x00\x05\x00\x00\x00\x02",
+            b"\x0a\x00\x00\x00\x00\x00\x00\x00\x05\x00\x00\x00\x01",
             Outcome::Unfit,
-        ), // not done
+        ), // pending
+        (
+            0x0065_0002_0000,
+            b"\x0a\x00\x00\x00\x00\x00\x00\x00\x05\x00\x00\x00\x02\xb2",
+            Outcome::Unfit,
+        ), // in doubt, with a reply
+        (
+            0x0065_0002_0000,
+            b"\x0a\x00\x00\x00\x00\x00\x00\x00\x05\x00\x00\x00\x02",
+            Outcome::Used,
+        ), // in doubt
         (
             0x0065_0002_0000,
             b"\x0a\x00\x00\x00\x00\x00\x00\x00\x05\x00\x00\x00\x00",

@@ -1,0 +1,124 @@
+//! An adapter that starts from what was kept of it.
+
+use cip_ledger::{Ledger, MOST_ORIGINATORS};
+use enip_adapter::Adapter;
+use enip_keep::{Entry, KeepError};
+use enip_server::NO_IDLE_TIMEOUT;
+use kept_adapter::{AdapterStart, LedgerStart};
+use kept_server::KeptDevice;
+use std::alloc::{AllocError, Global};
+use std::test::Fail;
+use test_fixtures::adapter::{LIMITS, LISTEN, config};
+
+/// The keys of the life and of the first slot of the ledger.
+const LIFE: u64 = 0x1_0065_0000_0000;
+
+const FIRST_SLOT: u64 = 0x1_0065_0001_0000;
+
+/// The key of the data of assembly 100.
+const DATA: u64 = 0x4_0064_0003;
+
+/// Originator 1 and its command 2, which is done, with an empty reply.
+const SLOT: [u8; 13] = [1, 0, 0, 0, 0, 0, 0, 0, 2, 0, 0, 0, 0];
+
+/// The demo device with a ledger, which is in this life if its ledger starts empty.
+fn start_in(alloc: Global, life: u64) -> Result<AdapterStart, Fail> {
+    Ok(AdapterStart {
+        objects: config(alloc)?,
+        ledger: Some(LedgerStart {
+            originators: 2,
+            life,
+        }),
+        begins_life: false,
+        listen: LISTEN,
+        limits: LIMITS,
+        idle_timeout: NO_IDLE_TIMEOUT,
+    })
+}
+
+/// What is kept of an adapter.
+fn saved(alloc: Global, adapter: &Adapter) -> Result<Vec<Entry>, AllocError> {
+    let mut entries = Vec::new(alloc);
+    AdapterStart::save(alloc, adapter, &mut entries)?;
+    Ok(entries)
+}
+
+/// Gives the entry under a key other bytes.
+fn set(entries: &mut Vec<Entry>, key: u64, bytes: &[u8]) -> Result<(), AllocError> {
+    for index in 0..entries.len() {
+        if entries[index].key == key {
+            entries[index].bytes.clear();
+            entries[index].bytes.extend_from_slice(bytes)?;
+        }
+    }
+    Ok(())
+}
+
+/// The life of the adapter's ledger, and how many slots are taken.
+fn ledger_of(adapter: &Adapter) -> (u64, usize) {
+    adapter.ledger().map_or(
+        (0, 0),
+        |ledger: &Ledger| (ledger.life(), ledger.slot_count()),
+    )
+}
+
+#[test]
+fn an_adapter_starts_from_what_was_kept(rt: HostRuntime) -> Result<(), Fail> {
+    let alloc = rt.alloc();
+    let adapter = start_in(alloc, 9)?.start(alloc, &[])?;
+    assert_eq!(rt; ledger_of(&adapter), (9, 0));
+    let mut entries = saved(alloc, &adapter)?;
+    set(&mut entries, DATA, &[7, 8, 9, 10])?;
+    set(&mut entries, FIRST_SLOT, &SLOT)?;
+    let start = start_in(alloc, 10)?;
+    let again = start.start(alloc, &entries)?;
+    assert_eq!(rt; ledger_of(&again), (9, 1));
+    let data = again
+        .objects()
+        .attribute(4, 100, 3)
+        .ok_or("assembly 100 has data")?;
+    assert_eq!(rt; data.as_slice(), [7, 8, 9, 10].as_slice());
+    assert_eq!(rt; start.unused(alloc, &entries)?.len(), 0);
+    // It is kept in the same entries, the ledger last.
+    let kept = saved(alloc, &again)?;
+    assert_eq!(rt; kept.len(), entries.len());
+    for index in 0..kept.len() {
+        assert_eq!(rt; kept[index].key, entries[index].key);
+        assert_eq!(rt;
+            kept[index].bytes.as_slice(),
+            entries[index].bytes.as_slice()
+        );
+    }
+    let life = kept.len() - usize::from(MOST_ORIGINATORS) - 1;
+    assert_eq!(rt; kept[life].key, LIFE);
+    Ok(())
+}
+
+#[test]
+fn a_ledger_of_which_a_slot_is_lost_starts_empty(rt: HostRuntime) -> Result<(), Fail> {
+    let alloc = rt.alloc();
+    let mut entries = saved(alloc, &start_in(alloc, 9)?.start(alloc, &[])?)?;
+    set(&mut entries, FIRST_SLOT, &SLOT[..12])?;
+    let start = start_in(alloc, 10)?;
+    assert_eq!(rt; ledger_of(&start.start(alloc, &entries)?), (10, 0));
+    let unused = start.unused(alloc, &entries)?;
+    assert_eq!(rt; unused.as_slice(), [FIRST_SLOT].as_slice());
+    Ok(())
+}
+
+#[test]
+fn the_entries_of_another_device_are_refused(rt: HostRuntime) -> Result<(), Fail> {
+    let alloc = rt.alloc();
+    let mut entries = saved(alloc, &start_in(alloc, 9)?.start(alloc, &[])?)?;
+    set(&mut entries, device_state::identity_key(), &[0; 8])?;
+    let start = start_in(alloc, 10)?;
+    assert_eq!(rt;
+        start.start(alloc, &entries).err(),
+        Some(KeepError::Refused)
+    );
+    // Nor does a device start whose assemblies do not rise.
+    let mut other = start_in(alloc, 10)?;
+    other.objects.assemblies.reverse();
+    assert_eq!(rt; other.start(alloc, &[]).err(), Some(KeepError::Refused));
+    Ok(())
+}
