@@ -92,7 +92,7 @@ fn serve_config<'a, O: Observer + Drop>(
         let peers = Peers::new(rt.alloc(), adapter, options.idle_timeout)?;
         return listen_and_serve(rt, options, peers, observer);
     };
-    let start = adapter_start(rt, config, options.idle_timeout)?;
+    let start = adapter_start(rt, config, file.accepts_older(), options.idle_timeout)?;
     let keeper = file.open(rt, args)?;
     let server = Server::start(rt.alloc(), keeper, &start).map_err(|error| file.refused(error))?;
     listen_and_serve(rt, options, Keeping::new(server), observer)
@@ -148,11 +148,12 @@ fn adapter_to_serve<'a>(
 fn adapter_start<'a>(
     rt: &HostRuntime,
     config: &NamedFile<'a>,
+    begins_life: bool,
     idle_timeout: u64,
 ) -> Result<AdapterStart, CommandError<'a>> {
     let configuration = config.configuration_to_serve(rt.alloc())?;
     let life = life_now(rt)?;
-    match start_of(configuration, life, idle_timeout) {
+    match start_of(configuration, life, begins_life, idle_timeout) {
         Some(start) => Ok(start),
         None => Err(CommandError::of_reason(Reason::Failed(config.name()))),
     }
@@ -163,6 +164,7 @@ fn adapter_start<'a>(
 fn start_of(
     configuration: Configuration,
     life: u64,
+    begins_life: bool,
     idle_timeout: u64,
 ) -> Option<AdapterStart> {
     let Configuration {
@@ -176,8 +178,12 @@ fn start_of(
         ledger,
         attribute_types: _,
     } = configuration;
-    objects.assemblies.sort_unstable_by_key(|assembly| assembly.instance);
-    objects.objects.sort_unstable_by_key(|object| (object.class, object.instance));
+    objects
+        .assemblies
+        .sort_unstable_by_key(|assembly| assembly.instance);
+    objects
+        .objects
+        .sort_unstable_by_key(|object| (object.class, object.instance));
     let ledger = ledger.map(|ledger| LedgerStart {
         originators: ledger.originators,
         life,
@@ -194,6 +200,7 @@ fn start_of(
     Some(AdapterStart {
         objects,
         ledger,
+        begins_life,
         listen: Listen { address, port },
         limits,
         idle_timeout,
