@@ -1,6 +1,7 @@
 //! An adapter that starts from what was kept of it.
 
 use cip_ledger::{Ledger, MOST_ORIGINATORS};
+use cip_objects::AssemblyConfig;
 use enip_adapter::Adapter;
 use enip_keep::{Entry, KeepError};
 use enip_server::NO_IDLE_TIMEOUT;
@@ -118,7 +119,11 @@ fn the_entries_of_another_device_are_refused(rt: HostRuntime) -> Result<(), Fail
     );
     // Nor does a device start whose assemblies do not rise.
     let mut other = start_in(alloc, 10)?;
-    other.objects.assemblies.reverse();
+    other.objects.assemblies.push(AssemblyConfig {
+        instance: 99,
+        settable: true,
+        members: Vec::from_slice(alloc, &[1])?,
+    })?;
     assert_eq!(rt; other.start(alloc, &[]).err(), Some(KeepError::Refused));
     Ok(())
 }
