@@ -1,8 +1,7 @@
 -- The entries of a device by their indexes.
-use Rattle.std.proofs.Common.{◌≡◌, ℕ, zero, suc, ◌<◌, ◌≤◌, List, [], ◌∷◌, length, map, Option, Some, None, refl, sym, ap, ◌∙◌, arith}
+use Rattle.std.proofs.Common.{◌≡◌, ℕ, zero, suc, ◌<◌, ◌≤◌, List, [], ◌∷◌, length, map, Some, None, refl, sym, ap, arith}
 use Rattle.std.specs.Prelude.{slice_get}
 use Rattle.device_state.specs.Saved as device
-use Rattle.saved_state.specs.States.{Entry}
 use Rattle.saved_state.specs.Writing.{entry_number}
 use Rattle.saved_device.specs.Devices.{kept, given}
 

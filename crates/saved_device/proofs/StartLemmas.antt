@@ -1,12 +1,11 @@
 -- Entries that are put back one after another.
 use Rattle.std.proofs.Common.{◌≡◌, ℕ, Bool, true, false, ◌&&◌, List, ◌∷◌, map, refl, sym, ap, subst, ◌∙◌}
 use Rattle.device_state.specs.declared.restoring.Outcome.{Outcome}
-use Rattle.device_state.specs.declared.restoring.Outcome.TheVariants.{Used, Unknown, Unfit, OtherDevice}
-use Rattle.device_state.specs.Laws.{IsDevice, IsFresh, IsRestored}
-use Rattle.device_state.specs.Restored.{Done, done, restored, restored_entry}
+use Rattle.device_state.specs.Laws.{IsRestored}
+use Rattle.device_state.specs.Restored.{done, restored, restored_entry}
 use Rattle.device_state.specs.Saved as device
 use Rattle.saved_state.specs.States.{Entry}
-use Rattle.saved_device.specs.Devices.{kept, given, is_used, are_used, started}
+use Rattle.saved_device.specs.Devices.{given, is_used, are_used, started}
 use Rattle.saved_device.specs.Laws.{state_with}
 use Rattle.saved_device.proofs.EntryLemmas.{given_back}
 

@@ -1,5 +1,5 @@
 -- What holds of a device that starts from the state of another run.
-use Rattle.std.specs.Prelude.{◌≡◌, ℕ}
+use Rattle.std.specs.Prelude.{ℕ}
 use Rattle.device_state.specs.Laws.{IsDevice, IsFresh, IsRestored}
 use Rattle.device_state.specs.Saved as device
 use Rattle.saved_state.specs.States.{State}

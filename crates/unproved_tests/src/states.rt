@@ -1,6 +1,7 @@
 //! States as bytes. The bytes were computed from the form's table, not by the program.
 
 use crate::texts::check_texts;
+use saved_device::OtherDevice;
 use saved_state::{
     EntryHead, EntryList, EntrySource, EntryView, SavedState, StateFault, WriteFault, saved_size,
     write,
@@ -514,5 +515,7 @@ fn texts_of_faults(rt: HostRuntime) -> Result<(), Fail> {
         (WriteFault::TooLong, "the state is too long"),
         (WriteFault::Full, "the state does not fit"),
     ];
+    check_texts(&rt, rt.alloc(), &rows)?;
+    let rows = [(OtherDevice, "the saved state is that of another device")];
     check_texts(&rt, rt.alloc(), &rows)
 }
