@@ -17,14 +17,14 @@ use Rattle.device_state.specs.Saved.{state_of, entry_of, life_entry, slot_bytes,
 use Rattle.device_state.proofs.KeyLemmas.{name_back}
 use Rattle.device_state.proofs.Puts.{Leads, leads_nowhere, leads_on}
 
-abbrev state : ℕ → ℕ → List SlotState → LedgerState
+abbrev pub state : ℕ → ℕ → List SlotState → LedgerState
 state slots life taken = record { slots = slots; life = life; taken = taken }
 
 -- the life
 life_back : (life : ℕ) → life < 2 ^ 64 → number_at 0 8 (le 8 life) ≡ life
 life_back life h = ap (number_at 0 8) (sym (append-nil (le 8 life))) ∙ little_number-reads_back 8 life [] h
 
-life_put : (m : Contents) (slots old life : ℕ) → life < 2 ^ 64 → restored_entry (state_of m (Some (state slots old []))) (life_entry life) ≡ done (state_of m (Some (state slots life []))) Used
+pub life_put : (m : Contents) (slots old life : ℕ) → life < 2 ^ 64 → restored_entry (state_of m (Some (state slots old []))) (life_entry life) ≡ done (state_of m (Some (state slots life []))) Used
 life_put m slots old life h =
     ap (by_name (state_of m (Some (state slots old []))) (le 8 life)) (name_back LEDGER 0 0 (omega arith) (omega arith) (omega arith))
     ∙ ap (λ n. done (state_of m (Some (state slots n []))) Used) (life_back life h)
@@ -47,7 +47,7 @@ slot_back slot is =
 not_first : (n : ℕ) → 1 ≤ n → eqb n 0 ≡ false
 not_first n h = grind (arith, nat_tests)
 
-slot_put : (m : Contents) (l after : LedgerState) (number : ℕ) (slot : SlotState) → 1 ≤ number → number < 2 ^ 16 → IsSlot slot → slot_restored slot l ≡ Some after
+pub slot_put : (m : Contents) (l after : LedgerState) (number : ℕ) (slot : SlotState) → 1 ≤ number → number < 2 ^ 16 → IsSlot slot → slot_restored slot l ≡ Some after
     → restored_entry (state_of m (Some l)) (entry_of (key_of LEDGER number 0) (slot_bytes slot)) ≡ done (state_of m (Some after)) Used
 slot_put m l after number slot above narrow is e =
     let b = slot_bytes slot in

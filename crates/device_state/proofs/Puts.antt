@@ -151,12 +151,12 @@ still_agrees m f n q same =
 all_same : (c i a : ℕ) → eqb c c && (eqb i i && eqb a a) ≡ true
 all_same c i a = grind (arith, nat_tests)
 
-put_agrees : (m f : Contents) (n : AttributeName) → reads (put m f n) n ≡ reads m n
+pub put_agrees : (m f : Contents) (n : AttributeName) → reads (put m f n) n ≡ reads m n
 put_agrees m f n =
     ap (λ o. unwrap_or o []) (value_at-with_value f n.class n.instance n.attribute (reads m n) n.class n.instance n.attribute
     ∙ ap (λ t. cond t (Some (reads m n)) (value_at f n.class n.instance n.attribute)) (all_same n.class n.instance n.attribute))
 
-keeps_agreeing : (m f : Contents) (names : List AttributeName) (q : AttributeName) → reads f q ≡ reads m q → reads (put_all m f names) q ≡ reads m q
+pub keeps_agreeing : (m f : Contents) (names : List AttributeName) (q : AttributeName) → reads f q ≡ reads m q → reads (put_all m f names) q ≡ reads m q
 keeps_agreeing m f [] q same = same
 keeps_agreeing m f (n ∷ names) q same = keeps_agreeing m (put m f n) names q (still_agrees m f n q same)
 
@@ -171,7 +171,7 @@ entries_same m f (n ∷ names) =
 apart : (a n i j b c : ℕ) → eqb n a ≡ false → eqb a n && (eqb i j && eqb b c) ≡ false
 apart a n i j b c e = grind (arith, nat_tests)
 
-identity_put : (m f : Contents) (n : AttributeName) (a : ℕ) → eqb n.class IDENTITY ≡ false → bytes_at (put m f n) IDENTITY 1 a ≡ bytes_at f IDENTITY 1 a
+pub identity_put : (m f : Contents) (n : AttributeName) (a : ℕ) → eqb n.class IDENTITY ≡ false → bytes_at (put m f n) IDENTITY 1 a ≡ bytes_at f IDENTITY 1 a
 identity_put m f n a e =
     ap (λ o. unwrap_or o []) (value_at-with_value f n.class n.instance n.attribute (reads m n) IDENTITY 1 a
     ∙ ap (λ t. cond t (Some (reads m n)) (value_at f IDENTITY 1 a)) (apart IDENTITY n.class 1 n.instance a n.attribute e))

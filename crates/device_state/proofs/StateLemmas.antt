@@ -30,8 +30,8 @@ same_bytes : (xs ys : List ℕ) → xs ≡ ys → bytes_eq xs ys ≡ true
 same_bytes xs ys e = search (rules, bytes_eq-Decides)
 
 -- the entry of the same device is used, and that of another one reported
-identity_put : (s : State) (content : List ℕ) → content ≡ identity_bytes s.objects → restored_entry s (entry_of (key_of IDENTITY 1 0) content) ≡ done s Used
-identity_put s content e =
+pub identity_used_by : (s : State) (content : List ℕ) → content ≡ identity_bytes s.objects → restored_entry s (entry_of (key_of IDENTITY 1 0) content) ≡ done s Used
+identity_used_by s content e =
     ap (by_name s content) own_name
     ∙ ap (λ t. done s (cond t Used OtherDevice)) (same_bytes content (identity_bytes s.objects) e)
 
@@ -44,7 +44,7 @@ ledgers_lead : (m : Contents) (l : Option LedgerState) (life : ℕ) → IfSome l
 ledgers_lead m None life is = leads_nowhere (state_of m None)
 ledgers_lead m (Some l) life is = ledger_leads m l life is
 
-names_of_kept : (m : Contents) (names : List AttributeName) → AllByRecursion (IsKept m) names → AllByRecursion IsName names
+pub names_of_kept : (m : Contents) (names : List AttributeName) → AllByRecursion (IsKept m) names → AllByRecursion IsName names
 names_of_kept m [] h = tt
 names_of_kept m (n ∷ names) h = (h.0.is_name, names_of_kept m names h.1)
 
@@ -57,7 +57,7 @@ module _ (s fresh : State) (life : ℕ) (new : IsFresh s fresh life) (is : IfSom
   start = ap (state_of fresh.objects) new.ledger
 
   identity_used : restored_entry fresh (identity_entry s.objects) ≡ done fresh Used
-  identity_used = identity_put fresh (identity_bytes s.objects) (sym new.identity)
+  identity_used = identity_used_by fresh (identity_bytes s.objects) (sym new.identity)
 
   ledger_used : Leads behind_identity (ledger_entries s.ledger) (state_of fresh.objects s.ledger)
   ledger_used = ledgers_lead fresh.objects s.ledger life is

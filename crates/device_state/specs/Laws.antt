@@ -1,5 +1,5 @@
 -- What holds of a device that starts from what was saved.
-use Rattle.std.specs.Prelude.{◌≡◌, ◌<◌, ℕ, ◌^◌, ◌==◌, true, false, is_some, List, option_map, IfSome}
+use Rattle.std.specs.Prelude.{◌≡◌, ◌⊎◌, ◌<◌, ℕ, ◌^◌, ◌==◌, true, false, is_some, List, [], ◌∷◌, map, option_map, IfSome}
 use Rattle.std.specs.List.{AllByRecursion}
 use Rattle.cip_application.specs.declared.object.AttributeName.{AttributeName}
 use Rattle.cip_bytes.specs.declared.protocol.TheConstants.{IDENTITY}
@@ -11,7 +11,7 @@ use Rattle.cip_objects.specs.Kept.{kept_names, restored as value_restored}
 use Rattle.device_state.specs.declared.restoring.Outcome.TheVariants.{Used, OtherDevice}
 use Rattle.device_state.specs.Keys.{key_of}
 use Rattle.device_state.specs.Restored.{Restored, done, is_same_device, restored, restored_entry}
-use Rattle.device_state.specs.Saved.{State, Entry, entry_of, identity_bytes, saved}
+use Rattle.device_state.specs.Saved.{State, Entry, entry_of, identity_bytes, identity_entry, ledger_entries, value_entry, saved}
 
 -- A name has 16 bits a part, and is none of Identity or of the ledger.
 pub record IsName (name : AttributeName) : Type 0 where
@@ -55,6 +55,31 @@ used_law =
     (s fresh : State) (life : ℕ) → AllByRecursion IsName (kept_names s.objects.shapes) → IfSome s.ledger IsLedger
     → IsFresh s fresh life → AllByRecursion (λ outcome. outcome ≡ Used) (restored fresh (saved s)).outcomes
     → IsRestored s (restored fresh (saved s))
+
+-- The name is one of these.
+abbrev pub IsAmong : AttributeName → List AttributeName → Type 0
+IsAmong name [] = ⊥
+IsAmong name (first ∷ names) = (name ≡ first) ⊎ IsAmong name names
+
+-- The entry is the first of these, and the rest of them has this property.
+abbrev pub Begins : List Entry → Entry → (List Entry → Type 0) → Type 0
+Begins [] entry P = ⊥
+Begins (first ∷ rest) entry P = (first ≡ entry) × P rest
+
+-- The entries are those of two lists, each in its order.
+abbrev pub AreMixed : List Entry → List Entry → List Entry → Type 0
+AreMixed ones others [] = (ones ≡ []) × (others ≡ [])
+AreMixed ones others (entry ∷ entries) =
+    Begins ones entry (λ rest. AreMixed rest others entries) ⊎ Begins others entry (λ rest. AreMixed ones rest entries)
+
+-- The same for the entries in another order, as that of rising keys: the values may come in any order and in between,
+-- and the ledger keeps its own.
+abbrev pub any_order_law : Type 0
+any_order_law =
+    (s fresh : State) (life : ℕ) (names : List AttributeName) (entries : List Entry) → IsDevice s → IsFresh s fresh life
+    → AllByRecursion (IsKept s.objects) names → AllByRecursion (λ name. IsAmong name names) (kept_names s.objects.shapes)
+    → AreMixed (identity_entry s.objects ∷ ledger_entries s.ledger) (map (value_entry s.objects) names) entries
+    → IsRestored s (restored fresh entries)
 
 -- What no entry names stays as it was.
 abbrev pub others_law : Type 0

@@ -1,6 +1,6 @@
 //! What holds of a device that starts from what was saved. The functions do nothing: their clauses are the laws.
 
-ghost use Rattle.device_state.specs.Laws.{saved_law, used_law, others_law, other_device_law};
+ghost use Rattle.device_state.specs.Laws.{saved_law, used_law, any_order_law, others_law, other_device_law};
 
 /// A device of the same configuration that starts from what was saved of a device uses every entry. Its ledger is the
 /// same, and it is saved in the same entries: every value that is kept is the same.
@@ -12,6 +12,11 @@ pub fn restored_is_saved()
 /// with the same ledger and the same values.
 pub fn used_is_saved()
     ensures { used_law }
+{}
+
+/// The same for the entries in another order, as that of rising keys, in which the ledger keeps its own.
+pub fn restored_in_any_order()
+    ensures { any_order_law }
 {}
 
 /// What no entry names stays as the configuration made it.
