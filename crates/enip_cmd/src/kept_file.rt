@@ -3,13 +3,16 @@
 //! `FILE.round` is locked first, so one process uses FILE at a time. FILE is made only if neither of them says that there
 //! was a state before.
 
+ghost use Rattle.std.specs.Prelude.{◌≡◌, IfOk};
+
 use crate::fault::Fault;
 use crate::reason::{CommandError, Reason};
-use enip_cli::{LastRound, OsArg, RoundFile, can_update, option_file_name};
-use enip_keep::{KeepError, Numbered, RoundNote};
+use enip_cli::{LastRound, OsArg, RoundFile, can_update, exists, option_file_name};
+use enip_keep::{KeepError, Keeper, Numbered, RoundNote};
 use enip_keep_sqlite::{Rows, make_file, open};
 use sqlite::{FileFrom, FileStore, Wary};
 use std::alloc::Global;
+use std::io::{self, ErrorKind};
 
 /// The keeper of a file.
 pub(crate) type FileKeeper = Numbered<Rows<FileStore<FileFrom<Wary>>>, FileNote>;
@@ -19,11 +22,14 @@ pub(crate) type FileKeeper = Numbered<Rows<FileStore<FileFrom<Wary>>>, FileNote>
 pub(crate) struct FileNote {
     alloc: Global,
     file: RoundFile,
+    /// The name of FILE.
+    kept: Vec<u8>,
 }
 
 impl RoundNote for FileNote {
     fn note(&mut self, round: u64) -> bool {
-        self.file.write(self.alloc, round).is_ok()
+        // A file that was removed keeps nothing over a restart, although it can still be written.
+        exists(self.kept.as_slice()) && self.file.write(self.alloc, round).is_ok()
     }
 }
 
@@ -33,15 +39,32 @@ pub(crate) struct KeptFile<'a> {
     name: &'a str,
     /// Whether a state that is damaged, or older than it was, is taken.
     accepts_older: bool,
+    /// Whether the file is made if there is none.
+    is_made: bool,
 }
 
 impl<'a> KeptFile<'a> {
-    /// The file of this name.
+    /// The file of a device that is served.
     pub(crate) fn new(name: &'a str, accepts_older: bool) -> KeptFile<'a> {
         KeptFile {
             name,
             accepts_older,
+            is_made: true,
         }
+    }
+
+    /// A file that is only read.
+    pub(crate) fn to_read(name: &'a str) -> KeptFile<'a> {
+        KeptFile {
+            name,
+            accepts_older: false,
+            is_made: false,
+        }
+    }
+
+    /// The name as the argument gives it.
+    pub(crate) fn name(self) -> &'a str {
+        self.name
     }
 
     /// Whether a state that is damaged, or older than it was, is taken.
@@ -59,22 +82,40 @@ impl<'a> KeptFile<'a> {
         self,
         rt: &HostRuntime,
         args: &[OsArg],
-    ) -> Result<FileKeeper, CommandError<'a>> {
+    ) -> Result<FileKeeper, CommandError<'a>>
+        ensures up { IfOk result (λ k. ⟦<FileKeeper as Keeper>⟧.doubt k ≡ 0 → ⟦<FileKeeper as Keeper>⟧.is_up k) }
+    {
         let alloc = rt.alloc();
         let bytes = option_file_name(args, "--keep", self.name);
         let Ok(path) = str::from_utf8(bytes) else {
             return Err(CommandError::of_reason(Reason::NotText(self.name)));
         };
-        let exists = can_update(bytes).map_err(|error| CommandError::of_system(self.name, error))?;
+        let exists = self.exists(bytes)?;
         let file = self.lock(alloc, bytes)?;
         let last = self.last_round(alloc, &file, exists)?;
         if last == 0 || !exists {
             make_file(rt, path, Wary).map_err(|error| self.refused(error))?;
         }
         let rows = open(rt, path, Wary).map_err(|error| self.refused(error))?;
-        let note = FileNote { alloc, file };
+        let note = FileNote {
+            alloc,
+            file,
+            kept: Vec::from_slice(alloc, bytes)?,
+        };
         let keeper = Numbered::start(alloc, rows, note).map_err(|error| self.refused(error))?;
         self.compare(keeper, last)
+    }
+
+    /// Whether there is such a file.
+    fn exists(self, bytes: &[u8]) -> Result<bool, CommandError<'a>> {
+        match can_update(bytes) {
+            Ok(false) if !self.is_made => {
+                let error = io::Error::from(ErrorKind::NotFound);
+                Err(CommandError::of_system(self.name, error))
+            }
+            Ok(exists) => Ok(exists),
+            Err(error) => Err(CommandError::of_system(self.name, error)),
+        }
     }
 
     /// Locks `FILE.round`.
@@ -112,7 +153,9 @@ impl<'a> KeptFile<'a> {
     }
 
     /// Compares the number of the last round in FILE with that of `FILE.round`.
-    fn compare(self, keeper: FileKeeper, last: u64) -> Result<FileKeeper, CommandError<'a>> {
+    fn compare(self, keeper: FileKeeper, last: u64) -> Result<FileKeeper, CommandError<'a>>
+        ensures { IfOk result (λ k. k ≡ record keeper { round = k.round }) }
+    {
         let mut keeper = keeper;
         if keeper.round() < last && !self.accepts_older {
             return Err(self.lost(last - keeper.round()));
