@@ -23,6 +23,7 @@
 #![tactic(auto)]
 
 mod device;
+mod entries;
 mod entry;
 mod keeper;
 pub mod laws;
