@@ -1,10 +1,10 @@
 -- To set an entry of a list.
-use Rattle.std.proofs.Common.{ℕ, ◌≡◌, ◌<◌, ◌≤◌, ◌≢◌, ◌+◌, List, [], ◌∷◌, ◌++◌, Bool, true, false, eqb, ltb, refl, sym, ap, ◌∙◌, arith, length, take, drop, get_or, zero, suc, drop-cons, ltb-true, ltb-false, append_assoc}
+use Rattle.std.proofs.Common.{ℕ, ◌≡◌, ◌<◌, ◌≤◌, ◌≢◌, List, [], ◌∷◌, ◌++◌, Bool, true, false, eqb, ltb, refl, sym, ap, ◌∙◌, arith, length, take, drop, get_or, zero, suc, drop-cons, ltb-true, ltb-false}
 use Rattle.std.proofs.lemmas.Bool.{eqb-true, eqb-false}
 use Rattle.std.proofs.lemmas.Bool.Decides.{nat_tests}
 use Rattle.std.proofs.lemmas.List.{map-append}
 use Rattle.enip_keep.specs.declared.entry.Entry.{Entry}
-use Rattle.enip_keep.specs.Kept.{Kept, pair_of, pairs_of, set, set_all}
+use Rattle.enip_keep.specs.Kept.{Kept, pair_of, pairs_of, set}
 
 -- how the first key compares with another one
 pub set_here : (key : ℕ) (bytes : List ℕ) (p : ℕ × List ℕ) (rest : Kept) → p.0 ≡ key

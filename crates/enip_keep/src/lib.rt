@@ -30,6 +30,7 @@ pub mod laws;
 mod lives;
 mod memory;
 mod numbered;
+mod rounds;
 mod server;
 mod tally;
 

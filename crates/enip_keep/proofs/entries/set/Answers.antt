@@ -1,4 +1,4 @@
-use Rattle.std.proofs.Common.{ap, sym, ◌∙◌, ◌≡◌, length, ◌<◌, ◌++◌, take, drop, arith}
+use Rattle.std.proofs.Common.{◌≡◌, length, ◌<◌, ◌++◌, take, drop, arith}
 use Rattle.enip_keep.specs.Kept.{pairs_of, set}
 use Rattle.enip_keep.proofs.SetLemmas.{replaced}
 use Rattle.enip_keep.proofs.entries.set.Goals as goal
