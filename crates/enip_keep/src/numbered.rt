@@ -1,9 +1,9 @@
 //! A keeper that also keeps the number of the last round, and has it noted elsewhere.
-ghost use Rattle.std.specs.Prelude.{◌≡◌, ◌⊎◌, ◌≤◌, ◌+◌, ◌-◌, ◌^◌, ◌++◌, ◌∷◌, [], ℕ, All, min, true, Err};
+ghost use Rattle.std.specs.Prelude.{◌≡◌, ◌⊎◌, ◌≤◌, ◌+◌, ◌-◌, ◌^◌, ℕ, All, min, true, Err};
 ghost use Rattle.std.specs.Prelude.{IsTrue, IfOk, IfErr, OnOk};
 ghost use Rattle.enip_keep.specs.declared.entry.KeepError.TheVariants.{Storage};
 ghost use Rattle.enip_keep.specs.Causes.{IsCause};
-ghost use Rattle.enip_keep.specs.Kept.{Kept, pair_of, pairs_of, set_all, IsKeepable};
+ghost use Rattle.enip_keep.specs.Kept.{Kept, pairs_of, set_all, IsKeepable};
 ghost use Rattle.enip_keep.specs.Rounds.{without_round, round_in, round_bytes_in, are_of_device, is_whole, IsLoaded};
 
 use crate::entries::set_all;
@@ -94,6 +94,9 @@ impl<K: Keeper + Drop, N: RoundNote + Drop> Numbered<K, N> {
         ensures at_least { round ≤ self.new.round }
         ensures only_up { self.old.round ≤ self.new.round }
         ensures one { (self.new.round ≡ self.old.round) ⊎ (self.new.round ≡ round) }
+        ensures loaded { (kept : Kept)
+            → IsLoaded kept (pairs_of self.old.entries.items) self.old.round self.old.is_whole
+            → IsLoaded kept (pairs_of self.new.entries.items) self.new.round self.new.is_whole }
     {
         self.round = self.round.max(round);
     }
@@ -149,6 +152,9 @@ impl<K: Keeper + Drop, N: RoundNote + Drop> Keeper for Numbered<K, N> {
         ensures numbered { K.doubt self.new.keeper ≡ 0
             → OnOk result (round_in (K.kept self.new.keeper) ≡ self.new.round) }
         ensures noted { OnOk result (N.noted self.new.note ≡ self.new.round) }
+        // The note changes only once the number is kept.
+        ensures note_last { (self.new.note ≡ self.old.note) ⊎ (K.doubt self.new.keeper ≡ 0
+            → round_in (K.kept self.new.keeper) ≡ self.new.round) }
         ensures next { OnOk result (self.new.round ≡ min (self.old.round + 1) (2 ^ 64 - 1)) }
         ensures cause { K.doubt self.new.keeper ≡ 0 → IfErr result (IsCause
             (K.faults self.old.keeper + self.old.faults) (K.faults self.new.keeper + self.new.faults)) }
