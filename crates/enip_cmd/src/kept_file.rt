@@ -24,12 +24,20 @@ pub(crate) struct FileNote {
     file: RoundFile,
     /// The name of FILE.
     kept: Vec<u8>,
+    /// The number that was noted last.
+    noted: u64,
 }
 
 impl RoundNote for FileNote {
+    ghost noted = { λ n. n.noted };
+
     fn note(&mut self, round: u64) -> bool {
         // A file that was removed keeps nothing over a restart, although it can still be written.
-        exists(self.kept.as_slice()) && self.file.write(self.alloc, round).is_ok()
+        if !exists(self.kept.as_slice()) || self.file.write(self.alloc, round).is_err() {
+            return false;
+        }
+        self.noted = round;
+        true
     }
 }
 
@@ -101,6 +109,7 @@ impl<'a> KeptFile<'a> {
             alloc,
             file,
             kept: Vec::from_slice(alloc, bytes)?,
+            noted: last,
         };
         let keeper = Numbered::start(alloc, rows, note).map_err(|error| self.refused(error))?;
         self.compare(keeper, last)
@@ -152,13 +161,19 @@ impl<'a> KeptFile<'a> {
         }
     }
 
-    /// Compares the number of the last round in FILE with that of `FILE.round`.
+    /// Tests the checksum of what is kept, and compares the number of its last round with that of `FILE.round`.
     fn compare(self, keeper: FileKeeper, last: u64) -> Result<FileKeeper, CommandError<'a>>
-        ensures { IfOk result (λ k. k ≡ record keeper { round = k.round }) }
+        requires { ⟦<FileKeeper as Keeper>⟧.doubt keeper ≡ 0 → ⟦<FileKeeper as Keeper>⟧.is_up keeper }
+        ensures { IfOk result (λ k. ⟦<FileKeeper as Keeper>⟧.doubt k ≡ 0 → ⟦<FileKeeper as Keeper>⟧.is_up k) }
     {
         let mut keeper = keeper;
-        if keeper.round() < last && !self.accepts_older {
-            return Err(self.lost(last - keeper.round()));
+        if !self.accepts_older {
+            if !keeper.is_whole() {
+                return Err(self.state_refused(Reason::NotAState(self.name)));
+            }
+            if keeper.round() < last {
+                return Err(self.lost(last - keeper.round()));
+            }
         }
         keeper.skip_to(last);
         Ok(keeper)
