@@ -6,8 +6,9 @@
 ghost use Rattle.std.specs.Prelude.{◌≡◌, IfOk};
 
 use crate::fault::Fault;
+use crate::file_identity::FileIdentity;
 use crate::reason::{CommandError, Reason};
-use enip_cli::{LastRound, OsArg, RoundFile, can_update, exists, option_file_name};
+use enip_cli::{LastRound, OsArg, RoundFile, can_update, option_file_name};
 use enip_keep::{KeepError, Keeper, Numbered, RoundNote};
 use enip_keep_sqlite::{Rows, make_file, open};
 use sqlite::{FileFrom, FileStore, Wary};
@@ -15,25 +16,28 @@ use std::alloc::Global;
 use std::io::{self, ErrorKind};
 
 /// The keeper of a file.
-pub(crate) type FileKeeper = Numbered<Rows<FileStore<FileFrom<Wary>>>, FileNote>;
+pub(crate) type FileKeeper<'r> = Numbered<Rows<FileStore<FileFrom<Wary>>>, FileNote<'r>>;
 
 /// Notes the numbers of rounds in `FILE.round`.
 #[derive(Drop)]
-pub(crate) struct FileNote {
+pub(crate) struct FileNote<'r> {
     alloc: Global,
     file: RoundFile,
-    /// The name of FILE.
-    kept: Vec<u8>,
+    database: FileIdentity<'r>,
+    log: FileIdentity<'r>,
     /// The number that was noted last.
     noted: u64,
 }
 
-impl RoundNote for FileNote {
+impl RoundNote for FileNote<'_> {
     ghost noted = { λ n. n.noted };
 
     fn note(&mut self, round: u64) -> bool {
-        // A file that was removed keeps nothing over a restart, although it can still be written.
-        if !exists(self.kept.as_slice()) || self.file.write(self.alloc, round).is_err() {
+        // what is written to a file that was removed is not there after a restart
+        if !self.database.is_there() || !self.log.is_there() {
+            return false;
+        }
+        if self.file.write(self.alloc, round).is_err() {
             return false;
         }
         self.noted = round;
@@ -86,12 +90,12 @@ impl<'a> KeptFile<'a> {
     ///
     /// If another process uses it, if it is no state, or if it is damaged or older than `FILE.round` says. It is left as
     /// it is.
-    pub(crate) fn open(
+    pub(crate) fn open<'r>(
         self,
-        rt: &HostRuntime,
+        rt: &'r HostRuntime,
         args: &[OsArg],
-    ) -> Result<FileKeeper, CommandError<'a>>
-        ensures up { IfOk result (λ k. ⟦<FileKeeper as Keeper>⟧.doubt k ≡ 0 → ⟦<FileKeeper as Keeper>⟧.is_up k) }
+    ) -> Result<FileKeeper<'r>, CommandError<'a>>
+        ensures up { IfOk result (λ k. ⟦<FileKeeper<'r> as Keeper>⟧.doubt k ≡ 0 → ⟦<FileKeeper<'r> as Keeper>⟧.is_up k) }
     {
         let alloc = rt.alloc();
         let bytes = option_file_name(args, "--keep", self.name);
@@ -105,14 +109,29 @@ impl<'a> KeptFile<'a> {
             make_file(rt, path, Wary).map_err(|error| self.refused(error))?;
         }
         let rows = open(rt, path, Wary).map_err(|error| self.refused(error))?;
-        let note = FileNote {
-            alloc,
-            file,
-            kept: Vec::from_slice(alloc, bytes)?,
-            noted: last,
-        };
+        let note = self
+            .note(rt, path, file, last)
+            .map_err(|error| CommandError::of_system(self.name, error))?;
         let keeper = Numbered::start(alloc, rows, note).map_err(|error| self.refused(error))?;
         self.compare(keeper, last)
+    }
+
+    /// What notes the numbers of rounds, the last of which is this one.
+    fn note<'r>(
+        self,
+        rt: &'r HostRuntime,
+        path: &str,
+        file: RoundFile,
+        noted: u64,
+    ) -> io::Result<FileNote<'r>> {
+        let alloc = rt.alloc();
+        Ok(FileNote {
+            alloc,
+            file,
+            database: FileIdentity::of(rt, String::from_str(alloc, path)?)?,
+            log: FileIdentity::of(rt, format!(in alloc; "{path}-wal")?)?,
+            noted,
+        })
     }
 
     /// Whether there is such a file.
@@ -162,9 +181,13 @@ impl<'a> KeptFile<'a> {
     }
 
     /// Tests the checksum of what is kept, and compares the number of its last round with that of `FILE.round`.
-    fn compare(self, keeper: FileKeeper, last: u64) -> Result<FileKeeper, CommandError<'a>>
-        requires { ⟦<FileKeeper as Keeper>⟧.doubt keeper ≡ 0 → ⟦<FileKeeper as Keeper>⟧.is_up keeper }
-        ensures { IfOk result (λ k. ⟦<FileKeeper as Keeper>⟧.doubt k ≡ 0 → ⟦<FileKeeper as Keeper>⟧.is_up k) }
+    fn compare<'r>(
+        self,
+        keeper: FileKeeper<'r>,
+        last: u64,
+    ) -> Result<FileKeeper<'r>, CommandError<'a>>
+        requires { ⟦<FileKeeper<'r> as Keeper>⟧.doubt keeper ≡ 0 → ⟦<FileKeeper<'r> as Keeper>⟧.is_up keeper }
+        ensures { IfOk result (λ k. ⟦<FileKeeper<'r> as Keeper>⟧.doubt k ≡ 0 → ⟦<FileKeeper<'r> as Keeper>⟧.is_up k) }
     {
         let mut keeper = keeper;
         if !self.accepts_older {

@@ -8,6 +8,7 @@ mod checking;
 mod discovery;
 mod error_keeping;
 pub mod fault;
+mod file_identity;
 mod frame_log;
 mod frame_summary;
 mod host_port;
