@@ -13,7 +13,11 @@ use enip_keep::{KeepError, Keeper, Numbered, RoundNote};
 use enip_keep_sqlite::{Rows, make_file, open};
 use sqlite::{FileFrom, FileStore, Wary};
 use std::alloc::Global;
+use std::fs::metadata;
 use std::io::{self, ErrorKind};
+
+/// The bytes of the header of a database. (SQLite, Database File Format.)
+const HEADER: u64 = 100;
 
 /// The keeper of a file.
 pub(crate) type FileKeeper<'r> = Numbered<Rows<FileStore<FileFrom<Wary>>>, FileNote<'r>>;
@@ -43,6 +47,11 @@ impl RoundNote for FileNote<'_> {
         self.noted = round;
         true
     }
+}
+
+/// Whether a file can be a database: it is as long as the header. A shorter one would be opened as a new database.
+fn has_header(rt: &HostRuntime, path: &str) -> bool {
+    metadata(rt, path).is_ok_and(|found| found.len() >= HEADER)
 }
 
 /// FILE, as the arguments name it.
@@ -105,6 +114,9 @@ impl<'a> KeptFile<'a> {
         let exists = self.exists(bytes)?;
         let file = self.lock(alloc, bytes)?;
         let last = self.last_round(alloc, &file, exists)?;
+        if exists && last > 0 && !has_header(rt, path) {
+            return Err(self.state_refused(Reason::NotAState(self.name)));
+        }
         if last == 0 || !exists {
             make_file(rt, path, Wary).map_err(|error| self.refused(error))?;
         }
