@@ -1,5 +1,6 @@
 //! The keeper over a file.
-ghost use Rattle.std.specs.Prelude.{◌≡◌, ◌≤◌, IsTrue, IfOk};
+ghost use Rattle.std.specs.Prelude.{◌≡◌, ◌≤◌, IsTrue, IfOk, IfErr};
+ghost use Rattle.enip_keep.specs.declared.entry.KeepError.TheVariants.{Storage};
 ghost use Rattle.sqlite_trees.specs.View.{IsClean};
 ghost use Rattle.sqlite_store.specs.FileStore.{view};
 ghost use Rattle.enip_keep_sqlite.specs.Rows.{IsAtRest};
@@ -18,7 +19,9 @@ const TABLE: &str =
 /// # Errors
 ///
 /// `Storage` if the file cannot be opened or written.
-pub fn make_file<S: Start>(rt: &HostRuntime, path: &str, start: S) -> Result<(), KeepError> {
+pub fn make_file<S: Start>(rt: &HostRuntime, path: &str, start: S) -> Result<(), KeepError>
+    ensures { IfErr result (λ e. e ≡ Storage) }
+{
     let Ok(mut connection) = Connection::open_from(rt, path, true, start) else {
         return Err(KeepError::Storage);
     };
