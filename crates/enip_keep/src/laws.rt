@@ -1,6 +1,7 @@
-//! What the steps of a list of events say. The function does nothing: its clause is the law.
+//! What the steps of a list of events say, and what a checksum shows. Each function does nothing: its clause is the law.
 
 ghost use Rattle.enip_keep.specs.LivesLaws.{done_law};
+ghost use Rattle.enip_keep.specs.WholeLaws.{byte_law};
 
 use crate::Device;
 
@@ -8,4 +9,9 @@ use crate::Device;
 /// round whose answers left was executed, once, at its place in the order.
 pub fn done_events_have_steps<D: Device>()
     ensures { done_law D.Input D.Requests D.Configuration D.brings }
+{}
+
+/// If entries are whole, they are not with another byte in place of one byte of an entry of the device.
+pub fn changed_byte_shows()
+    ensures { byte_law }
 {}

@@ -88,6 +88,14 @@ impl<K: Keeper + Drop, N: RoundNote + Drop> Numbered<K, N> {
         self.is_whole
     }
 
+    /// Gives the keeper back.
+    pub fn into_keeper(self) -> K
+        ensures { result ≡ self.keeper }
+    {
+        let Numbered { keeper, .. } = self;
+        keeper
+    }
+
     /// Goes on after the round of this number, if that is greater than the last one.
     pub fn skip_to(&mut self, round: u64)
         ensures same { self.new ≡ record self.old { round = self.new.round } }

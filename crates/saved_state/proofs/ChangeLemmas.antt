@@ -69,7 +69,7 @@ same_folded h a b [] behind p q r fits e =
 same_folded h a b (x ∷ before) behind p q r fits e =
     same_folded (hashed h x) a b before behind (hashed-lt h x) q r fits e
 
-same_checksum : (a b : ℕ) (before behind : List ℕ) → a < 2 ^ 8 → b < 2 ^ 8 → AreBytes behind
+pub same_checksum : (a b : ℕ) (before behind : List ℕ) → a < 2 ^ 8 → b < 2 ^ 8 → AreBytes behind
     → checksum (before ++ a ∷ behind) ≡ checksum (before ++ b ∷ behind) → a ≡ b
 unfolding checksum
 same_checksum a b before behind q r fits e = same_folded 0xcbf29ce484222325 a b before behind (lit< tt) q r fits e
