@@ -1,7 +1,7 @@
 //! What the steps of a list of events say, and what a checksum shows. Each function does nothing: its clause is the law.
 
 ghost use Rattle.enip_keep.specs.LivesLaws.{done_law};
-ghost use Rattle.enip_keep.specs.WholeLaws.{byte_law};
+ghost use Rattle.enip_keep.specs.WholeLaws.{byte_law, round_byte_law};
 
 use crate::Device;
 
@@ -11,7 +11,8 @@ pub fn done_events_have_steps<D: Device>()
     ensures { done_law D.Input D.Requests D.Configuration D.brings }
 {}
 
-/// If entries are whole, they are not with another byte in place of one byte of an entry of the device.
+/// If entries are whole, they are not whole with another byte in place of one of their bytes.
 pub fn changed_byte_shows()
-    ensures { byte_law }
+    ensures device { byte_law }
+    ensures round { round_byte_law }
 {}
