@@ -1,5 +1,6 @@
 -- Another byte in place of one byte of an entry.
-use Rattle.std.proofs.Common.{ℕ, ◌≡◌, ◌<◌, ◌+◌, List, [], ◌∷◌, ◌++◌, Bool, true, false, refl, sym, ap, ◌∙◌, arith, suc, lit<, length, length-append, append_assoc, if◌then◌else◌, ◌&&◌, eqb, eqb-true, drop}
+use Rattle.std.proofs.Common.{ℕ, ◌≡◌, ◌<◌, ◌+◌, List, [], ◌∷◌, ◌++◌, Bool, true, false, refl, sym, ap, ◌∙◌, arith, suc}
+use Rattle.std.proofs.Common.{lit<, length, length-append, append_assoc, if◌then◌else◌, ◌&&◌, eqb, eqb-true, drop}
 use Rattle.std.proofs.Common.{◌≤◌, ◌-◌, ◌^◌, take, zero, append-nil, length-drop, inl, inr, nat_le}
 use Rattle.std.proofs.lemmas.Bool.{ne_eqb, cases_lt}
 use Rattle.std.proofs.lemmas.List.{drop_all, drop-drop, take-append-le}
@@ -31,7 +32,8 @@ entry_are entry fits = by (eqb entry.0 0)
   where
     all : AreBytes (little_bytes 8 entry.0 ++ (little_bytes 8 (length entry.1) ++ entry.1))
     all =
-        AreBytes-append (little_bytes 8 entry.0) (little_bytes 8 (length entry.1) ++ entry.1) (AreBytes-le_from 0 8 entry.0)
+        AreBytes-append (little_bytes 8 entry.0) (little_bytes 8 (length entry.1) ++ entry.1)
+        (AreBytes-le_from 0 8 entry.0)
         (AreBytes-append (little_bytes 8 (length entry.1)) entry.1 (AreBytes-le_from 0 8 (length entry.1)) fits)
 
     by : (none : Bool)
@@ -50,7 +52,8 @@ same_round : (before after : Kept) (key : ℕ) (xs ys : List ℕ) → 0 < key
     → round_bytes_in (before ++ (key, xs) ∷ after) ≡ round_bytes_in (before ++ (key, ys) ∷ after)
 same_round [] after key xs ys own =
     let other : eqb key 0 ≡ false = ne_eqb key 0 (λ none. omega (arith, none)) in
-    ap (λ b. if b then xs else round_bytes_in after) other ∙ sym (ap (λ b. if b then ys else round_bytes_in after) other)
+    ap (λ b. if b then xs else round_bytes_in after) other
+    ∙ sym (ap (λ b. if b then ys else round_bytes_in after) other)
 same_round (entry ∷ before) after key xs ys own =
     ap (λ r. if eqb entry.0 0 then entry.1 else r) (same_round before after key xs ys own)
 
@@ -60,12 +63,14 @@ front : ℕ → Kept → ℕ → List ℕ → ℕ → List ℕ
 front round before key first size =
     little_bytes 8 round ++ (flat_map entry_bytes before ++ (little_bytes 8 key ++ (little_bytes 8 size ++ first)))
 
-spread : (a b c d e f g : List ℕ) → a ++ (b ++ ((c ++ (d ++ (e ++ f))) ++ g)) ≡ (a ++ (b ++ (c ++ (d ++ e)))) ++ (f ++ g)
+spread : (a b c d e f g : List ℕ)
+    → a ++ (b ++ ((c ++ (d ++ (e ++ f))) ++ g)) ≡ (a ++ (b ++ (c ++ (d ++ e)))) ++ (f ++ g)
 spread a b c d e f g = simp append_assoc
 
 summed : (round : ℕ) (before after : Kept) (key : ℕ) (first last : List ℕ) (byte : ℕ) → 0 < key
     → checksum_of round (before ++ (key, first ++ byte ∷ last) ∷ after)
-    ≡ checksum (front round before key first (length first + suc (length last)) ++ byte ∷ (last ++ flat_map entry_bytes after))
+    ≡ checksum
+    (front round before key first (length first + suc (length last)) ++ byte ∷ (last ++ flat_map entry_bytes after))
 unfolding front checksum_of
 summed round before after key first last byte own =
     let size : length (first ++ byte ∷ last) ≡ length first + suc (length last) = length-append first (byte ∷ last) in
@@ -96,7 +101,8 @@ sum_is : (bytes : List ℕ) (kept : Kept) → has_checksum bytes kept ≡ true
     → little_number 8 (drop 8 bytes) ≡ checksum_of (round_of_bytes bytes) kept
 sum_is bytes kept has =
     eqb-true (little_number 8 (drop 8 bytes)) (checksum_of (round_of_bytes bytes) kept)
-    (second_is (eqb (length bytes) 16) (eqb (little_number 8 (drop 8 bytes)) (checksum_of (round_of_bytes bytes) kept)) has)
+    (second_is (eqb (length bytes) 16)
+    (eqb (little_number 8 (drop 8 bytes)) (checksum_of (round_of_bytes bytes) kept)) has)
 
 never : (b : Bool) → (b ≡ true → ⊥) → b ≡ false
 never true isnt = absurd (isnt refl)
@@ -127,15 +133,20 @@ byte_shows before after key first last byte other own differs fits small after_f
 
 -- ---- a byte of the entry of the round
 
+-- the bytes of a number, and their checksum with others
+abbrev with_sum : List ℕ → List ℕ → List ℕ
+with_sum number others = number ++ little_bytes 8 (checksum (number ++ others))
+
 -- 16 bytes are a number and a checksum
 written : (bytes behind : List ℕ) → AreBytes bytes → length bytes ≡ 16
     → little_number 8 (drop 8 bytes) ≡ checksum (little_bytes 8 (little_number 8 bytes) ++ behind)
-    → bytes ≡ little_bytes 8 (little_number 8 bytes) ++ little_bytes 8 (checksum (little_bytes 8 (little_number 8 bytes) ++ behind))
+    → bytes ≡ with_sum (little_bytes 8 (little_number 8 bytes)) behind
 unfolding ulint ulint_at
 written bytes behind fits long sum =
     let all : drop 16 bytes ≡ [] = drop_all 16 bytes (omega (arith, long)) in
     let rest : drop 8 bytes ≡ little_bytes 8 (little_number 8 (drop 8 bytes)) ++ drop 16 bytes
-    = ulint_part 0 (drop 8 bytes) (AreBytes-drop 8 bytes fits) (omega (arith, length-drop 8 bytes, long)) ∙ ap (λ xs. little_bytes 8 (little_number 8 (drop 8 bytes)) ++ xs) (drop-drop 8 8 bytes) in
+    = ulint_part 0 (drop 8 bytes) (AreBytes-drop 8 bytes fits) (omega (arith, length-drop 8 bytes, long))
+    ∙ ap (λ xs. little_bytes 8 (little_number 8 (drop 8 bytes)) ++ xs) (drop-drop 8 8 bytes) in
     ulint_part 0 bytes fits (omega (arith, long))
     ∙ ap (λ xs. little_bytes 8 (little_number 8 bytes) ++ xs)
     (rest ∙ ap (λ xs. little_bytes 8 (little_number 8 (drop 8 bytes)) ++ xs) all
@@ -143,8 +154,8 @@ written bytes behind fits long sum =
 
 module _ (first last behind : List ℕ) (byte other n m : ℕ) (fits : AreBytes last) (small : byte < 2 ^ 8)
     (also : other < 2 ^ 8) (behind_fits : AreBytes behind)
-    (one : first ++ byte ∷ last ≡ little_bytes 8 n ++ little_bytes 8 (checksum (little_bytes 8 n ++ behind)))
-    (two : first ++ other ∷ last ≡ little_bytes 8 m ++ little_bytes 8 (checksum (little_bytes 8 m ++ behind))) where
+    (one : first ++ byte ∷ last ≡ with_sum (little_bytes 8 n) behind)
+    (two : first ++ other ∷ last ≡ with_sum (little_bytes 8 m) behind) where
   -- a byte of the number
   in_number : (k : ℕ) → 8 ≡ length first + suc k → byte ≡ other
   unfolding ulint
@@ -153,8 +164,10 @@ module _ (first last behind : List ℕ) (byte other n m : ℕ) (fits : AreBytes 
       = ap (take 8) (sym one) ∙ in_body first last byte 8 k place in
       let another : little_bytes 8 m ≡ first ++ other ∷ take k last
       = ap (take 8) (sym two) ∙ in_body first last other 8 k place in
-      let sums : little_bytes 8 (checksum (little_bytes 8 n ++ behind)) ≡ little_bytes 8 (checksum (little_bytes 8 m ++ behind))
-      = ap (drop 8) (sym one) ∙ behind_body first last byte 8 k place ∙ sym (behind_body first last other 8 k place) ∙ ap (drop 8) two in
+      let sums : little_bytes 8 (checksum (little_bytes 8 n ++ behind))
+      ≡ little_bytes 8 (checksum (little_bytes 8 m ++ behind))
+      = ap (drop 8) (sym one) ∙ behind_body first last byte 8 k place
+      ∙ sym (behind_body first last other 8 k place) ∙ ap (drop 8) two in
       let same : checksum (little_bytes 8 n ++ behind) ≡ checksum (little_bytes 8 m ++ behind)
       = same_ulint (checksum (little_bytes 8 n ++ behind)) (checksum (little_bytes 8 m ++ behind))
       (checksum-lt (little_bytes 8 n ++ behind)) (checksum-lt (little_bytes 8 m ++ behind)) sums in
@@ -170,7 +183,7 @@ module _ (first last behind : List ℕ) (byte other n m : ℕ) (fits : AreBytes 
       = ap (take 8) (sym one) ∙ take-append-le 8 first (byte ∷ last) late
       ∙ sym (take-append-le 8 first (other ∷ last) late) ∙ ap (take 8) two in
       first_of_rest first last byte other
-      (one ∙ ap (λ xs. xs ++ little_bytes 8 (checksum (xs ++ behind))) number ∙ sym two)
+      (one ∙ ap (λ xs. with_sum xs behind) number ∙ sym two)
 
   pub same_byte_of_round : byte ≡ other
   same_byte_of_round =
@@ -185,12 +198,13 @@ first_is false b both = both
 
 -- what is whole begins with the entry of the round
 begins : (bytes : List ℕ) (after : Kept) → AreBytes bytes → is_whole ((0, bytes) ∷ after) ≡ true
-    → bytes ≡ little_bytes 8 (little_number 8 bytes) ++ little_bytes 8 (checksum (little_bytes 8 (little_number 8 bytes) ++ flat_map entry_bytes after))
+    → bytes ≡ with_sum (little_bytes 8 (little_number 8 bytes)) (flat_map entry_bytes after)
 unfolding checksum_of
 begins bytes after fits whole =
     let long : length bytes ≡ 16
     = eqb-true (length bytes) 16
-    (first_is (eqb (length bytes) 16) (eqb (little_number 8 (drop 8 bytes)) (checksum_of (round_of_bytes bytes) ((0, bytes) ∷ after))) whole) in
+    (first_is (eqb (length bytes) 16)
+    (eqb (little_number 8 (drop 8 bytes)) (checksum_of (round_of_bytes bytes) ((0, bytes) ∷ after))) whole) in
     let number : round_of_bytes bytes ≡ little_number 8 bytes
     = ap (λ n. if nat_le 8 n then little_number 8 bytes else 0) long in
     written bytes (flat_map entry_bytes after) fits long

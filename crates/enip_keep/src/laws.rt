@@ -1,4 +1,5 @@
-//! What the steps of a list of events say, and what a checksum shows. Each function does nothing: its clause is the law.
+//! What the steps of a list of events say, and what a checksum shows. The functions do nothing: their clauses are the
+//! laws.
 
 ghost use Rattle.enip_keep.specs.LivesLaws.{done_law};
 ghost use Rattle.enip_keep.specs.WholeLaws.{byte_law, round_byte_law};
