@@ -1,5 +1,6 @@
 -- To set an entry of a list.
-use Rattle.std.proofs.Common.{ℕ, ◌≡◌, ◌<◌, ◌≤◌, ◌≢◌, List, [], ◌∷◌, ◌++◌, Bool, true, false, eqb, ltb, refl, sym, ap, ◌∙◌, arith, length, take, drop, get_or, zero, suc, drop-cons, ltb-true, ltb-false}
+use Rattle.std.proofs.Common.{ℕ, ◌≡◌, ◌<◌, ◌≤◌, ◌≢◌, List, [], ◌∷◌, ◌++◌, Bool, true, false, eqb, ltb, refl, sym, ap}
+use Rattle.std.proofs.Common.{◌∙◌, arith, length, take, drop, get_or, zero, suc, drop-cons, ltb-true, ltb-false}
 use Rattle.std.proofs.lemmas.Bool.{eqb-true, eqb-false}
 use Rattle.std.proofs.lemmas.Bool.Decides.{nat_tests}
 use Rattle.std.proofs.lemmas.List.{map-append}
@@ -52,4 +53,5 @@ replaced key bytes entries i was copy less there here pair passed =
     ∙ ap (λ p. pairs_of (take i entries) ++ p ∷ pairs_of (drop (suc i) entries)) pair
     ∙ sym (passed ∙ ap (λ xs. pairs_of (take i entries) ++ set key bytes (pairs_of xs)) (drop-cons entries i was less)
     ∙ ap (λ e. pairs_of (take i entries) ++ set key bytes (pair_of e ∷ pairs_of (drop (suc i) entries))) (sym there)
-    ∙ ap (λ xs. pairs_of (take i entries) ++ xs) (set_here key bytes (pair_of was) (pairs_of (drop (suc i) entries)) here))
+    ∙ ap (λ xs. pairs_of (take i entries) ++ xs)
+    (set_here key bytes (pair_of was) (pairs_of (drop (suc i) entries)) here))

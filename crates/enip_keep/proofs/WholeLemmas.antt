@@ -1,12 +1,14 @@
 -- What is kept with the entry of a round is whole.
-use Rattle.std.proofs.Common.{ℕ, ◌≡◌, ◌<◌, List, [], ◌∷◌, ◌++◌, true, refl, sym, ap, ◌∙◌, arith, length, if◌then◌else◌, eq-eqb, ◌^◌}
+use Rattle.std.proofs.Common.{ℕ, ◌≡◌, ◌<◌, List, [], ◌∷◌, ◌++◌, true, refl, sym, ap, ◌∙◌, arith, length, if◌then◌else◌}
+use Rattle.std.proofs.Common.{eq-eqb, ◌^◌}
 use Rattle.std.specs.List.{flat_map}
 use Rattle.byteorder.specs.Endian.{little_bytes, little_number}
 use Rattle.byteorder.specs.Numbers.{little_number-reads_back}
 use Rattle.saved_state.specs.Checksum.{checksum}
 use Rattle.saved_state.proofs.SpelledLemmas.{checksum-lt}
 use Rattle.enip_keep.specs.Kept.{Kept}
-use Rattle.enip_keep.specs.Rounds.{without_round, round_bytes_in, round_of_bytes, round_in, entry_bytes, checksum_of, round_bytes, has_checksum, is_whole}
+use Rattle.enip_keep.specs.Rounds.{without_round, round_bytes_in, round_of_bytes, round_in, entry_bytes, checksum_of}
+use Rattle.enip_keep.specs.Rounds.{round_bytes, has_checksum, is_whole}
 use Rattle.enip_keep.proofs.RoundLemmas.{left_out, stays_in}
 use Rattle.enip_keep.proofs.SetLemmas.{Compared, compared}
 use Rattle.enip_keep.proofs.SetLemmas.Compared.{Below, Same, Above}
@@ -43,10 +45,12 @@ round_again round kept fits =
 
 whole_again : (round : ℕ) (kept : Kept) → round < 2 ^ 64 → has_checksum (round_bytes round kept) kept ≡ true
 whole_again round kept fits =
-    let sum : little_number 8 (little_bytes 8 (checksum_of round kept)) ≡ checksum_of (round_of_bytes (round_bytes round kept)) kept
+    let sum : little_number 8 (little_bytes 8 (checksum_of round kept))
+    ≡ checksum_of (round_of_bytes (round_bytes round kept)) kept
     = little_number-reads_back 8 (checksum_of round kept) [] (checksum_of-lt round kept)
     ∙ sym (ap (λ n. checksum_of n kept) (round_again round kept fits)) in
-    eq-eqb (little_number 8 (little_bytes 8 (checksum_of round kept))) (checksum_of (round_of_bytes (round_bytes round kept)) kept) sum
+    eq-eqb (little_number 8 (little_bytes 8 (checksum_of round kept)))
+    (checksum_of (round_of_bytes (round_bytes round kept)) kept) sum
 
 -- ---- what is kept with the entry of a round and the entries of the device
 

@@ -1,4 +1,4 @@
-//! A keeper that also keeps the number of the last round, and has it noted elsewhere.
+//! A keeper that also keeps the number of the last round and a checksum, and has the number noted elsewhere.
 ghost use Rattle.std.specs.Prelude.{◌≡◌, ◌⊎◌, ◌≤◌, ◌+◌, ◌-◌, ◌^◌, ℕ, All, min, true, Err};
 ghost use Rattle.std.specs.Prelude.{IsTrue, IfOk, IfErr, OnOk};
 ghost use Rattle.enip_keep.specs.declared.entry.KeepError.TheVariants.{Storage};
@@ -22,8 +22,8 @@ pub trait RoundNote {
         ensures { IsTrue result → noted self.new ≡ round };
 }
 
-/// A keeper that numbers its commits: it keeps the number of the last one and a checksum with the entries of the device,
-/// and has the number noted. It refuses an entry of the device under its own key, as a storage that fails.
+/// A keeper that numbers its commits: it keeps the number of the last one and a checksum with the entries of the
+/// device, and has the number noted. It refuses an entry of the device under its own key, as a storage that fails.
 ///
 /// ```
 /// let keeper = Numbered::start(alloc, keeper, note)?;
@@ -45,8 +45,8 @@ pub struct Numbered<K: Keeper + Drop, N: RoundNote + Drop> {
 }
 
 impl<K: Keeper + Drop, N: RoundNote + Drop> Numbered<K, N> {
-    /// Goes on after the last round that this keeper has kept. Nothing is noted yet. What is kept need not be whole:
-    /// see `is_whole`.
+    /// Goes on after the last round that this keeper has kept. Nothing is noted yet. What is kept may be damaged: ask
+    /// `is_whole` before you use it.
     ///
     /// # Errors
     ///
@@ -59,6 +59,8 @@ impl<K: Keeper + Drop, N: RoundNote + Drop> Numbered<K, N> {
             → IsLoaded (K.kept n.keeper) (pairs_of n.entries.items) n.round n.is_whole) }
         ensures round { IfOk result (λ n. K.doubt n.keeper ≡ 0 → n.round ≡ round_in (K.kept keeper)) }
         ensures whole { IfOk result (λ n. K.doubt n.keeper ≡ 0 → n.is_whole ≡ is_whole (K.kept keeper)) }
+        ensures cause { IfErr result (λ e. (after : K) × (K.doubt keeper ≤ K.doubt after) × (K.doubt after ≡ 0
+            → IsCause (K.faults keeper) (K.faults after) e)) }
         ensures doubt { IfOk result (λ n. K.doubt keeper ≤ K.doubt n.keeper) }
     {
         let loaded = load_rounds(alloc, &mut keeper)?;
@@ -80,12 +82,20 @@ impl<K: Keeper + Drop, N: RoundNote + Drop> Numbered<K, N> {
         self.round
     }
 
-    /// Whether what is kept has the checksum of its last round. It also is if nothing is kept. Otherwise the storage has
-    /// lost, damaged or added something. The next commit keeps a checksum of what is there.
+    /// Whether the checksum that is kept is that of everything else that is kept. An empty storage is whole, too. One
+    /// that is not has lost, damaged or added something. The next commit keeps the checksum of what is there.
     pub fn is_whole(&self) -> bool
         ensures { result ≡ self.now.is_whole }
     {
         self.is_whole
+    }
+
+    /// Gives the keeper back.
+    pub fn into_keeper(self) -> K
+        ensures { result ≡ self.keeper }
+    {
+        let Numbered { keeper, .. } = self;
+        keeper
     }
 
     /// Goes on after the round of this number, if that is greater than the last one.
@@ -209,6 +219,7 @@ fn load_rounds<K: Keeper>(alloc: Global, keeper: &mut K) -> Result<Loaded, KeepE
         IsLoaded (K.kept keeper.old) (pairs_of l.entries.items) l.round l.is_whole) }
     ensures round { K.doubt keeper.new ≡ 0 → IfOk result (λ l. l.round ≡ round_in (K.kept keeper.old)) }
     ensures same { K.doubt keeper.new ≡ 0 → OnOk result (K.is_up keeper.new × (K.kept keeper.new ≡ K.kept keeper.old)) }
+    ensures cause { K.doubt keeper.new ≡ 0 → IfErr result (IsCause (K.faults keeper.old) (K.faults keeper.new)) }
     ensures crash { K.doubt keeper.new ≡ 0 → (c : Kept) → K.may_leave keeper.new c → K.may_leave keeper.old c }
     ensures doubt { K.doubt keeper.old ≤ K.doubt keeper.new }
     ensures faults { K.faults keeper.old ≤ K.faults keeper.new }

@@ -11,36 +11,10 @@ use Rattle.std.proofs.lemmas.Bool.Decides.{nat_tests}
 use Rattle.std.proofs.Common.{Result, Ok, Err}
 use Rattle.enip_keep.specs.Kept.{IsKeepable, Kept, pair_of, pairs_of, set, set_all}
 use Rattle.std.specs.Prelude.{◌&&◌, ◌^◌, nat_lt, OnOk}
+use Rattle.enip_keep.proofs.SetLemmas.{set_here, set_before, set_behind, Compared, compared}
+use Rattle.enip_keep.proofs.SetLemmas.Compared.{Below, Same, Above}
 use Rattle.kept_server.specs.Changes.{keys_of, rise_above, rise, is_small, are_small, known, AreChanges}
 use Rattle.kept_server.specs.Changes.AreChanges.{No_entry, Is_same, Differs}
-
-set_here : (key : ℕ) (bytes : List ℕ) (p : ℕ × List ℕ) (rest : Kept) → p.0 ≡ key
-    → set key bytes (p ∷ rest) ≡ (key, bytes) ∷ rest
-set_here key bytes p rest is = grind (arith, nat_tests)
-
-set_before : (key : ℕ) (bytes : List ℕ) (p : ℕ × List ℕ) (rest : Kept) → key < p.0
-    → set key bytes (p ∷ rest) ≡ (key, bytes) ∷ (p ∷ rest)
-set_before key bytes p rest less = grind (arith, nat_tests)
-
-set_behind : (key : ℕ) (bytes : List ℕ) (p : ℕ × List ℕ) (rest : Kept) → p.0 < key
-    → set key bytes (p ∷ rest) ≡ p ∷ set key bytes rest
-set_behind key bytes p rest less = grind (arith, nat_tests)
-
--- how two numbers compare
-data Compared (a b : ℕ) : Type 0 where
-  Below : a < b → Compared a b
-  Same : a ≡ b → Compared a b
-  Above : b < a → Compared a b
-
-compared_by : (a b : ℕ) (less same : Bool) → ltb a b ≡ less → eqb a b ≡ same → Compared a b
-compared_by a b true same is equal = Below (ltb-true a b is)
-compared_by a b false true is equal = Same (eqb-true a b equal)
-compared_by a b false false is equal =
-    let differs : a ≢ b = eqb-false a b equal in
-    let least : b ≤ a = ltb-false a b is in Above (omega arith)
-
-compared : (a b : ℕ) → Compared a b
-compared a b = compared_by a b (ltb a b) (eqb a b) refl refl
 
 set_again_at : (key : ℕ) (first last : List ℕ) (p : ℕ × List ℕ) (rest : Kept) → Compared p.0 key
     → set key last (set key first rest) ≡ set key last rest

@@ -69,18 +69,18 @@ same_folded h a b [] behind p q r fits e =
 same_folded h a b (x ∷ before) behind p q r fits e =
     same_folded (hashed h x) a b before behind (hashed-lt h x) q r fits e
 
-same_checksum : (a b : ℕ) (before behind : List ℕ) → a < 2 ^ 8 → b < 2 ^ 8 → AreBytes behind
+pub same_checksum : (a b : ℕ) (before behind : List ℕ) → a < 2 ^ 8 → b < 2 ^ 8 → AreBytes behind
     → checksum (before ++ a ∷ behind) ≡ checksum (before ++ b ∷ behind) → a ≡ b
 unfolding checksum
 same_checksum a b before behind q r fits e = same_folded 0xcbf29ce484222325 a b before behind (lit< tt) q r fits e
 
 -- ---- a byte of a state
 
-same_ulint : (v w : ℕ) → v < 2 ^ 64 → w < 2 ^ 64 → ulint v ≡ ulint w → v ≡ w
+pub same_ulint : (v w : ℕ) → v < 2 ^ 64 → w < 2 ^ 64 → ulint v ≡ ulint w → v ≡ w
 same_ulint v w p q e =
     sym (ulint_again v [] p) ∙ ap (λ t. ulint_at 0 (t ++ [])) e ∙ ulint_again w [] q
 
-first_of_rest : (before behind : List ℕ) (a b : ℕ) → before ++ a ∷ behind ≡ before ++ b ∷ behind → a ≡ b
+pub first_of_rest : (before behind : List ℕ) (a b : ℕ) → before ++ a ∷ behind ≡ before ++ b ∷ behind → a ≡ b
 first_of_rest before behind a b e =
     let rests : a ∷ behind ≡ b ∷ behind
     = sym (drop_at before (a ∷ behind) (length before) refl) ∙ ap (drop (length before)) e
@@ -94,10 +94,10 @@ body_front s = take_at (body s) (ulint (checksum (body s))) (length (body s)) re
 sum_rest : (s : State) → drop (length (body s)) (spelled s) ≡ ulint (checksum (body s))
 sum_rest s = drop_at (body s) (ulint (checksum (body s))) (length (body s)) refl
 
-in_body : (before behind : List ℕ) (a n k : ℕ) → n ≡ length before + suc k → take n (before ++ a ∷ behind) ≡ before ++ a ∷ take k behind
+pub in_body : (before behind : List ℕ) (a n k : ℕ) → n ≡ length before + suc k → take n (before ++ a ∷ behind) ≡ before ++ a ∷ take k behind
 in_body before behind a n k e = ap (λ m. take m (before ++ a ∷ behind)) e ∙ take-append-add before (a ∷ behind) (suc k)
 
-behind_body : (before behind : List ℕ) (a n k : ℕ) → n ≡ length before + suc k → drop n (before ++ a ∷ behind) ≡ drop k behind
+pub behind_body : (before behind : List ℕ) (a n k : ℕ) → n ≡ length before + suc k → drop n (before ++ a ∷ behind) ≡ drop k behind
 behind_body before behind a n k e = ap (λ m. drop m (before ++ a ∷ behind)) e ∙ drop-append-add before (a ∷ behind) (suc k)
 
 changed_body : (s t : State) (before behind : List ℕ) (a b k : ℕ) → a < 2 ^ 8 → b < 2 ^ 8 → AreBytes behind

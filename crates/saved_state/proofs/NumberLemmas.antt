@@ -81,7 +81,7 @@ byte_at-lt : (k x : ℕ) → byte_at k x < 256
 byte_at-lt zero x = mod-lt x (lit< tt)
 byte_at-lt (suc k) x = mod-lt (x / 256 ^ suc k) (lit< tt)
 
-AreBytes-le_from : (j n v : ℕ) → AreBytes (bytes_low_first j n v)
+pub AreBytes-le_from : (j n v : ℕ) → AreBytes (bytes_low_first j n v)
 AreBytes-le_from j zero v i = lit< tt
 AreBytes-le_from j (suc n) v zero = byte_at-lt j v
 AreBytes-le_from j (suc n) v (suc i) = AreBytes-le_from (suc j) n v i

@@ -4,3 +4,4 @@
 mod failures;
 mod sqlite_rows;
 mod texts;
+mod wholeness;
