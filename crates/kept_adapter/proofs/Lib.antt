@@ -1,1 +1,5 @@
 pub mod SavingLemmas
+pub mod LedgerStays
+pub mod PutBack
+pub mod LedgerBack
+pub mod Restarted

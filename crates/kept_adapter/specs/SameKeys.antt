@@ -298,7 +298,7 @@ written_alike (Settles originator number reply) device =
 
 -- ---- all steps
 
-step_alike : (device : Device) (step : DeviceStep) → AreAlike device (device_after_step device step)
+pub step_alike : (device : Device) (step : DeviceStep) → AreAlike device (device_after_step device step)
 step_alike device (Requested request) =
     let t = turn_alike (fate device.ledger request.0 request.1) device request.0 request.1 in
     record { shapes = t.0; ledger = t.1 }

@@ -1,0 +1,110 @@
+-- A device over restarts: its steps, and starts from what is kept of it.
+use Rattle.std.specs.Prelude.{◌≡◌, ◌≢◌, ◌⊎◌, ⊤, length, ℕ, ◌<◌, ◌≤◌, ◌^◌, false, Option, Some, None, option_map, IfSome, List, [], ◌∷◌, ◌++◌}
+use Rattle.std.specs.List.{AllByRecursion}
+use Rattle.cip_application.specs.declared.object.AttributeName.{AttributeName}
+use Rattle.cip_bytes.specs.Numbers.{AreBytes}
+use Rattle.cip_ledger.specs.Device.{Device}
+use Rattle.cip_ledger.specs.Kept.{IsLedger}
+use Rattle.cip_ledger.specs.Ledger.{LedgerState}
+use Rattle.cip_ledger.specs.Requests.{Command}
+use Rattle.cip_ledger.specs.Laws.{UntilFreed}
+use Rattle.cip_ledger.specs.Runs.{Event as LedgerEvent, Executed as LedgerExecuted, Freed}
+use Rattle.cip_objects.specs.Configuration.{contents_of_config}
+use Rattle.cip_objects.specs.Kept.{kept_names}
+use Rattle.enip_adapter.specs.DeviceRuns.{DeviceStep, Requested, WrittenBy, device_after_step, journal_by_step}
+use Rattle.enip_adapter.specs.OwnWrites.{OwnWrite, Settles}
+use Rattle.kept_adapter.specs.declared.adapter_start.AdapterStart.{AdapterStart}
+use Rattle.kept_adapter.specs.Saved.{saved_device}
+use Rattle.kept_adapter.specs.Started.{started, new_ledger}
+
+-- ---- runs
+
+-- What happens to a device: a step, or a restart with this configuration.
+pub data LifeStep : Type 0 where
+  Does : (step : DeviceStep) → LifeStep
+  Restarts : (start : AdapterStart) → LifeStep
+
+-- The device that starts from what is kept of a device.
+abbrev pub restarted : AdapterStart → Device → Device
+restarted start device = (started start (saved_device device.router.objects device.ledger)).state.shared.objects
+
+abbrev pub after_life_step : Device → LifeStep → Device
+after_life_step device (Does step) = device_after_step device step
+after_life_step device (Restarts start) = restarted start device
+
+-- The device after these steps, from left to right.
+abbrev pub after_life_steps : Device → List LifeStep → Device
+after_life_steps device [] = device
+after_life_steps device (step ∷ steps) = after_life_steps (after_life_step device step) steps
+
+abbrev pub journal_by_life_step : Device → LifeStep → List LedgerEvent
+journal_by_life_step device (Does step) = journal_by_step device step
+journal_by_life_step device (Restarts start) = []
+
+-- The commands that the ledger executes in these steps, and the slots that it frees. A restart does neither.
+abbrev pub journal_over_restarts : Device → List LifeStep → List LedgerEvent
+journal_over_restarts device [] = []
+journal_over_restarts device (step ∷ steps) =
+    journal_by_life_step device step ++ journal_over_restarts (after_life_step device step) steps
+
+-- ---- what holds of every device, configuration and step
+
+-- Each part of a name has 16 bits.
+pub record IsNarrow (name : AttributeName) : Type 0 where
+  pub class : name.class < 2 ^ 16
+  pub instance : name.instance < 2 ^ 16
+  pub attribute : name.attribute < 2 ^ 16
+
+pub record IsDevice (device : Device) : Type 0 where
+  pub names : AllByRecursion IsNarrow (kept_names device.router.objects.shapes)
+  pub ledger : IfSome device.ledger IsLedger
+
+pub record IsConfiguration (start : AdapterStart) : Type 0 where
+  pub names : AllByRecursion IsNarrow (kept_names (contents_of_config start.objects).shapes)
+  pub life : IfSome start.ledger (λ l. l.life < 2 ^ 64)
+  pub few : IfSome start.ledger (λ l. l.originators ≤ 64)
+
+-- A request consists of bytes.
+abbrev pub IsOfBytes : DeviceStep → Type 0
+IsOfBytes (Requested request) = AreBytes request.1
+IsOfBytes (WrittenBy write) = ⊤
+
+abbrev pub IsStep : LifeStep → Type 0
+IsStep (Does step) = IsOfBytes step
+IsStep (Restarts start) = IsConfiguration start
+
+-- ---- restarts that go on with the ledger
+
+abbrev pub slots_of : Option LedgerState → Option ℕ
+slots_of ledger = option_map (λ l. l.slots) ledger
+
+-- The configuration is one of so many slots, if it has a ledger, and wants no new life.
+pub record GoesOn (count : Option ℕ) (start : AdapterStart) : Type 0 where
+  pub slots : option_map (λ l. l.originators) start.ledger ≡ count
+  pub same_life : start.begins_life ≡ false
+
+abbrev pub IsGoingOn : Option ℕ → LifeStep → Type 0
+IsGoingOn slots (Does step) = ⊤
+IsGoingOn slots (Restarts start) = GoesOn slots start
+
+-- The ledger after a restart: a new one, or that before, with as many slots as are configured.
+abbrev pub IsLedgerAfter : AdapterStart → Option LedgerState → Option LedgerState → Type 0
+IsLedgerAfter start old new =
+    (new ≡ new_ledger start.ledger)
+    ⊎ ((l : LedgerState) × (slots : ℕ) × (old ≡ Some l) × (length l.taken ≤ slots) × (slots ≤ 64)
+    × (new ≡ Some (record l { slots = slots })))
+
+-- ---- facts on runs
+
+-- No command of this originator is settled.
+abbrev pub SettlesOthers : ℕ → OwnWrite → Type 0
+SettlesOthers originator (Settles by number reply) = by ≢ originator
+SettlesOthers originator other = ⊤
+
+abbrev pub IsForOthers : ℕ → DeviceStep → Type 0
+IsForOthers originator (Requested request) = ⊤
+IsForOthers originator (WrittenBy write) = SettlesOthers originator write
+
+abbrev pub SettlesNothingOf : ℕ → LifeStep → Type 0
+SettlesNothingOf originator (Does step) = IsForOthers originator step
+SettlesNothingOf originator (Restarts start) = ⊤
