@@ -3,3 +3,4 @@ pub mod LedgerStays
 pub mod PutBack
 pub mod LedgerBack
 pub mod Restarted
+pub mod LifeLemmas
