@@ -4,3 +4,4 @@ pub mod PutBack
 pub mod LedgerBack
 pub mod Restarted
 pub mod LifeLemmas
+pub mod StepLemmas

@@ -1,20 +1,24 @@
 -- A device over restarts: its steps, and starts from what is kept of it.
-use Rattle.std.specs.Prelude.{◌≡◌, ◌≢◌, ◌⊎◌, ⊤, length, ℕ, ◌<◌, ◌≤◌, ◌^◌, false, Option, Some, None, option_map, IfSome, List, [], ◌∷◌, ◌++◌}
+use Rattle.std.specs.Prelude.{◌≡◌, ◌≢◌, ◌⊎◌, ⊤, length, is_some, map, ℕ, ◌<◌, ◌≤◌, ◌^◌, true, false, Option, Some, None, option_map, IfSome, List, [], ◌∷◌, ◌++◌}
 use Rattle.std.specs.List.{AllByRecursion}
 use Rattle.cip_application.specs.declared.object.AttributeName.{AttributeName}
 use Rattle.cip_bytes.specs.Numbers.{AreBytes}
 use Rattle.cip_ledger.specs.Device.{Device}
 use Rattle.cip_ledger.specs.Kept.{IsLedger}
 use Rattle.cip_ledger.specs.Ledger.{LedgerState}
-use Rattle.cip_ledger.specs.Requests.{Command}
-use Rattle.cip_ledger.specs.Laws.{UntilFreed}
-use Rattle.cip_ledger.specs.Runs.{Event as LedgerEvent, Executed as LedgerExecuted, Freed}
+use Rattle.cip_ledger.specs.Runs.{Event as LedgerEvent}
 use Rattle.cip_objects.specs.Configuration.{contents_of_config}
 use Rattle.cip_objects.specs.Kept.{kept_names}
+use Rattle.enip_adapter.specs.Calls.{AdapterState, Call}
 use Rattle.enip_adapter.specs.DeviceRuns.{DeviceStep, Requested, WrittenBy, device_after_step, journal_by_step}
+use Rattle.enip_adapter.specs.DeviceRuns.{steps_of_calls}
 use Rattle.enip_adapter.specs.OwnWrites.{OwnWrite, Settles}
+use Rattle.enip_adapter.specs.Runs.{after_calls}
+use Rattle.enip_keep.specs.Lives.{Step, Executed, Restarted, after}
+use Rattle.kept_server.specs.Changes.{keys_of, rise}
+use Rattle.kept_server.specs.Rounds.{DeviceContents, RoundRequests, after_round, contents_with, kept_of}
 use Rattle.kept_adapter.specs.declared.adapter_start.AdapterStart.{AdapterStart}
-use Rattle.kept_adapter.specs.Saved.{saved_device}
+use Rattle.kept_adapter.specs.Saved.{saved_device, saved_adapter, adapter_keys}
 use Rattle.kept_adapter.specs.Started.{started, new_ledger}
 
 -- ---- runs
@@ -46,6 +50,52 @@ abbrev pub journal_over_restarts : Device → List LifeStep → List LedgerEvent
 journal_over_restarts device [] = []
 journal_over_restarts device (step ∷ steps) =
     journal_by_life_step device step ++ journal_over_restarts (after_life_step device step) steps
+
+-- ---- runs of the adapter
+
+-- What happens to an adapter: calls, or a restart with a configuration.
+abbrev pub AdapterStep : Type 0
+AdapterStep = Step (List Call) AdapterStart
+
+-- The adapter after these steps, from left to right.
+abbrev pub adapter_after : List AdapterStep → AdapterState → AdapterState
+adapter_after steps a = after after_calls saved_adapter started steps a
+
+-- What happens to its device in these steps.
+abbrev pub steps_over_restarts : AdapterState → List AdapterStep → List LifeStep
+steps_over_restarts a [] = []
+steps_over_restarts a (Executed calls ∷ steps) =
+    map Does (steps_of_calls a calls) ++ steps_over_restarts (after_calls a calls) steps
+steps_over_restarts a (Restarted start ∷ steps) =
+    Restarts start ∷ steps_over_restarts (started start (saved_adapter a)) steps
+
+-- ---- runs of a server that keeps its state
+
+-- The contents after rounds and starts, from left to right.
+abbrev pub contents_after : {W : Type 0} → List (Step (RoundRequests W) AdapterStart) → DeviceContents → DeviceContents
+contents_after steps c =
+    after (after_round saved_adapter) kept_of (λ start found. contents_with saved_adapter found (started start found))
+    steps c
+
+abbrev pub adapter_step : {W : Type 0} → Step (RoundRequests W) AdapterStart → AdapterStep
+adapter_step (Executed requests) = Executed requests.calls
+adapter_step (Restarted start) = Restarted start
+
+-- The contents are those of a server once it serves: the entries of its adapter are saved, in rising order, and what it
+-- found has the same keys, or nothing was found.
+pub record IsServed (c : DeviceContents) : Type 0 where
+  pub saved : c.saved ≡ saved_adapter c.adapter
+  pub rising : rise (adapter_keys c.adapter) ≡ true
+  pub found : (c.found ≡ []) ⊎ (keys_of c.found ≡ adapter_keys c.adapter)
+
+-- The configuration has the objects and a ledger as the device has.
+pub record HasTables (device : Device) (start : AdapterStart) : Type 0 where
+  pub shapes : (contents_of_config start.objects).shapes ≡ device.router.objects.shapes
+  pub ledger : is_some start.ledger ≡ is_some device.ledger
+
+abbrev pub KeepsTables : {W : Type 0} → Device → Step (RoundRequests W) AdapterStart → Type 0
+KeepsTables device (Executed requests) = ⊤
+KeepsTables device (Restarted start) = HasTables device start
 
 -- ---- what holds of every device, configuration and step
 
