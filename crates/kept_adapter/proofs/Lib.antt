@@ -5,3 +5,4 @@ pub mod LedgerBack
 pub mod Restarted
 pub mod LifeLemmas
 pub mod StepLemmas
+pub mod NewLives

@@ -6,7 +6,9 @@ use Rattle.cip_bytes.specs.Numbers.{AreBytes}
 use Rattle.cip_ledger.specs.Device.{Device}
 use Rattle.cip_ledger.specs.Kept.{IsLedger}
 use Rattle.cip_ledger.specs.Ledger.{LedgerState}
-use Rattle.cip_ledger.specs.Runs.{Event as LedgerEvent}
+use Rattle.cip_ledger.specs.Laws.{UntilFreed}
+use Rattle.cip_ledger.specs.Requests.{Command}
+use Rattle.cip_ledger.specs.Runs.{Event as LedgerEvent, Executed as CommandExecuted, Freed}
 use Rattle.cip_objects.specs.Configuration.{contents_of_config}
 use Rattle.cip_objects.specs.Kept.{kept_names}
 use Rattle.enip_adapter.specs.Calls.{AdapterState, Call}
@@ -158,3 +160,36 @@ IsForOthers originator (WrittenBy write) = SettlesOthers originator write
 abbrev pub SettlesNothingOf : ℕ → LifeStep → Type 0
 SettlesNothingOf originator (Does step) = IsForOthers originator step
 SettlesNothingOf originator (Restarts start) = ⊤
+
+-- ---- lives
+
+abbrev pub life_of : Option LedgerState → Option ℕ
+life_of ledger = option_map (λ l. l.life) ledger
+
+-- The command isn't one of this life with this number.
+abbrev pub IsNotAgain : Command → Command → Type 0
+IsNotAgain command other = other.life ≡ command.life → command.number ≢ other.number
+
+-- No number of an originator is executed twice in one life, unless the originator's slot is freed in between.
+abbrev pub IsOnceInEachLife : List LedgerEvent → Type 0
+IsOnceInEachLife [] = ⊤
+IsOnceInEachLife (CommandExecuted command reply ∷ later) =
+    UntilFreed command.originator (IsNotAgain command) later × IsOnceInEachLife later
+IsOnceInEachLife (Freed originator ∷ later) = IsOnceInEachLife later
+
+-- The life that a configuration begins, if it begins one, is not this one.
+abbrev pub BeginsOther : ℕ → LifeStep → Type 0
+BeginsOther life (Does step) = ⊤
+BeginsOther life (Restarts start) = IfSome start.ledger (λ l. l.life ≢ life)
+
+-- Each configuration has a life that no later one has.
+abbrev pub HaveOwnLives : List LifeStep → Type 0
+HaveOwnLives [] = ⊤
+HaveOwnLives (Does step ∷ steps) = HaveOwnLives steps
+HaveOwnLives (Restarts start ∷ steps) =
+    IfSome start.ledger (λ l. AllByRecursion (BeginsOther l.life) steps) × HaveOwnLives steps
+
+-- Nor is it that of the device at the beginning.
+pub record BeginNewLives (device : Device) (steps : List LifeStep) : Type 0 where
+  pub first : IfSome (life_of device.ledger) (λ life. AllByRecursion (BeginsOther life) steps)
+  pub others : HaveOwnLives steps
