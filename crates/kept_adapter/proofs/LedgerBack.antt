@@ -46,7 +46,7 @@ not_life : (n : ℕ) → (ledger_key (suc n) == ledger_key 0) ≡ false
 not_life n = ne_eqb (ledger_key (suc n)) (ledger_key 0) (λ same. omega (arith, same))
 
 -- The entry is put back as device_state does, if it isn't that of a free slot.
-ledger_goes : (s : State) (n : ℕ) (content : List ℕ) → n < 2 ^ 16 → is_free_slot (ledger_key n) content ≡ false
+pub ledger_goes : (s : State) (n : ℕ) (content : List ℕ) → n < 2 ^ 16 → is_free_slot (ledger_key n) content ≡ false
     → after_entry s (ledger_key n) content ≡ by_name s content (Some (name_of LEDGER n 0))
 ledger_goes s n content h some =
     ap (λ t. if t then done s Used else by_device_key s content (device_key (ledger_key n))) some

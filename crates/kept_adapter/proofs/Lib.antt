@@ -6,3 +6,4 @@ pub mod Restarted
 pub mod LifeLemmas
 pub mod StepLemmas
 pub mod NewLives
+pub mod ValuesBack

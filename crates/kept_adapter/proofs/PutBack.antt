@@ -88,7 +88,7 @@ shapes_back p (entry ∷ entries) =
 
 -- ---- the entries of the objects leave the ledger
 
-not_of_ledger : (key : ℕ) → key < 2 ^ 48 → is_ledger_key key ≡ false
+pub not_of_ledger : (key : ℕ) → key < 2 ^ 48 → is_ledger_key key ≡ false
 not_of_ledger key h = by (is_ledger_key key) refl
   where
     by : (is : Bool) → is_ledger_key key ≡ is → is ≡ false

@@ -11,6 +11,7 @@ use Rattle.cip_ledger.specs.Requests.{Command}
 use Rattle.cip_ledger.specs.Runs.{Event as LedgerEvent, Executed as CommandExecuted, Freed}
 use Rattle.cip_objects.specs.Configuration.{contents_of_config}
 use Rattle.cip_objects.specs.Kept.{kept_names}
+use Rattle.device_state.specs.Saved.{identity_bytes}
 use Rattle.enip_adapter.specs.Calls.{AdapterState, Call}
 use Rattle.enip_adapter.specs.DeviceRuns.{DeviceStep, Requested, WrittenBy, device_after_step, journal_by_step}
 use Rattle.enip_adapter.specs.DeviceRuns.{steps_of_calls}
@@ -94,6 +95,11 @@ pub record IsServed (c : DeviceContents) : Type 0 where
 pub record HasTables (device : Device) (start : AdapterStart) : Type 0 where
   pub shapes : (contents_of_config start.objects).shapes ≡ device.router.objects.shapes
   pub ledger : is_some start.ledger ≡ is_some device.ledger
+
+-- The configuration is of the same device, with the same objects.
+pub record HasObjects (device : Device) (start : AdapterStart) : Type 0 where
+  pub shapes : (contents_of_config start.objects).shapes ≡ device.router.objects.shapes
+  pub identity : identity_bytes (contents_of_config start.objects) ≡ identity_bytes device.router.objects
 
 abbrev pub KeepsTables : {W : Type 0} → Device → Step (RoundRequests W) AdapterStart → Type 0
 KeepsTables device (Executed requests) = ⊤
