@@ -129,8 +129,11 @@ taken_entry n content some =
 not_empty : (slot : SlotState) → (length (slot_bytes slot) == 0) ≡ false
 not_empty slot =
     let size : length (slot_bytes slot) ≡ 12 + length (state_bytes slot.reply)
-    = omega (arith, length-append (le 8 slot.originator) (le 4 slot.number ++ state_bytes slot.reply),
-    length-append (le 4 slot.number) (state_bytes slot.reply)) in
+    = omega (
+      arith,
+      length-append (le 8 slot.originator) (le 4 slot.number ++ state_bytes slot.reply),
+      length-append (le 4 slot.number) (state_bytes slot.reply),
+    ) in
     ne_eqb (length (slot_bytes slot)) 0 (λ none. omega (arith, size, none))
 
 not_first : (n : ℕ) → (suc n == 0) ≡ false

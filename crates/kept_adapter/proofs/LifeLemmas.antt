@@ -26,6 +26,7 @@ use Rattle.enip_adapter.proofs.SettleLemmas.{written-settled}
 use Rattle.kept_adapter.specs.declared.adapter_start.AdapterStart.{AdapterStart}
 use Rattle.kept_adapter.specs.Restarts.{LifeStep, Does, Restarts, restarted, after_life_step, after_life_steps, journal_by_life_step, journal_over_restarts}
 use Rattle.kept_adapter.specs.Restarts.{IsDevice, IsStep, GoesOn, IsGoingOn, slots_of, SettlesOthers, SettlesNothingOf}
+use Rattle.kept_adapter.specs.RestartLaws.{GoOn}
 use Rattle.kept_adapter.proofs.Restarted.{goes_on, device_stays}
 
 -- ---- the number of slots stays
@@ -271,3 +272,12 @@ same_answer count device first again between originator number are others is aga
     (later count device (Does (Requested first)) between are) others kept s.settled)
     again_is.status_is
     ∙ sym s.answered
+
+-- The premise of the laws.
+pub go_on : (device : Device) (steps : List LifeStep) → GoOn device steps
+    → AreGoingOn (slots_of device.ledger) device steps
+go_on device steps on = record {
+  runs = record { is = on.is; slots = refl };
+  fit = on.fit;
+  on = on.on;
+}

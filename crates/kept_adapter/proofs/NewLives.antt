@@ -206,8 +206,7 @@ once_by (Served service (Replies given)) device request events means up once = o
 once_by (Served service (Executes command)) device request events means up once =
     let own : life_of device.ledger ≡ Some command.life
     = ap life_of means.ledger_is ∙ ap (λ n. Some n) (sym means.means.life) in
-    let next = next_by objects_after objects_answer (Served service (Executes command)) device request in
-    (
+    let next = next_by objects_after objects_answer (Served service (Executes command)) device request in (
       not_again command.life command.originator command.number command events refl refl
           (up command own (by_slot next.ledger command.life command.originator command.number
           (Some (embedded_reply objects_after objects_answer device.router command.request))

@@ -25,7 +25,7 @@ use Rattle.kept_adapter.specs.Restarts.{LifeStep, Does, Restarts, restarted, aft
 use Rattle.kept_adapter.specs.SameKeys.{step_alike}
 use Rattle.kept_adapter.specs.Saved.{saved_objects, saved_ledger, saved_device, first_entries, ENTRIES}
 use Rattle.kept_adapter.specs.Started.{is_free_slot, by_device_key, after_entry, beginning, put_back, put_all_back}
-use Rattle.kept_adapter.specs.Started.{new_ledger, configured, put_back_in, trusted_ledger}
+use Rattle.kept_adapter.specs.Started.{new_ledger, configured, put_back_in, trusted_ledger, started}
 use Rattle.kept_adapter.proofs.LedgerStays.{step_stays}
 use Rattle.kept_adapter.proofs.LedgerBack.{part, IsAt, IsAtOrLost, first_at, first_or_lost, take_all}
 use Rattle.kept_adapter.proofs.PutBack.{put_two, shapes_back, IsLeft, objects_leave}
@@ -228,4 +228,10 @@ device_stays device (Restarts start) fits is = record {
       (sym (shapes_back (beginning (configured start)) (saved_device device.router.objects device.ledger))) fits.names;
   ledger = after_is_ledger start device.ledger (restarted start device).ledger fits is.ledger
       (ledger_after start device is fits);
+}
+
+pub first_device : (start : AdapterStart) → IsConfiguration start → IsDevice (started start []).state.shared.objects
+first_device start configuration = record {
+  names = configuration.names;
+  ledger = new_is_ledger start.ledger configuration.life configuration.few;
 }

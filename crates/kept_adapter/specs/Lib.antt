@@ -4,3 +4,4 @@ pub mod Saved
 pub mod Started
 pub mod SameKeys
 pub mod Restarts
+pub mod RestartLaws

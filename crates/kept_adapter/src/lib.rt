@@ -11,6 +11,7 @@
 
 mod adapter_start;
 mod keys;
+pub mod laws;
 mod progress;
 mod saving;
 mod starting;
