@@ -242,3 +242,22 @@ pub adapter_end : {W : Type 0} (c : DeviceContents) (steps : List (Step (RoundRe
     → (contents_after steps c).adapter ≡ adapter_after (map adapter_step steps) c.adapter
 adapter_end c steps is keep =
     ends_by c.adapter.state.shared.objects c steps (record { is = is; same = (refl, refl) }) keep
+
+-- ---- what such a server keeps
+
+served_by : {W : Type 0} (device : Device) (c : DeviceContents) (steps : List (Step (RoundRequests W) AdapterStart))
+    → IsOf device c → AllByRecursion (KeepsTables device) steps → IsServed (contents_after steps c)
+served_by device c [] of keep = of.is
+served_by device c (Executed requests ∷ steps) of keep =
+    served_by device (after_round saved_adapter c requests) steps (after_a_round device c requests.calls of) keep.1
+served_by device c (Restarted start ∷ steps) of keep =
+    served_by device (contents_with saved_adapter (kept_of c) (started start (kept_of c))) steps
+    (after_a_start device c start keep.0 of) keep.1
+
+pub kept_end : {W : Type 0} (c : DeviceContents) (steps : List (Step (RoundRequests W) AdapterStart)) → IsServed c
+    → AllByRecursion (KeepsTables c.adapter.state.shared.objects) steps
+    → kept_of (contents_after steps c) ≡ saved_adapter (adapter_after (map adapter_step steps) c.adapter)
+kept_end c steps is keep =
+    kept_is_saved (contents_after steps c)
+    (served_by c.adapter.state.shared.objects c steps (record { is = is; same = (refl, refl) }) keep)
+    ∙ ap saved_adapter (adapter_end c steps is keep)

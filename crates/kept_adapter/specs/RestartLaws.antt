@@ -12,7 +12,7 @@ use Rattle.enip_adapter.specs.Adapter.{new_adapter}
 use Rattle.enip_adapter.specs.Calls.{AdapterState}
 use Rattle.enip_adapter.specs.DeviceRuns.{Requested, objects_after, objects_answer}
 use Rattle.enip_keep.specs.Lives.{Step}
-use Rattle.kept_server.specs.Rounds.{DeviceContents, RoundRequests}
+use Rattle.kept_server.specs.Rounds.{DeviceContents, RoundRequests, kept_of}
 use Rattle.kept_adapter.specs.declared.adapter_start.AdapterStart.{AdapterStart}
 use Rattle.kept_adapter.specs.Restarts.{LifeStep, Does, restarted, after_life_step, after_life_steps, journal_over_restarts}
 use Rattle.kept_adapter.specs.Restarts.{AdapterStep, adapter_after, steps_over_restarts, contents_after, adapter_step}
@@ -78,6 +78,12 @@ abbrev pub server_law : Type 0 → Type 0
 server_law W = (c : DeviceContents) (steps : List (Step (RoundRequests W) AdapterStart)) → IsServed c →
     AllByRecursion (KeepsTables c.adapter.state.shared.objects) steps →
     (contents_after steps c).adapter ≡ adapter_after (map adapter_step steps) c.adapter
+
+-- And what is kept of the contents is what is kept of that adapter: no more, and no less.
+abbrev pub server_kept_law : Type 0 → Type 0
+server_kept_law W = (c : DeviceContents) (steps : List (Step (RoundRequests W) AdapterStart)) → IsServed c →
+    AllByRecursion (KeepsTables c.adapter.state.shared.objects) steps →
+    kept_of (contents_after steps c) ≡ saved_adapter (adapter_after (map adapter_step steps) c.adapter)
 
 -- Each restart goes on with the ledger of the device.
 pub record GoOn (device : Device) (steps : List LifeStep) : Type 0 where

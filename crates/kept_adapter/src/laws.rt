@@ -8,7 +8,7 @@
 ghost use Rattle.kept_adapter.specs.RestartLaws.{new_adapter_law, ledger_goes_on_law, ledger_or_new_law, values_go_on_law};
 ghost use Rattle.kept_adapter.specs.RestartLaws.{others_begin_again_law, first_device_law, device_stays_law};
 ghost use Rattle.kept_adapter.specs.RestartLaws.{device_over_restarts_law, once_law, rising_law};
-ghost use Rattle.kept_adapter.specs.RestartLaws.{same_bytes_law, lives_law, server_law};
+ghost use Rattle.kept_adapter.specs.RestartLaws.{same_bytes_law, lives_law, server_law, server_kept_law};
 
 use enip_server::Wire;
 
@@ -40,9 +40,11 @@ pub fn restarts_are_steps()
 {}
 
 /// The adapter of a server that keeps its state is, over restarts with the same tables, the adapter after the calls of its
-/// rounds and the restarts, in order. So these laws hold of the steps of which `live_peers` of `kept_server` speaks.
+/// rounds and the restarts, in order, and what is kept is what is kept of that adapter. So the laws hold of the steps of
+/// which `live_peers` of `kept_server` speaks.
 pub fn servers_restart<W: Wire + Drop>()
-    ensures { server_law W }
+    ensures adapter { server_law W }
+    ensures kept { server_kept_law W }
 {}
 
 /// Over restarts that go on, no number of an originator is executed twice, and the numbers rise, unless the originator's
