@@ -4,3 +4,5 @@ pub mod Saved
 pub mod Started
 pub mod SameKeys
 pub mod Names
+pub mod Restarts
+pub mod RestartLaws

@@ -298,13 +298,13 @@ written_alike (Settles originator number reply) device =
 
 -- ---- all steps
 
-step_alike : (device : Device) (step : DeviceStep) → AreAlike device (device_after_step device step)
+pub step_alike : (device : Device) (step : DeviceStep) → AreAlike device (device_after_step device step)
 step_alike device (Requested request) =
     let t = turn_alike (fate device.ledger request.0 request.1) device request.0 request.1 in
     record { shapes = t.0; ledger = t.1 }
 step_alike device (WrittenBy write) = written_alike write device
 
-steps_alike : (device : Device) (steps : List DeviceStep) → AreAlike device (device_after device steps)
+pub steps_alike : (device : Device) (steps : List DeviceStep) → AreAlike device (device_after device steps)
 steps_alike device [] = record { shapes = refl; ledger = refl }
 steps_alike device (step ∷ steps) =
     let first = step_alike device step in
@@ -338,7 +338,7 @@ ledger_keys None (Some k) same = absurd (cc)
 ledger_keys (Some l) None same = absurd (cc)
 ledger_keys (Some l) (Some k) same = first_keys k l ENTRIES
 
-device_keys : (m n : Contents) (l k : Option LedgerState) → n.shapes ≡ m.shapes → is_some k ≡ is_some l
+pub device_keys : (m n : Contents) (l k : Option LedgerState) → n.shapes ≡ m.shapes → is_some k ≡ is_some l
     → keys_of (saved_device n k) ≡ keys_of (saved_device m l)
 device_keys m n l k shapes ledger =
     map-append (λ (entry : ℕ × List ℕ). entry.0) (saved_objects n) (saved_ledger k)

@@ -12,6 +12,7 @@
 mod adapter_start;
 mod entry_name;
 mod keys;
+pub mod laws;
 mod progress;
 mod saving;
 mod starting;

@@ -1,0 +1,302 @@
+-- What holds of every ledger still holds after every step of a device whose requests consist of bytes.
+use Rattle.std.proofs.Common.{◌≡◌, ℕ, zero, suc, ◌+◌, ◌*◌, ◌<◌, ◌≤◌, ◌^◌, ◌==◌, ◌&&◌, nat_lt, nat_le, not, Bool, true, false, cond, if◌then◌else◌, Option, Some, None, List, [], ◌∷◌, length, take, drop, refl, ap, sym, ◌∙◌, subst, arith, Result, Ok, Err}
+use Rattle.std.specs.Prelude.{⊤, option_map, IfSome, slice_index}
+use Rattle.std.proofs.lemmas.Bool.{eqb-true, ltb-true, and_parts}
+use Rattle.std.proofs.lemmas.Bool.Decides.{nat_tests}
+use Rattle.std.proofs.lemmas.List.{get_or-drop}
+use Rattle.cip_bytes.specs.Numbers.{number_at, AreBytes}
+use Rattle.cip_bytes.proofs.Bytes.{AreBytes-drop}
+use Rattle.cip_message.specs.declared.path.Path.{Path}
+use Rattle.cip_message.specs.declared.path.PathFault.{PathFault}
+use Rattle.cip_message.specs.declared.request.RequestFault.{RequestFault}
+use Rattle.cip_message.specs.declared.request.RequestFault.TheVariants.{PathSize}
+use Rattle.cip_message.specs.PathReading.{path_of}
+use Rattle.cip_message.specs.Request.{Request as RouterRequest, request_of}
+use Rattle.cip_ledger.specs.declared.request.TheConstants.{LEDGER}
+use Rattle.cip_ledger.specs.declared.service.TheConstants as services
+use Rattle.cip_ledger.specs.Device.{Device}
+use Rattle.cip_ledger.specs.Doubt.{is_doubtful, is_in_doubt_at, is_in_doubt, is_kept_reply, can_settle, with_last, settled}
+use Rattle.cip_ledger.specs.Kept.{IsLedger}
+use Rattle.cip_ledger.specs.Ledger.{LedgerState, SlotState, slot_of, with_slot, without_slot, AreSlots, IsSlot}
+use Rattle.cip_ledger.specs.Requests.{LedgerRequest, Command, command_of, ledger_request, request_by_parts, request_by_path, is_barred}
+use Rattle.cip_ledger.specs.Runs.{Request, command_given}
+use Rattle.cip_ledger.specs.Services.{Action, Replies, Executes, Frees, refuses, size_fault, unless, do_new, do_by_slot, do_command, do_once, forget, forget_in, action_of, reply_to, refusal, KEPT_LIMIT, HEAD_SIZE}
+use Rattle.cip_ledger.specs.Turn.{Fate, Passed, Served, fate, fate_of, turn_by, with_executed, with_freed, embedded_reply}
+use Rattle.cip_ledger.proofs.Answered.{gives}
+use Rattle.cip_ledger.proofs.Fates.{Means, fate-means}
+use Rattle.cip_ledger.proofs.KeptLemmas.{apart-with_slot, apart-without_slot, slots-with_slot, slots-without_slot}
+use Rattle.cip_ledger.proofs.SlotLemmas.{slot_of-originator}
+use Rattle.cip_owner.specs.Owned.{OwnedState}
+use Rattle.cip_owner.specs.OwnedLaws.{exec_owned_within}
+use Rattle.enip_adapter.specs.DeviceRuns.{DeviceStep, Requested, WrittenBy, device_after, device_after_step, objects_after, objects_answer}
+use Rattle.kept_adapter.specs.Restarts.{IsOfBytes}
+use Rattle.enip_adapter.specs.OwnWrites.{OwnWrite, WritesData, WritesAttribute, SetsStatus, SetsState, Prepares, Settles, ledger_written, device_written}
+
+-- ---- the numbers of a command fit their types
+
+number4 : (k : ℕ) (b : List ℕ) → AreBytes b → number_at k 4 b < 2 ^ 32
+number4 k b fits = let f = AreBytes-drop k b fits in omega (arith, f 0, f 1, f 2, f 3)
+
+number8 : (k : ℕ) (b : List ℕ) → AreBytes b → number_at k 8 b < 2 ^ 64
+number8 k b fits = let f = AreBytes-drop k b fits in omega (arith, f 0, f 1, f 2, f 3, f 4, f 5, f 6, f 7)
+
+in_data : (short : Bool) (s w : ℕ) (rest : List ℕ) (q : RouterRequest) → AreBytes (s ∷ w ∷ rest)
+    → ◌≡◌ {A = Result RouterRequest RequestFault} (cond short (Err PathSize)
+    (Ok (record { service = s; path = take (2 * w) rest; «data» = drop (2 * w) rest }))) (Ok q) → AreBytes q.data
+in_data true s w rest q h e = absurd (cc)
+in_data false s w rest q h e =
+    let same : ◌≡◌ {A = RouterRequest} (record { service = s; path = take (2 * w) rest; «data» = drop (2 * w) rest }) q = cc in
+    subst AreBytes (ap (λ r. r.data) same) (λ i. rw (get_or-drop (2 * w) rest i 0) (h (suc (suc (2 * w + i)))))
+
+router_data : (text : List ℕ) (q : RouterRequest) → AreBytes text → request_of text ≡ Ok q → AreBytes q.data
+unfolding request_of
+router_data [] q h e = absurd (cc)
+router_data (s ∷ []) q h e = absurd (cc)
+router_data (s ∷ w ∷ rest) q h e = in_data (nat_lt (length rest) (2 * w)) s w rest q h e
+
+same_some : {A : Type 0} (x y : A) → ◌≡◌ {A = Option A} (Some x) (Some y) → x ≡ y
+same_some x y e = cc
+
+asked_data : (text : List ℕ) (asked : LedgerRequest) → AreBytes text → ledger_request text ≡ Some asked
+    → AreBytes asked.data
+unfolding ledger_request
+asked_data text asked fits e = by_parts (request_of text) refl e
+  where
+    by_class : (q : RouterRequest) (own : Bool) (made : LedgerRequest) → made.data ≡ q.data → AreBytes q.data
+        → (if own then Some made else None) ≡ Some asked → AreBytes asked.data
+    by_class q true made same has is =
+        subst AreBytes (sym same ∙ ap (λ (r : LedgerRequest). r.data) (same_some made asked is)) has
+    by_class q false made same has is = absurd (cc)
+
+    by_path : (q : RouterRequest) (p : Result Path PathFault) → AreBytes q.data → request_by_path q p ≡ Some asked
+        → AreBytes asked.data
+    by_path q (Err fault) has is = absurd (cc)
+    by_path q (Ok p) has is = by_class q (p.class == LEDGER) _ refl has is
+
+    by_parts : (x : Result RouterRequest RequestFault) → request_of text ≡ x → request_by_parts x ≡ Some asked
+        → AreBytes asked.data
+    by_parts (Err fault) same is = absurd (cc)
+    by_parts (Ok q) same is = by_path q (path_of q.path) (router_data text q fits same) is
+
+record IsNarrow (command : Command) : Type 0 where
+  originator : command.originator < 2 ^ 64
+  number : command.number < 2 ^ 32
+
+command_fits : (request : Request) (command : Command) → AreBytes request.1 → command_given request ≡ Some command
+    → IsNarrow command
+command_fits request command fits is =
+    let gift = gives (ledger_request request.1) command is in
+    let has = asked_data request.1 gift.request fits gift.asked_is in
+    subst IsNarrow gift.command_is
+    (record { originator = number8 8 gift.request.data has; number = number4 16 gift.request.data has })
+
+-- ---- a command is executed only if its originator has a slot, or one is free
+
+abbrev HasRoom : LedgerState → Action → Type 0
+HasRoom ledger (Replies answer) = ⊤
+HasRoom ledger (Executes command) =
+    slot_of command.originator ledger.taken ≡ None → length ledger.taken < ledger.slots
+HasRoom ledger (Frees originator) = ⊤
+
+room_if : (ledger : LedgerState) (is : Bool) (a b : Action) → HasRoom ledger a → HasRoom ledger b
+    → HasRoom ledger (if is then a else b)
+room_if ledger true a b one other = one
+room_if ledger false a b one other = other
+
+some_not_none : (slot : SlotState) (o : Option SlotState) → o ≡ Some slot → o ≡ None → ⊥
+some_not_none slot o some none = absurd (cc)
+
+room_by_slot : (ledger : LedgerState) (max_size : ℕ) (command : Command) (found : Option SlotState)
+    → slot_of command.originator ledger.taken ≡ found → HasRoom ledger (do_by_slot ledger max_size command found)
+room_by_slot ledger max_size command None is = by_free (nat_lt (length ledger.taken) ledger.slots) _ tt refl
+  where
+    by_free : (free : Bool) (refused : Action) → HasRoom ledger refused → nat_lt (length ledger.taken) ledger.slots ≡ free
+        → HasRoom ledger (if free then do_new max_size command else refused)
+    by_free true refused none e =
+        room_if ledger (nat_lt max_size (HEAD_SIZE + 1 + KEPT_LIMIT)) _ _ tt (λ none. ltb-true (length ledger.taken) ledger.slots e)
+    by_free false refused none e = none
+room_by_slot ledger max_size command (Some slot) is =
+    room_if ledger (nat_lt command.number slot.number) _ _ tt
+    (room_if ledger (command.number == slot.number) _ _ tt
+    (room_if ledger (nat_lt max_size (HEAD_SIZE + 1 + KEPT_LIMIT)) _ _ tt
+    (λ none. absurd (some_not_none slot (slot_of command.originator ledger.taken) is none))))
+
+room_forget : (ledger : LedgerState) (bytes : List ℕ) → HasRoom ledger (forget ledger bytes)
+room_forget ledger bytes =
+    elim (size_fault 12 bytes) as (λ fault. HasRoom ledger (unless fault refuses
+    (forget_in (number_at 0 8 bytes) (number_at 8 4 bytes) (slot_of (number_at 0 8 bytes) ledger.taken)))) [
+      | None ↦ by_slot (number_at 0 8 bytes) (number_at 8 4 bytes) (slot_of (number_at 0 8 bytes) ledger.taken)
+      | Some status ↦ tt
+    ]
+  where
+    by_slot : (originator number : ℕ) (found : Option SlotState) → HasRoom ledger (forget_in originator number found)
+    by_slot originator number None = tt
+    by_slot originator number (Some slot) = room_if ledger (slot.number == number) _ _ tt tt
+
+room_action : (ledger : LedgerState) (max_size : ℕ) (asked : LedgerRequest)
+    → HasRoom ledger (action_of ledger max_size asked)
+room_action ledger max_size asked =
+    let command = command_of asked.data in
+    room_if ledger (asked.instance == 0) _ _ tt
+    (room_if ledger (asked.instance == 1) _ _
+    (room_if ledger (asked.service == services.DO_ONCE) _ _
+    (room_if ledger (nat_lt (length asked.data) 22) _ _ tt
+    (room_if ledger (not (command.life == ledger.life)) _ _ tt
+    (room_by_slot ledger max_size command (slot_of command.originator ledger.taken) refl)))
+    (room_if ledger (asked.service == services.GET_LAST) _ _ tt
+    (room_if ledger (asked.service == services.FORGET) _ _ (room_forget ledger asked.data)
+    (room_if ledger (asked.service == 0x0e) _ _ tt (room_if ledger (asked.service == 0x03) _ _ tt tt)))))
+    tt)
+
+abbrev HasRoomFor : LedgerState → Fate → Type 0
+HasRoomFor ledger Passed = ⊤
+HasRoomFor ledger (Served service action) = HasRoom ledger action
+
+room_fate : (ledger : LedgerState) (max_size : ℕ) (asked : Option LedgerRequest)
+    → HasRoomFor ledger (fate_of ledger max_size asked)
+room_fate ledger max_size None = tt
+room_fate ledger max_size (Some asked) = room_action ledger max_size asked
+
+-- ---- how many slots are taken
+
+length_with : (taken : List SlotState) (slot : SlotState) (slots : ℕ) → length taken ≤ slots
+    → (slot_of slot.originator taken ≡ None → length taken < slots) → length (with_slot slot taken) ≤ slots
+length_with [] slot slots h room = let free = room refl in omega (arith, free)
+length_with (first ∷ taken) slot zero h room = absurd (omega (arith, h))
+length_with (first ∷ taken) slot (suc n) h room =
+    by (first.originator == slot.originator)
+    (λ free. length_with taken slot n (omega (arith, h)) (λ none. let more = free none in omega (arith, more))) room
+  where
+    by : (own : Bool) → ((slot_of slot.originator taken ≡ None → suc (length taken) < suc n)
+        → length (with_slot slot taken) ≤ n)
+        → ((if own then Some first else slot_of slot.originator taken) ≡ None → suc (length taken) < suc n)
+        → length (if own then slot ∷ taken else first ∷ with_slot slot taken) ≤ suc n
+    by true later free = h
+    by false later free = let rest = later free in omega (arith, rest)
+
+length_without : (taken : List SlotState) (freed : ℕ) → length (without_slot freed taken) ≤ length taken
+length_without [] freed = omega arith
+length_without (first ∷ taken) freed = by (not (first.originator == freed)) (length_without taken freed)
+  where
+    by : (keep : Bool) → length (without_slot freed taken) ≤ length taken
+        → length (if keep then first ∷ without_slot freed taken else without_slot freed taken) ≤ suc (length taken)
+    by true h = omega (arith, h)
+    by false h = omega (arith, h)
+
+-- ---- what changes a ledger
+
+last_stays : (ledger : LedgerState) (slot : SlotState) → IsLedger ledger → IsSlot slot
+    → (slot_of slot.originator ledger.taken ≡ None → length ledger.taken < ledger.slots)
+    → IsLedger (record ledger { taken = with_slot slot ledger.taken })
+last_stays ledger slot is fits room = record {
+  life = is.life;
+  few = is.few;
+  within = length_with ledger.taken slot ledger.slots is.within room;
+  apart = apart-with_slot ledger.taken slot is.apart;
+  sized = slots-with_slot ledger.taken slot fits is.sized;
+}
+
+freed_stays : (ledger : LedgerState) (freed : ℕ) → IsLedger ledger → IsLedger (with_freed freed ledger)
+freed_stays ledger freed is = record {
+  life = is.life;
+  few = is.few;
+  within = (let shorter = length_without ledger.taken freed in let within = is.within in omega (arith, shorter, within));
+  apart = apart-without_slot ledger.taken freed is.apart;
+  sized = slots-without_slot ledger.taken freed is.sized;
+}
+
+found_fits : (taken : List SlotState) (originator : ℕ) (slot : SlotState) → AreSlots taken
+    → slot_of originator taken ≡ Some slot → IsSlot slot
+found_fits [] originator slot fits e = absurd (cc)
+found_fits (first ∷ taken) originator slot fits e =
+    by (first.originator == originator) (found_fits taken originator slot fits.1) e
+  where
+    by : (own : Bool) → (slot_of originator taken ≡ Some slot → IsSlot slot)
+        → (if own then Some first else slot_of originator taken) ≡ Some slot → IsSlot slot
+    by true later is = subst IsSlot (same_some first slot is) fits.0
+    by false later is = later is
+
+doubtful : (number : ℕ) (found : Option SlotState) → is_in_doubt_at number found ≡ true
+    → (slot : SlotState) × (found ≡ Some slot) × (slot.number ≡ number)
+doubtful number None is = absurd (cc)
+doubtful number (Some slot) is =
+    (slot, refl, eqb-true slot.number number (and_parts (slot.number == number) (is_doubtful slot) is).0)
+
+short_reply : (reply : List ℕ) → is_kept_reply reply ≡ true → length reply ≤ 480
+short_reply reply e = grind (arith, nat_tests)
+
+settled_stays : (ledger : LedgerState) (originator number : ℕ) (reply : List ℕ) → IsLedger ledger
+    → IsLedger (settled ledger originator number reply)
+settled_stays ledger originator number reply is = by (can_settle ledger originator number reply) refl
+  where
+    by : (can : Bool) → can_settle ledger originator number reply ≡ can
+        → IsLedger (if can then with_last originator number (Some reply) ledger else ledger)
+    by false e = is
+    by true e =
+        let both = and_parts (is_kept_reply reply) (is_in_doubt ledger originator number) e in
+        let own = doubtful number (slot_of originator ledger.taken) both.1 in
+        let fits = found_fits ledger.taken originator own.0 is.sized own.1 in
+        last_stays ledger (record { originator = originator; number = number; reply = Some reply }) is
+        (record {
+          originator = subst (λ o. o < 2 ^ 64) (slot_of-originator ledger.taken originator own.0 own.1) fits.originator;
+          number = subst (λ n. n < 2 ^ 32) own.2 fits.number;
+          short = short_reply reply both.0;
+        })
+        (λ none. absurd (some_not_none own.0 (slot_of originator ledger.taken) own.1 none))
+
+-- ---- a step of the device
+
+embedded_short : (router : OwnedState) (request : List ℕ)
+    → length (embedded_reply objects_after objects_answer router request) ≤ 480
+embedded_short router request = by (is_barred request) _ (omega arith)
+  where
+    by : (barred : Bool) (refused : List ℕ) → length refused ≤ 480
+        → length (if barred then refused else objects_answer router 480 request) ≤ 480
+    by true refused short = short
+    by false refused short = exec_owned_within router 480 request (omega arith)
+
+mapped_stays : (ledger : Option LedgerState) (change : LedgerState → LedgerState)
+    → ((l : LedgerState) → ledger ≡ Some l → IsLedger l → IsLedger (change l)) → IfSome ledger IsLedger
+    → IfSome (option_map change ledger) IsLedger
+mapped_stays None change stays is = tt
+mapped_stays (Some ledger) change stays is = stays ledger refl is
+
+turn_stays : (f : Fate) (device : Device) (request : Request) → AreBytes request.1 → Means device.ledger request f
+    → ((l : LedgerState) → device.ledger ≡ Some l → HasRoomFor l f) → IfSome device.ledger IsLedger
+    → IfSome (turn_by objects_after objects_answer f device.ledger device.router request.0 request.1).ledger IsLedger
+turn_stays Passed device request fits means room is = is
+turn_stays (Served service (Replies reply)) device request fits means room is = is
+turn_stays (Served service (Executes command)) device request fits means room is =
+    let narrow = command_fits request command fits means.means.given_is in
+    let reply = embedded_reply objects_after objects_answer device.router command.request in
+    mapped_stays device.ledger (with_executed command reply)
+    (λ l own holds. last_stays l (record { originator = command.originator; number = command.number; reply = Some reply })
+    holds (record {
+      originator = narrow.originator;
+      number = narrow.number;
+      short = embedded_short device.router command.request;
+    }) (room l own)) is
+turn_stays (Served service (Frees freed)) device request fits means room is =
+    mapped_stays device.ledger (with_freed freed) (λ l own holds. freed_stays l freed holds) is
+
+fate_room : (ledger : Option LedgerState) (request : Request) (l : LedgerState) → ledger ≡ Some l
+    → HasRoomFor l (fate ledger request.0 request.1)
+fate_room ledger request l own =
+    subst (λ o. HasRoomFor l (fate o request.0 request.1)) (sym own) (room_fate l request.0 (ledger_request request.1))
+
+written_stays : (write : OwnWrite) (ledger : Option LedgerState) → IfSome ledger IsLedger
+    → IfSome (ledger_written write ledger) IsLedger
+written_stays (WritesData instance offset bytes) ledger is = is
+written_stays (WritesAttribute class instance attribute offset bytes) ledger is = is
+written_stays (SetsStatus status) ledger is = is
+written_stays (SetsState state) ledger is = is
+written_stays (Prepares reply) ledger is = is
+written_stays (Settles originator number reply) ledger is =
+    mapped_stays ledger (λ l. settled l originator number reply) (λ l own holds. settled_stays l originator number reply holds) is
+
+pub step_stays : (device : Device) (step : DeviceStep) → IsOfBytes step → IfSome device.ledger IsLedger
+    → IfSome (device_after_step device step).ledger IsLedger
+step_stays device (Requested request) fits is =
+    turn_stays (fate device.ledger request.0 request.1) device request fits (fate-means device.ledger request)
+    (fate_room device.ledger request) is
+step_stays device (WrittenBy write) fits is = written_stays write device.ledger is

@@ -1,0 +1,305 @@
+-- What a device executes over restarts, each of which goes on with its ledger or begins a new life.
+use Rattle.std.proofs.Common.{◌≡◌, ◌≢◌, ℕ, ◌<◌, Bool, true, false, if◌then◌else◌, Option, Some, None, List, [], ◌∷◌, ◌++◌, refl, ap, sym, ◌∙◌, subst, arith, ◌⊎◌, inl, inr, unwrap_or}
+use Rattle.std.specs.Prelude.{⊤, option_map, IfSome}
+use Rattle.std.specs.List.{AllByRecursion}
+use Rattle.cip_ledger.specs.Device.{Device}
+use Rattle.cip_ledger.specs.Doubt.{can_settle, with_last, settled}
+use Rattle.cip_ledger.specs.Ledger.{LedgerState, SlotState, slot_of}
+use Rattle.cip_ledger.specs.Laws.{UntilFreed, IsNotFreed, AreOfLife}
+use Rattle.cip_ledger.specs.Requests.{Command}
+use Rattle.cip_ledger.specs.Runs.{Request, slot_in, Executed, Freed, Event, journal, events_by}
+use Rattle.cip_ledger.specs.Services.{Replies, Executes, Frees}
+use Rattle.cip_ledger.specs.Turn.{Fate, Passed, Served, fate, turn_by, with_executed, with_freed, embedded_reply}
+use Rattle.cip_ledger.proofs.Doubts.{settled-stays}
+use Rattle.cip_ledger.proofs.Fates.{Means, fate-means}
+use Rattle.cip_ledger.proofs.Settled.{Settled, next_by, settled-run, settled-command, journal-above, journal-life}
+use Rattle.enip_adapter.specs.DeviceRuns.{DeviceStep, Requested, WrittenBy, objects_after, objects_answer}
+use Rattle.enip_adapter.specs.OwnWrites.{OwnWrite, WritesData, WritesAttribute, SetsStatus, SetsState, Prepares, Settles, ledger_written, device_written}
+use Rattle.enip_adapter.proofs.DeviceLemmas.{above-append}
+use Rattle.kept_adapter.specs.declared.adapter_start.AdapterStart.{AdapterStart}
+use Rattle.kept_adapter.specs.declared.adapter_start.LedgerStart.{LedgerStart}
+use Rattle.kept_adapter.specs.Restarts.{LifeStep, Does, Restarts, restarted, after_life_step, journal_over_restarts}
+use Rattle.kept_adapter.specs.Restarts.{IsDevice, IsStep, IsConfiguration, IsLedgerAfter, life_of, IsNotAgain, IsOnceInEachLife, BeginsOther, HaveOwnLives, BeginNewLives}
+use Rattle.kept_adapter.specs.Started.{new_ledger}
+use Rattle.kept_adapter.proofs.Restarted.{ledger_after, device_stays}
+
+-- ---- the life stays
+
+mapped_life : (ledger : Option LedgerState) (change : LedgerState → LedgerState)
+    → ((l : LedgerState) → (change l).life ≡ l.life) → life_of (option_map change ledger) ≡ life_of ledger
+mapped_life None change same = refl
+mapped_life (Some l) change same = ap (λ n. Some n) (same l)
+
+turn_life : (f : Fate) (device : Device) (request : Request)
+    → life_of (turn_by objects_after objects_answer f device.ledger device.router request.0 request.1).ledger
+    ≡ life_of device.ledger
+turn_life Passed device request = refl
+turn_life (Served service (Replies reply)) device request = refl
+turn_life (Served service (Executes command)) device request =
+    mapped_life device.ledger
+    (with_executed command (embedded_reply objects_after objects_answer device.router command.request)) (λ l. refl)
+turn_life (Served service (Frees freed)) device request = mapped_life device.ledger (with_freed freed) (λ l. refl)
+
+settled_life : (ledger : LedgerState) (originator number : ℕ) (reply : List ℕ)
+    → (settled ledger originator number reply).life ≡ ledger.life
+settled_life ledger originator number reply =
+    elim (can_settle ledger originator number reply)
+    as (λ t. (if t then with_last originator number (Some reply) ledger else ledger).life ≡ ledger.life) [
+      | true ↦ refl
+      | false ↦ refl
+    ]
+
+written_life : (write : OwnWrite) (ledger : Option LedgerState) → life_of (ledger_written write ledger) ≡ life_of ledger
+written_life (WritesData instance offset bytes) ledger = refl
+written_life (WritesAttribute class instance attribute offset bytes) ledger = refl
+written_life (SetsStatus status) ledger = refl
+written_life (SetsState state) ledger = refl
+written_life (Prepares reply) ledger = refl
+written_life (Settles originator number reply) ledger =
+    mapped_life ledger (λ l. settled l originator number reply) (λ l. settled_life l originator number reply)
+
+-- ---- a number that is never executed again
+
+-- The ledger is in another life, or the originator's slot has this number or a greater one.
+abbrev Blocked : ℕ → ℕ → ℕ → Option LedgerState → Type 0
+Blocked life originator number None = ⊤
+Blocked life originator number (Some l) =
+    (l.life ≢ life) ⊎ ((reply : Option (List ℕ)) × Settled number reply (slot_of originator l.taken))
+
+abbrev IsAbove : ℕ → ℕ → Command → Type 0
+IsAbove life number other = other.life ≡ life → number < other.number
+
+by_life : (ledger : Option LedgerState) (own life originator number : ℕ) → life_of ledger ≡ Some own → own ≢ life
+    → Blocked life originator number ledger
+by_life None own life originator number e other = absurd (cc)
+by_life (Some l) own life originator number e other =
+    inl (λ same. other (sym (ap (λ o. unwrap_or o own) e) ∙ same))
+
+by_slot : (ledger : Option LedgerState) (life originator number : ℕ) (reply : Option (List ℕ))
+    → Settled number reply (slot_in originator ledger) → Blocked life originator number ledger
+by_slot None life originator number reply is = absurd is
+by_slot (Some l) life originator number reply is = inr (reply, is)
+
+-- what is executed in another life
+of_other_life : (own life originator number : ℕ) (events : List Event) → own ≢ life → AreOfLife own events
+    → UntilFreed originator (IsAbove life number) events
+of_other_life own life originator number [] other all = tt
+of_other_life own life originator number (Executed command reply ∷ events) other all =
+    ((λ same of_life. absurd (other (sym all.0 ∙ of_life))), of_other_life own life originator number events other all.1)
+of_other_life own life originator number (Freed freed ∷ events) other all =
+    λ differs. of_other_life own life originator number events other all
+
+in_any_life : (life originator number : ℕ) (events : List Event)
+    → UntilFreed originator (λ command. number < command.number) events
+    → UntilFreed originator (IsAbove life number) events
+in_any_life life originator number [] above = tt
+in_any_life life originator number (Executed command reply ∷ events) above =
+    ((λ same of_life. above.0 same), in_any_life life originator number events above.1)
+in_any_life life originator number (Freed freed ∷ events) above =
+    λ differs. in_any_life life originator number events (above differs)
+
+-- one request
+abbrev own_journal : Device → Request → List Event
+own_journal device request = journal objects_after objects_answer device (request ∷ [])
+
+abbrev own_next : Device → Request → Device
+own_next device request = after_life_step device (Does (Requested request))
+
+requested_by : (device : Device) (request : Request) (more : List Event) (life originator number : ℕ)
+    (ledger : Option LedgerState) → device.ledger ≡ ledger → Blocked life originator number ledger
+    → (Blocked life originator number (own_next device request).ledger
+    → UntilFreed originator (IsAbove life number) more)
+    → UntilFreed originator (IsAbove life number) (own_journal device request ++ more)
+requested_by device request more life originator number None e blocked rest =
+    let nothing : own_journal device request ≡ []
+    = ap (λ l. events_by objects_after objects_answer (fate l request.0 request.1) device.router ++ []) e in
+    let none : (own_next device request).ledger ≡ None
+    = ap (λ l. (turn_by objects_after objects_answer (fate l request.0 request.1) l device.router request.0
+    request.1).ledger) e in
+    subst (λ events. UntilFreed originator (IsAbove life number) (events ++ more)) (sym nothing)
+    (rest (subst (Blocked life originator number) (sym none) tt))
+requested_by device request more life originator number (Some l) e (inl other) rest =
+    let own : life_of device.ledger ≡ Some l.life = ap life_of e in
+    above-append originator (IsAbove life number) (own_journal device request) more
+    (of_other_life l.life life originator number (own_journal device request) other
+    (journal-life objects_after objects_answer (request ∷ []) device l.life own))
+    (λ kept. rest (by_life (own_next device request).ledger l.life life originator number
+    (turn_life (fate device.ledger request.0 request.1) device request ∙ own) other))
+requested_by device request more life originator number (Some l) e (inr (reply, settled)) rest =
+    let there : Settled number reply (slot_in originator device.ledger)
+    = subst (λ o. Settled number reply (slot_in originator o)) (sym e) settled in
+    above-append originator (IsAbove life number) (own_journal device request) more
+    (in_any_life life originator number (own_journal device request)
+    (journal-above objects_after objects_answer (request ∷ []) device originator number reply there))
+    (λ kept. rest (by_slot (own_next device request).ledger life originator number reply
+    (settled-run objects_after objects_answer (request ∷ []) device originator number reply there kept)))
+
+written_blocked : (write : OwnWrite) (ledger : Option LedgerState) (life originator number : ℕ)
+    → Blocked life originator number ledger → Blocked life originator number (ledger_written write ledger)
+written_blocked (WritesData instance offset bytes) ledger life originator number is = is
+written_blocked (WritesAttribute class instance attribute offset bytes) ledger life originator number is = is
+written_blocked (SetsStatus status) ledger life originator number is = is
+written_blocked (SetsState state) ledger life originator number is = is
+written_blocked (Prepares reply) ledger life originator number is = is
+written_blocked (Settles by given reply) None life originator number is = tt
+written_blocked (Settles by given reply) (Some l) life originator number (inl other) =
+    inl (λ same. other (sym (settled_life l by given reply) ∙ same))
+written_blocked (Settles by given reply) (Some l) life originator number (inr (kept, is)) =
+    inr (settled-stays l by given reply originator number kept is)
+
+new_blocked : (ledger : Option LedgerStart) (life originator number : ℕ) → IfSome ledger (λ l. l.life ≢ life)
+    → Blocked life originator number (new_ledger ledger)
+new_blocked None life originator number other = tt
+new_blocked (Some l) life originator number other = inl other
+
+restart_blocked : (start : AdapterStart) (old new : Option LedgerState) (life originator number : ℕ)
+    → IsLedgerAfter start old new → IfSome start.ledger (λ l. l.life ≢ life) → Blocked life originator number old
+    → Blocked life originator number new
+restart_blocked start old new life originator number (inl begun) other is =
+    subst (Blocked life originator number) (sym begun) (new_blocked start.ledger life originator number other)
+restart_blocked start old new life originator number (inr (l, slots, e, within, few, same)) other is =
+    let before : Blocked life originator number (Some l) = subst (Blocked life originator number) e is in
+    subst (Blocked life originator number) (sym same) before
+
+blocked_until : (steps : List LifeStep) (device : Device) (life originator number : ℕ) → IsDevice device
+    → AllByRecursion IsStep steps → AllByRecursion (BeginsOther life) steps
+    → Blocked life originator number device.ledger
+    → UntilFreed originator (IsAbove life number) (journal_over_restarts device steps)
+blocked_until [] device life originator number is fit others blocked = tt
+blocked_until (Does (Requested request) ∷ steps) device life originator number is fit others blocked =
+    let next = own_next device request in
+    requested_by device request (journal_over_restarts next steps) life originator number device.ledger refl blocked
+    (λ settled. blocked_until steps next life originator number
+    (device_stays device (Does (Requested request)) fit.0 is) fit.1 others.1 settled)
+blocked_until (Does (WrittenBy write) ∷ steps) device life originator number is fit others blocked =
+    blocked_until steps (device_written write device) life originator number
+    (device_stays device (Does (WrittenBy write)) fit.0 is) fit.1 others.1
+    (written_blocked write device.ledger life originator number blocked)
+blocked_until (Restarts start ∷ steps) device life originator number is fit others blocked =
+    blocked_until steps (restarted start device) life originator number
+    (device_stays device (Restarts start) fit.0 is) fit.1 others.1
+    (restart_blocked start device.ledger (restarted start device).ledger life originator number
+    (ledger_after start device is fit.0) others.0 blocked)
+
+-- ---- each command once
+
+not_again : (life originator number : ℕ) (command : Command) (events : List Event) → command.life ≡ life
+    → command.number ≡ number → UntilFreed originator (IsAbove life number) events
+    → UntilFreed originator (IsNotAgain command) events
+not_again life originator number command [] own is above = tt
+not_again life originator number command (Executed other reply ∷ events) own is above = (
+  (λ same of_life equal. let less = above.0 same (of_life ∙ own) in absurd (omega (arith, less, is, equal))),
+  not_again life originator number command events own is above.1,
+)
+not_again life originator number command (Freed freed ∷ events) own is above =
+    λ differs. not_again life originator number command events own is (above differs)
+
+once_by : (f : Fate) (device : Device) (request : Request) (events : List Event) → Means device.ledger request f
+    → ((command : Command) → life_of device.ledger ≡ Some command.life
+    → Blocked command.life command.originator command.number
+    (next_by objects_after objects_answer f device request).ledger
+    → UntilFreed command.originator (IsAbove command.life command.number) events)
+    → IsOnceInEachLife events
+    → IsOnceInEachLife ((events_by objects_after objects_answer f device.router ++ []) ++ events)
+once_by Passed device request events means up once = once
+once_by (Served service (Replies given)) device request events means up once = once
+once_by (Served service (Executes command)) device request events means up once =
+    let own : life_of device.ledger ≡ Some command.life
+    = ap life_of means.ledger_is ∙ ap (λ n. Some n) (sym means.means.life) in
+    let next = next_by objects_after objects_answer (Served service (Executes command)) device request in (
+      not_again command.life command.originator command.number command events refl refl
+          (up command own (by_slot next.ledger command.life command.originator command.number
+          (Some (embedded_reply objects_after objects_answer device.router command.request))
+          (settled-command objects_after objects_answer device request service command means))),
+      once,
+    )
+once_by (Served service (Frees freed)) device request events means up once = once
+
+-- The steps from here on.
+record AreNew (device : Device) (steps : List LifeStep) : Type 0 where
+  is : IsDevice device
+  fit : AllByRecursion IsStep steps
+  begin : BeginNewLives device steps
+
+own_lives : (step : LifeStep) (steps : List LifeStep) (old new : Option ℕ) → new ≡ old
+    → IfSome old (λ life. AllByRecursion (BeginsOther life) (step ∷ steps))
+    → IfSome new (λ life. AllByRecursion (BeginsOther life) steps)
+own_lives step steps old new same first =
+    subst (λ o. IfSome o (λ life. AllByRecursion (BeginsOther life) steps)) (sym same) (tail old first)
+  where
+    tail : (life : Option ℕ) → IfSome life (λ n. AllByRecursion (BeginsOther n) (step ∷ steps))
+        → IfSome life (λ n. AllByRecursion (BeginsOther n) steps)
+    tail None all = tt
+    tail (Some n) all = all.1
+
+new_life : (ledger : Option LedgerStart) (steps : List LifeStep)
+    → IfSome ledger (λ l. AllByRecursion (BeginsOther l.life) steps)
+    → IfSome (life_of (new_ledger ledger)) (λ life. AllByRecursion (BeginsOther life) steps)
+new_life None steps all = tt
+new_life (Some l) steps all = all
+
+life_then : (start : AdapterStart) (steps : List LifeStep) (old new : Option LedgerState) → IsLedgerAfter start old new
+    → IfSome (life_of old) (λ life. AllByRecursion (BeginsOther life) (Restarts start ∷ steps))
+    → IfSome start.ledger (λ l. AllByRecursion (BeginsOther l.life) steps)
+    → IfSome (life_of new) (λ life. AllByRecursion (BeginsOther life) steps)
+life_then start steps old new (inl begun) first own =
+    subst (λ o. IfSome (life_of o) (λ life. AllByRecursion (BeginsOther life) steps)) (sym begun)
+    (new_life start.ledger steps own)
+life_then start steps old new (inr (l, slots, e, within, few, same)) first own =
+    own_lives (Restarts start) steps (life_of old) (life_of new) (ap life_of same ∙ sym (ap life_of e)) first
+
+later : (device : Device) (step : LifeStep) (steps : List LifeStep) → AreNew device (step ∷ steps)
+    → AreNew (after_life_step device step) steps
+later device (Does (Requested request)) steps are = record {
+  is = device_stays device (Does (Requested request)) are.fit.0 are.is;
+  fit = are.fit.1;
+  begin = record {
+    first = own_lives (Does (Requested request)) steps (life_of device.ledger)
+        (life_of (own_next device request).ledger)
+        (turn_life (fate device.ledger request.0 request.1) device request) are.begin.first;
+    others = are.begin.others;
+  };
+}
+later device (Does (WrittenBy write)) steps are = record {
+  is = device_stays device (Does (WrittenBy write)) are.fit.0 are.is;
+  fit = are.fit.1;
+  begin = record {
+    first = own_lives (Does (WrittenBy write)) steps (life_of device.ledger)
+        (life_of (ledger_written write device.ledger)) (written_life write device.ledger) are.begin.first;
+    others = are.begin.others;
+  };
+}
+later device (Restarts start) steps are = record {
+  is = device_stays device (Restarts start) are.fit.0 are.is;
+  fit = are.fit.1;
+  begin = record {
+    first = life_then start steps device.ledger (restarted start device).ledger
+        (ledger_after start device are.is are.fit.0) are.begin.first are.begin.others.0;
+    others = are.begin.others.1;
+  };
+}
+
+begins_other : (own : Option ℕ) (life : ℕ) (steps : List LifeStep) → own ≡ Some life
+    → IfSome own (λ n. AllByRecursion (BeginsOther n) steps) → AllByRecursion (BeginsOther life) steps
+begins_other own life steps e first = subst (λ o. IfSome o (λ n. AllByRecursion (BeginsOther n) steps)) e first
+
+pub once_in_lives : (device : Device) (steps : List LifeStep) → IsDevice device → AllByRecursion IsStep steps
+    → BeginNewLives device steps → IsOnceInEachLife (journal_over_restarts device steps)
+once_in_lives device steps is fit begin = all device steps (record { is = is; fit = fit; begin = begin })
+  where
+    all : (device : Device) (steps : List LifeStep) → AreNew device steps
+        → IsOnceInEachLife (journal_over_restarts device steps)
+    all device [] are = tt
+    all device (Does (Requested request) ∷ steps) are =
+        let next = own_next device request in
+        let more = later device (Does (Requested request)) steps are in
+        once_by (fate device.ledger request.0 request.1) device request (journal_over_restarts next steps)
+        (fate-means device.ledger request)
+        (λ command own blocked. blocked_until steps next command.life command.originator command.number more.is more.fit
+        (begins_other (life_of next.ledger) command.life steps
+        (turn_life (fate device.ledger request.0 request.1) device request ∙ own) more.begin.first) blocked)
+        (all next steps more)
+    all device (Does (WrittenBy write) ∷ steps) are =
+        all (device_written write device) steps (later device (Does (WrittenBy write)) steps are)
+    all device (Restarts start ∷ steps) are =
+        all (restarted start device) steps (later device (Restarts start) steps are)

@@ -1,0 +1,8 @@
+use Rattle.kept_adapter.proofs.StepLemmas.{adapter_end, kept_end}
+use Rattle.kept_adapter.proofs.laws.servers_restart.Goals as goal
+
+pub returns-clause-adapter : goal.returns-clause-adapter
+returns-clause-adapter g c = adapter_end
+
+pub returns-clause-kept : goal.returns-clause-kept
+returns-clause-kept g c = kept_end

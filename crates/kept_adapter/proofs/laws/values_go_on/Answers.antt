@@ -1,0 +1,8 @@
+use Rattle.kept_adapter.proofs.ValuesBack.{values_go_on, others_begin_again}
+use Rattle.kept_adapter.proofs.laws.values_go_on.Goals as goal
+
+pub returns-clause-kept : goal.returns-clause-kept
+returns-clause-kept c = values_go_on
+
+pub returns-clause-others : goal.returns-clause-others
+returns-clause-others c = others_begin_again

@@ -1,0 +1,119 @@
+-- What holds of a device over restarts.
+use Rattle.std.specs.Prelude.{◌≡◌, ◌≢◌, ℕ, List, [], ◌∷◌, map, Option}
+use Rattle.std.specs.List.{AllByRecursion}
+use Rattle.cip_ledger.specs.Device.{Device}
+use Rattle.cip_ledger.specs.Laws.{HasNoDoubles, Rises, IsNotFreed, Succeeds}
+use Rattle.cip_ledger.specs.Runs.{Request, answer_to}
+use Rattle.cip_objects.specs.Configuration.{contents_of_config}
+use Rattle.cip_objects.specs.Contents.{value_at}
+use Rattle.cip_objects.specs.Kept.{name_of, kept_names}
+use Rattle.device_state.specs.Laws.{IsKept}
+use Rattle.enip_adapter.specs.Adapter.{new_adapter}
+use Rattle.enip_adapter.specs.Calls.{AdapterState}
+use Rattle.enip_adapter.specs.DeviceRuns.{Requested, objects_after, objects_answer}
+use Rattle.enip_keep.specs.Lives.{Step}
+use Rattle.kept_server.specs.Rounds.{DeviceContents, RoundRequests, kept_of}
+use Rattle.kept_adapter.specs.declared.adapter_start.AdapterStart.{AdapterStart}
+use Rattle.kept_adapter.specs.Restarts.{LifeStep, Does, restarted, after_life_step, after_life_steps, journal_over_restarts}
+use Rattle.kept_adapter.specs.Restarts.{AdapterStep, adapter_after, steps_over_restarts, contents_after, adapter_step}
+use Rattle.kept_adapter.specs.Restarts.{IsServed, KeepsTables, HasObjects, IsDevice, IsConfiguration, IsStep, GoesOn, IsGoingOn}
+use Rattle.kept_adapter.specs.Restarts.{slots_of, IsLedgerAfter, SettlesNothingOf, IsOnceInEachLife, BeginNewLives}
+use Rattle.kept_adapter.specs.Saved.{saved_adapter, saved_objects}
+use Rattle.kept_adapter.specs.Started.{started}
+
+-- ---- one restart
+
+-- The adapter that starts has the restarted device, and neither sessions nor connections.
+abbrev pub new_adapter_law : Type 0
+new_adapter_law = (start : AdapterStart) (a : AdapterState) →
+    started start (saved_adapter a) ≡ new_adapter (restarted start a.state.shared.objects) start.listen start.limits
+
+-- With as many slots, and if no new life is wanted, the ledger goes on: it is in the same life, and each slot has its
+-- originator, number and reply, or is in doubt.
+abbrev pub ledger_goes_on_law : Type 0
+ledger_goes_on_law = (start : AdapterStart) (device : Device) → IsDevice device → GoesOn (slots_of device.ledger) start →
+    (restarted start device).ledger ≡ device.ledger
+
+-- With any configuration the ledger goes on, with as many slots as are configured, or it is new.
+abbrev pub ledger_or_new_law : Type 0
+ledger_or_new_law = (start : AdapterStart) (device : Device) → IsDevice device → IsConfiguration start →
+    IsLedgerAfter start device.ledger (restarted start device).ledger
+
+-- Each value that is kept is as it was, if it is one that it can have.
+abbrev pub values_go_on_law : Type 0
+values_go_on_law = (start : AdapterStart) (device : Device) → HasObjects device start →
+    AllByRecursion (IsKept device.router.objects) (kept_names device.router.objects.shapes) →
+    saved_objects (restarted start device).router.objects ≡ saved_objects device.router.objects
+
+-- Each other value is as it is configured.
+abbrev pub others_begin_again_law : Type 0
+others_begin_again_law =
+    (start : AdapterStart) (device : Device) (class instance attribute : ℕ) → HasObjects device start →
+    AllByRecursion (IsKept device.router.objects) (kept_names device.router.objects.shapes) →
+    AllByRecursion (λ name. name ≢ name_of class instance attribute) (kept_names device.router.objects.shapes) →
+    value_at (restarted start device).router.objects class instance attribute
+    ≡ value_at (contents_of_config start.objects) class instance attribute
+
+-- ---- what holds of every device
+
+-- It holds of a device that starts from nothing.
+abbrev pub first_device_law : Type 0
+first_device_law = (start : AdapterStart) → IsConfiguration start → IsDevice (started start []).state.shared.objects
+
+-- It still holds after each step.
+abbrev pub device_stays_law : Type 0
+device_stays_law = (device : Device) (step : LifeStep) → IsStep step → IsDevice device → IsDevice (after_life_step device step)
+
+-- ---- many restarts
+
+-- The objects and the ledger of an adapter are those after the requests that reach them, the device's own writes and the
+-- restarts, in order.
+abbrev pub device_over_restarts_law : Type 0
+device_over_restarts_law = (a : AdapterState) (steps : List AdapterStep) →
+    (adapter_after steps a).state.shared.objects ≡ after_life_steps a.state.shared.objects (steps_over_restarts a steps)
+
+-- If each configuration has the same tables, the adapter of a server that keeps its state is that after the calls of its
+-- rounds and its restarts, in order.
+abbrev pub server_law : Type 0 → Type 0
+server_law W = (c : DeviceContents) (steps : List (Step (RoundRequests W) AdapterStart)) → IsServed c →
+    AllByRecursion (KeepsTables c.adapter.state.shared.objects) steps →
+    (contents_after steps c).adapter ≡ adapter_after (map adapter_step steps) c.adapter
+
+-- And what is kept of the contents is what is kept of that adapter: no more, and no less.
+abbrev pub server_kept_law : Type 0 → Type 0
+server_kept_law W = (c : DeviceContents) (steps : List (Step (RoundRequests W) AdapterStart)) → IsServed c →
+    AllByRecursion (KeepsTables c.adapter.state.shared.objects) steps →
+    kept_of (contents_after steps c) ≡ saved_adapter (adapter_after (map adapter_step steps) c.adapter)
+
+-- Each restart goes on with the ledger of the device.
+pub record GoOn (device : Device) (steps : List LifeStep) : Type 0 where
+  pub is : IsDevice device
+  pub fit : AllByRecursion IsStep steps
+  pub on : AllByRecursion (IsGoingOn (slots_of device.ledger)) steps
+
+-- No number of an originator is executed twice over all restarts, unless its slot is freed in between.
+abbrev pub once_law : Type 0
+once_law = (device : Device) (steps : List LifeStep) → GoOn device steps →
+    HasNoDoubles (journal_over_restarts device steps)
+
+-- The numbers that are executed for one originator rise over all restarts, unless its slot is freed in between.
+abbrev pub rising_law : Type 0
+rising_law = (device : Device) (steps : List LifeStep) → GoOn device steps → Rises (journal_over_restarts device steps)
+
+-- Every two success answers to a number have the same bytes, whatever restarts came between them, if the originator's
+-- slot was not freed and none of its commands settled in between.
+abbrev pub same_bytes_law : Type 0
+same_bytes_law = (device : Device) (first again : Request) (between : List LifeStep) (originator number : ℕ) →
+    GoOn device (Does (Requested first) ∷ between) → AllByRecursion (SettlesNothingOf originator) between →
+    Succeeds objects_after objects_answer device first originator number →
+    Succeeds objects_after objects_answer (after_life_steps device (Does (Requested first) ∷ between)) again originator
+    number →
+    IsNotFreed originator (journal_over_restarts (after_life_step device (Does (Requested first))) between) →
+    answer_to objects_after objects_answer (after_life_steps device (Does (Requested first) ∷ between)) again
+    ≡ answer_to objects_after objects_answer device first
+
+-- Whichever restarts go on and whichever begin a life: no number of an originator is executed twice in one life, unless
+-- its slot is freed in between. The premise is that no life has the number of an earlier one.
+abbrev pub lives_law : Type 0
+lives_law = (device : Device) (steps : List LifeStep) → IsDevice device → AllByRecursion IsStep steps →
+    BeginNewLives device steps → IsOnceInEachLife (journal_over_restarts device steps)

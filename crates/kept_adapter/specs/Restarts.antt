@@ -1,0 +1,201 @@
+-- A device over restarts: its steps, and starts from what is kept of it.
+use Rattle.std.specs.Prelude.{◌≡◌, ◌≢◌, ◌⊎◌, ⊤, length, is_some, map, ℕ, ◌<◌, ◌≤◌, ◌^◌, true, false, Option, Some, None, option_map, IfSome, List, [], ◌∷◌, ◌++◌}
+use Rattle.std.specs.List.{AllByRecursion}
+use Rattle.cip_application.specs.declared.object.AttributeName.{AttributeName}
+use Rattle.cip_bytes.specs.Numbers.{AreBytes}
+use Rattle.cip_ledger.specs.Device.{Device}
+use Rattle.cip_ledger.specs.Kept.{IsLedger}
+use Rattle.cip_ledger.specs.Ledger.{LedgerState}
+use Rattle.cip_ledger.specs.Laws.{UntilFreed}
+use Rattle.cip_ledger.specs.Requests.{Command}
+use Rattle.cip_ledger.specs.Runs.{Event as LedgerEvent, Executed as CommandExecuted, Freed}
+use Rattle.cip_objects.specs.Configuration.{contents_of_config}
+use Rattle.cip_objects.specs.Kept.{kept_names}
+use Rattle.device_state.specs.Saved.{identity_bytes}
+use Rattle.enip_adapter.specs.Calls.{AdapterState, Call}
+use Rattle.enip_adapter.specs.DeviceRuns.{DeviceStep, Requested, WrittenBy, device_after_step, journal_by_step}
+use Rattle.enip_adapter.specs.DeviceRuns.{steps_of_calls}
+use Rattle.enip_adapter.specs.OwnWrites.{OwnWrite, Settles}
+use Rattle.enip_adapter.specs.Runs.{after_calls}
+use Rattle.enip_keep.specs.Lives.{Step, Executed, Restarted, after}
+use Rattle.kept_server.specs.Changes.{keys_of, rise}
+use Rattle.kept_server.specs.Rounds.{DeviceContents, RoundRequests, after_round, contents_with, kept_of}
+use Rattle.kept_adapter.specs.declared.adapter_start.AdapterStart.{AdapterStart}
+use Rattle.kept_adapter.specs.Saved.{saved_device, saved_adapter, adapter_keys}
+use Rattle.kept_adapter.specs.Started.{started, new_ledger}
+
+-- ---- runs
+
+-- What happens to a device: a step, or a restart with this configuration.
+pub data LifeStep : Type 0 where
+  Does : (step : DeviceStep) → LifeStep
+  Restarts : (start : AdapterStart) → LifeStep
+
+-- The device that starts from what is kept of a device.
+abbrev pub restarted : AdapterStart → Device → Device
+restarted start device = (started start (saved_device device.router.objects device.ledger)).state.shared.objects
+
+abbrev pub after_life_step : Device → LifeStep → Device
+after_life_step device (Does step) = device_after_step device step
+after_life_step device (Restarts start) = restarted start device
+
+-- The device after these steps, from left to right.
+abbrev pub after_life_steps : Device → List LifeStep → Device
+after_life_steps device [] = device
+after_life_steps device (step ∷ steps) = after_life_steps (after_life_step device step) steps
+
+abbrev pub journal_by_life_step : Device → LifeStep → List LedgerEvent
+journal_by_life_step device (Does step) = journal_by_step device step
+journal_by_life_step device (Restarts start) = []
+
+-- The commands that the ledger executes in these steps, and the slots that it frees. A restart does neither.
+abbrev pub journal_over_restarts : Device → List LifeStep → List LedgerEvent
+journal_over_restarts device [] = []
+journal_over_restarts device (step ∷ steps) =
+    journal_by_life_step device step ++ journal_over_restarts (after_life_step device step) steps
+
+-- ---- runs of the adapter
+
+-- What happens to an adapter: calls, or a restart with a configuration.
+abbrev pub AdapterStep : Type 0
+AdapterStep = Step (List Call) AdapterStart
+
+-- The adapter after these steps, from left to right.
+abbrev pub adapter_after : List AdapterStep → AdapterState → AdapterState
+adapter_after steps a = after after_calls saved_adapter started steps a
+
+-- What happens to its device in these steps.
+abbrev pub steps_over_restarts : AdapterState → List AdapterStep → List LifeStep
+steps_over_restarts a [] = []
+steps_over_restarts a (Executed calls ∷ steps) =
+    map Does (steps_of_calls a calls) ++ steps_over_restarts (after_calls a calls) steps
+steps_over_restarts a (Restarted start ∷ steps) =
+    Restarts start ∷ steps_over_restarts (started start (saved_adapter a)) steps
+
+-- ---- runs of a server that keeps its state
+
+-- The contents after rounds and starts, from left to right.
+abbrev pub contents_after : {W : Type 0} → List (Step (RoundRequests W) AdapterStart) → DeviceContents → DeviceContents
+contents_after steps c =
+    after (after_round saved_adapter) kept_of (λ start found. contents_with saved_adapter found (started start found))
+    steps c
+
+abbrev pub adapter_step : {W : Type 0} → Step (RoundRequests W) AdapterStart → AdapterStep
+adapter_step (Executed requests) = Executed requests.calls
+adapter_step (Restarted start) = Restarted start
+
+-- The contents are those of a server once it serves: the entries of its adapter are saved, in rising order, and what it
+-- found has the same keys, or nothing was found.
+pub record IsServed (c : DeviceContents) : Type 0 where
+  pub saved : c.saved ≡ saved_adapter c.adapter
+  pub rising : rise (adapter_keys c.adapter) ≡ true
+  pub found : (c.found ≡ []) ⊎ (keys_of c.found ≡ adapter_keys c.adapter)
+
+-- The configuration has the objects and a ledger as the device has.
+pub record HasTables (device : Device) (start : AdapterStart) : Type 0 where
+  pub shapes : (contents_of_config start.objects).shapes ≡ device.router.objects.shapes
+  pub ledger : is_some start.ledger ≡ is_some device.ledger
+
+-- The configuration is of the same device, with the same objects.
+pub record HasObjects (device : Device) (start : AdapterStart) : Type 0 where
+  pub shapes : (contents_of_config start.objects).shapes ≡ device.router.objects.shapes
+  pub identity : identity_bytes (contents_of_config start.objects) ≡ identity_bytes device.router.objects
+
+abbrev pub KeepsTables : {W : Type 0} → Device → Step (RoundRequests W) AdapterStart → Type 0
+KeepsTables device (Executed requests) = ⊤
+KeepsTables device (Restarted start) = HasTables device start
+
+-- ---- what holds of every device, configuration and step
+
+-- Each part of a name has 16 bits.
+pub record IsNarrow (name : AttributeName) : Type 0 where
+  pub class : name.class < 2 ^ 16
+  pub instance : name.instance < 2 ^ 16
+  pub attribute : name.attribute < 2 ^ 16
+
+pub record IsDevice (device : Device) : Type 0 where
+  pub names : AllByRecursion IsNarrow (kept_names device.router.objects.shapes)
+  pub ledger : IfSome device.ledger IsLedger
+
+pub record IsConfiguration (start : AdapterStart) : Type 0 where
+  pub names : AllByRecursion IsNarrow (kept_names (contents_of_config start.objects).shapes)
+  pub life : IfSome start.ledger (λ l. l.life < 2 ^ 64)
+  pub few : IfSome start.ledger (λ l. l.originators ≤ 64)
+
+-- A request consists of bytes.
+abbrev pub IsOfBytes : DeviceStep → Type 0
+IsOfBytes (Requested request) = AreBytes request.1
+IsOfBytes (WrittenBy write) = ⊤
+
+abbrev pub IsStep : LifeStep → Type 0
+IsStep (Does step) = IsOfBytes step
+IsStep (Restarts start) = IsConfiguration start
+
+-- ---- restarts that go on with the ledger
+
+abbrev pub slots_of : Option LedgerState → Option ℕ
+slots_of ledger = option_map (λ l. l.slots) ledger
+
+-- The configuration is one of so many slots, if it has a ledger, and wants no new life.
+pub record GoesOn (count : Option ℕ) (start : AdapterStart) : Type 0 where
+  pub slots : option_map (λ l. l.originators) start.ledger ≡ count
+  pub same_life : start.begins_life ≡ false
+
+abbrev pub IsGoingOn : Option ℕ → LifeStep → Type 0
+IsGoingOn slots (Does step) = ⊤
+IsGoingOn slots (Restarts start) = GoesOn slots start
+
+-- The ledger after a restart: a new one, or that before, with as many slots as are configured.
+abbrev pub IsLedgerAfter : AdapterStart → Option LedgerState → Option LedgerState → Type 0
+IsLedgerAfter start old new =
+    (new ≡ new_ledger start.ledger)
+    ⊎ ((l : LedgerState) × (slots : ℕ) × (old ≡ Some l) × (length l.taken ≤ slots) × (slots ≤ 64)
+    × (new ≡ Some (record l { slots = slots })))
+
+-- ---- facts on runs
+
+-- No command of this originator is settled.
+abbrev pub SettlesOthers : ℕ → OwnWrite → Type 0
+SettlesOthers originator (Settles by number reply) = by ≢ originator
+SettlesOthers originator other = ⊤
+
+abbrev pub IsForOthers : ℕ → DeviceStep → Type 0
+IsForOthers originator (Requested request) = ⊤
+IsForOthers originator (WrittenBy write) = SettlesOthers originator write
+
+abbrev pub SettlesNothingOf : ℕ → LifeStep → Type 0
+SettlesNothingOf originator (Does step) = IsForOthers originator step
+SettlesNothingOf originator (Restarts start) = ⊤
+
+-- ---- lives
+
+abbrev pub life_of : Option LedgerState → Option ℕ
+life_of ledger = option_map (λ l. l.life) ledger
+
+-- The command isn't one of this life with this number.
+abbrev pub IsNotAgain : Command → Command → Type 0
+IsNotAgain command other = other.life ≡ command.life → command.number ≢ other.number
+
+-- No number of an originator is executed twice in one life, unless the originator's slot is freed in between.
+abbrev pub IsOnceInEachLife : List LedgerEvent → Type 0
+IsOnceInEachLife [] = ⊤
+IsOnceInEachLife (CommandExecuted command reply ∷ later) =
+    UntilFreed command.originator (IsNotAgain command) later × IsOnceInEachLife later
+IsOnceInEachLife (Freed originator ∷ later) = IsOnceInEachLife later
+
+-- The life that a configuration begins, if it begins one, is not this one.
+abbrev pub BeginsOther : ℕ → LifeStep → Type 0
+BeginsOther life (Does step) = ⊤
+BeginsOther life (Restarts start) = IfSome start.ledger (λ l. l.life ≢ life)
+
+-- Each configuration has a life that no later one has.
+abbrev pub HaveOwnLives : List LifeStep → Type 0
+HaveOwnLives [] = ⊤
+HaveOwnLives (Does step ∷ steps) = HaveOwnLives steps
+HaveOwnLives (Restarts start ∷ steps) =
+    IfSome start.ledger (λ l. AllByRecursion (BeginsOther l.life) steps) × HaveOwnLives steps
+
+-- Nor is it that of the device at the beginning.
+pub record BeginNewLives (device : Device) (steps : List LifeStep) : Type 0 where
+  pub first : IfSome (life_of device.ledger) (λ life. AllByRecursion (BeginsOther life) steps)
+  pub others : HaveOwnLives steps

@@ -1,0 +1,66 @@
+//! What holds of a device over restarts. The functions do nothing: their clauses are the laws.
+//!
+//! `restarted` in `specs/Restarts.antt` defines the device that starts from what is kept of a device, `after_life_steps` the
+//! device after requests, writes of its own and restarts, in any order, and `journal_over_restarts` the commands that are
+//! executed in them. A crash is a restart: what a crash may leave is what is kept of the device after some round, as
+//! `live_peers` of `kept_server` states.
+
+ghost use Rattle.kept_adapter.specs.RestartLaws.{new_adapter_law, ledger_goes_on_law, ledger_or_new_law, values_go_on_law};
+ghost use Rattle.kept_adapter.specs.RestartLaws.{others_begin_again_law, first_device_law, device_stays_law};
+ghost use Rattle.kept_adapter.specs.RestartLaws.{device_over_restarts_law, once_law, rising_law};
+ghost use Rattle.kept_adapter.specs.RestartLaws.{same_bytes_law, lives_law, server_law, server_kept_law};
+
+use enip_server::Wire;
+
+/// A restart goes on with the ledger: the life, the slots, the kept replies and the doubts are the very ones, if the
+/// configuration has as many slots and wants no new life. With any configuration the ledger goes on or is new, in the
+/// life of the configuration. Sessions and connections are gone.
+pub fn ledger_goes_on()
+    ensures adapter { new_adapter_law }
+    ensures same { ledger_goes_on_law }
+    ensures any { ledger_or_new_law }
+{}
+
+/// Each value that is kept is as it was, and each other value is as it is configured.
+pub fn values_go_on()
+    ensures kept { values_go_on_law }
+    ensures others { others_begin_again_law }
+{}
+
+/// What the laws assume of a device holds of one that starts from nothing, and still holds after each step.
+pub fn devices_stay()
+    ensures first { first_device_law }
+    ensures step { device_stays_law }
+{}
+
+/// The device of an adapter over restarts is the device after the requests that reach it, its own writes and the
+/// restarts, in order.
+pub fn restarts_are_steps()
+    ensures { device_over_restarts_law }
+{}
+
+/// The adapter of a server that keeps its state is, over restarts with the same tables, the adapter after the calls of its
+/// rounds and the restarts, in order, and what is kept is what is kept of that adapter. So the laws hold of the steps of
+/// which `live_peers` of `kept_server` speaks.
+pub fn servers_restart<W: Wire + Drop>()
+    ensures adapter { server_law W }
+    ensures kept { server_kept_law W }
+{}
+
+/// Over restarts that go on, no number of an originator is executed twice, and the numbers rise, unless the originator's
+/// slot is freed in between.
+pub fn each_command_once()
+    ensures once { once_law }
+    ensures rising { rising_law }
+{}
+
+/// Over restarts that go on, every two success answers to a number have the same bytes.
+pub fn same_bytes()
+    ensures { same_bytes_law }
+{}
+
+/// Over restarts of any configurations, no number of an originator is executed twice in one life of the device, unless
+/// the originator's slot is freed in between.
+pub fn once_over_all_lives()
+    ensures { lives_law }
+{}
