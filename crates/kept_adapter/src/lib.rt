@@ -10,9 +10,13 @@
 #![tactic(auto)]
 
 mod adapter_start;
+mod fault;
 mod keys;
 mod progress;
 mod saving;
 mod starting;
 
 pub use adapter_start::{AdapterStart, LedgerStart};
+pub use fault::StartFault;
+pub use keys::ledger_key;
+pub use saving::write_ledger_bytes;
