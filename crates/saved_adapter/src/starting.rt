@@ -4,7 +4,7 @@ ghost use Rattle.std.specs.Prelude.{◌≡◌, Ok, IfOk, IfErr};
 ghost use Rattle.enip_keep.specs.Kept.{pairs_of};
 ghost use Rattle.saved_state.specs.States.{State};
 ghost use Rattle.saved_adapter.specs.Entries.{kept_in, last_state};
-ghost use Rattle.saved_adapter.specs.Starting.{is_nameless, IsRestoreFault, IsStartedFrom};
+ghost use Rattle.saved_adapter.specs.Starting.{IsFaultWith, IsRestoreFault, IsStartedFrom, IsStartedWith};
 
 use device_state::identity_key;
 use enip_adapter::Adapter;
@@ -63,4 +63,37 @@ pub fn start(
         Ok(entries) => start_from(alloc, configured, &entries),
         Err(_) => Err(RestoreFault::Memory),
     }
+}
+
+/// Makes the adapter that starts from entries.
+fn start_from(
+    alloc: Global,
+    configured: &AdapterStart,
+    entries: &[Entry],
+) -> Result<Adapter, RestoreFault>
+    ensures started { IfOk result (IsStartedWith configured.now (pairs_of entries.now)) }
+    ensures cause { IfErr result (IsFaultWith configured.now (pairs_of entries.now)) }
+{
+    match configured.start_from(alloc, entries) {
+        Ok(adapter) => Ok(adapter),
+        Err(StartFault::Memory) => Err(RestoreFault::Memory),
+        Err(StartFault::OtherDevice) => Err(RestoreFault::OtherDevice),
+        Err(StartFault::Order) => Err(RestoreFault::Order),
+    }
+}
+
+/// The entries of a state, copied.
+fn entries_of(alloc: Global, state: &SavedState<'_>) -> Result<Vec<Entry>, AllocError>
+    ensures { IfOk result (λ entries. pairs_of entries.items ≡ kept_in state.now.entries) }
+{
+    let mut entries = Vec::new(alloc);
+    for view in state.entries() {
+        let mut bytes = Vec::new(alloc);
+        bytes.extend_from_slice(view.bytes)?;
+        entries.push(Entry {
+            key: view.key,
+            bytes,
+        })?;
+    }
+    Ok(entries)
 }
