@@ -233,29 +233,36 @@ static int finish(enip_adapter *made, uint32_t status, enip_adapter **adapter) {
     return ENIP_OK;
 }
 
-/* Writes why a configuration or a saved state is refused, unless the text is that of a configuration that is accepted. */
-static void refuse(enip_refusal *refusal, uint32_t status, const struct refused *why, const char *text, size_t length) {
+/* Writes why a configuration is refused: what is wrong with its text. */
+static void refuse_text(enip_refusal *refusal, uint32_t number, const char *text, size_t length) {
     size_t shown;
-    if (refusal == NULL || (status != ENIP_CONFIGURATION && status != ENIP_SAVED_STATE))
+    if (refusal == NULL)
         return;
-    if (status == ENIP_CONFIGURATION && why->number != ENIP_CONFIG_ORDER)
-        shown = enip_core_explain((const uint8_t *)text, length, (uint8_t *)refusal->text, REFUSAL_LENGTH);
-    else
-        shown = enip_core_state_text(why->number, why->version, (uint8_t *)refusal->text, REFUSAL_LENGTH);
+    shown = enip_core_explain((const uint8_t *)text, length, (uint8_t *)refusal->text, REFUSAL_LENGTH);
+    refusal->text[shown] = '\0';
+    refusal->number = number;
+}
+
+/* Writes why a saved state is refused, or that no state of a configuration can be saved. */
+static void refuse_state(enip_refusal *refusal, const struct refused *why) {
+    size_t shown;
+    if (refusal == NULL)
+        return;
+    shown = enip_core_state_text(why->number, why->version, (uint8_t *)refusal->text, REFUSAL_LENGTH);
     refusal->text[shown] = '\0';
     refusal->number = why->number;
 }
 
 int enip_adapter_new(const char *text, size_t length, enip_adapter **adapter, enip_refusal *refusal) {
-    struct refused why = {0, 0};
     enip_adapter *made;
-    uint32_t status;
+    uint32_t status, number = 0;
     if (!is_making(text, length, adapter, refusal))
         return ENIP_MISUSE;
     if ((made = empty_adapter()) == NULL)
         return ENIP_MEMORY;
-    status = enip_core_adapter_new(&made->kept, (const uint8_t *)text, length, &why.number);
-    refuse(refusal, status, &why, text, length);
+    status = enip_core_adapter_new(&made->kept, (const uint8_t *)text, length, &number);
+    if (status == ENIP_CONFIGURATION)
+        refuse_text(refusal, number, text, length);
     return finish(made, status, adapter);
 }
 
@@ -272,7 +279,10 @@ int enip_adapter_new_kept(const char *text, size_t length, const void *state, si
         return ENIP_MEMORY;
     status = enip_core_adapter_new_kept(&made->kept, (const uint8_t *)text, length, state_bytes(state), state_length,
                                         life, &why);
-    refuse(refusal, status, &why, text, length);
+    if (status == ENIP_CONFIGURATION && why.number != ENIP_CONFIG_ORDER)
+        refuse_text(refusal, why.number, text, length);
+    else if (status == ENIP_CONFIGURATION || status == ENIP_SAVED_STATE)
+        refuse_state(refusal, &why);
     return finish(made, status, adapter);
 }
 
