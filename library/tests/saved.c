@@ -34,12 +34,15 @@ static const char configuration[] = IDENTITY("4660", "7", "1") REST LEDGER DATA 
 
 enum { FIRST_LIFE = 11, LATER_LIFE = 12, ORIGINATOR = 77, ROOM = 8192 };
 
-/* The data of assembly 100, the speed of the machine, and the life of the ledger. */
-static const uint16_t data[] = {4, 100, 3}, speed[] = {768, 1, 1}, life[] = {0x65, 1, 3};
+/* The data of assembly 100, and the speed of the machine. */
+static const uint16_t data[] = {4, 100, 3}, speed[] = {768, 1, 1};
 
 /* A move of 5: the machine's service 50. Its reply is a success with the position. */
 static const unsigned char move[] = {0x32, 0x03, 0x21, 0x00, 0x00, 0x03, 0x24, 0x01, 5, 0, 0, 0};
 static const unsigned char moved[] = {0xb2, 0, 0, 0, 5, 0, 0, 0};
+
+/* An Add of 5 to the counter. */
+static const unsigned char add[] = {0x32, 0x02, 0x20, 0x64, 0x24, 0x01, 5, 0, 0, 0};
 
 static enip_adapter *adapter;
 static uint32_t peer;
@@ -72,16 +75,21 @@ static int keep(void) {
     return 1;
 }
 
+/* Registers a peer of the adapter. */
+static void registers(void) {
+    static const unsigned char frame[28] = {0x65, 0, 4, 0, [24] = 1};
+    is("begin", enip_adapter_begin(adapter, &peer), ENIP_OK);
+    is("register", enip_adapter_feed(adapter, 1, peer, frame, 28, buffer, sizeof buffer, &fed), ENIP_OK);
+}
+
 /* Starts from a state, and frees the adapter that there was. */
 static void start(const void *from, size_t size) {
-    static const unsigned char registers[28] = {0x65, 0, 4, 0, [24] = 1};
     enip_refusal refusal;
     enip_adapter_free(adapter);
     adapter = NULL;
     is("start", enip_adapter_new_kept(configuration, sizeof configuration - 1, from, size,
                                       size == 0 ? FIRST_LIFE : LATER_LIFE, &adapter, &refusal), ENIP_OK);
-    is("begin", enip_adapter_begin(adapter, &peer), ENIP_OK);
-    is("register", enip_adapter_feed(adapter, 1, peer, registers, 28, buffer, sizeof buffer, &fed), ENIP_OK);
+    registers();
 }
 
 /* Starts again from the last saved state. */
@@ -133,13 +141,22 @@ static size_t ask(const void *request, size_t size, int is_numbered) {
     return fed.answer > 40 ? fed.answer - 40 : 0;
 }
 
+/* The life of the ledger, as a peer reads it. */
+static uint64_t life(void) {
+    static const unsigned char get[] = {0x0e, 0x03, 0x20, 0x65, 0x24, 0x01, 0x30, 0x03};
+    uint64_t number = 0;
+    if (ask(get, sizeof get, 0) == 12)
+        memcpy(&number, buffer + 44, 8);
+    return number;
+}
+
 /* The adapter's first state, and what its size is. */
 static void first_state(void) {
     unsigned char small[ROOM];
     size_t count = 0;
     uint64_t number;
     start(NULL, 0);
-    is("the first life", (long long)value(life), FIRST_LIFE);
+    is("the first life", (long long)life(), FIRST_LIFE);
     is("the first generation", (long long)generation(), 1);
     is("saved", keep(), 1);
     is("kept", keep(), 0);
@@ -161,7 +178,6 @@ static void first_state(void) {
 static void generations(void) {
     static const unsigned char get[] = {0x0e, 0x03, 0x20, 0x04, 0x24, 0x64, 0x30, 0x03};
     static const unsigned char set[] = {0x10, 0x03, 0x20, 0x04, 0x24, 0x64, 0x30, 0x03, 1, 2, 3, 4};
-    static const unsigned char add[] = {0x32, 0x02, 0x20, 0x64, 0x24, 0x01, 5, 0, 0, 0};
     uint64_t before = state_generation;
     is("a get", (long long)ask(get, sizeof get, 0), 8);
     is("a get keeps the generation", keep(), 0);
@@ -182,7 +198,7 @@ static void generations(void) {
     is("nothing has changed", keep(), 0);
     is("the data", (long long)value(data), 0x04030201);
     is("the speed", (long long)value(speed), 10000);
-    is("the life goes on", (long long)value(life), FIRST_LIFE);
+    is("the life goes on", (long long)life(), FIRST_LIFE);
 }
 
 /* A state of so many bytes that is refused by this check: nothing is made. */
@@ -214,6 +230,7 @@ static void damaged(void) {
     for (size_t size = 1; size < state_size; size++)
         refused("a cut state", configuration, other, size, ENIP_SAVED_STATE,
                 size < 8 ? ENIP_SAVED_NOT_A_STATE : ENIP_SAVED_CUT, NULL);
+    refused("no byte", configuration, other, 1, ENIP_SAVED_STATE, ENIP_SAVED_NOT_A_STATE, "not a saved state");
     refused("a byte more", configuration, other, state_size + 1, ENIP_SAVED_STATE, ENIP_SAVED_TOO_LONG,
             "bytes follow the saved state");
     is("generation of no state", enip_adapter_generation(adapter, other, state_size + 1, &number), ENIP_SAVED_STATE);
@@ -330,16 +347,33 @@ static void in_doubt(void) {
     enip_once_free(last);
 }
 
-/* Fewer slots than commands that are kept: the ledger starts empty, in another life, so nothing is executed twice. */
+/* Fewer slots than are kept: the ledger starts empty, in another life, so that nothing is executed twice. */
 static void another_life(void) {
+    static const char one[] = IDENTITY("4660", "7", "1") REST "[ledger]\noriginators = 1\n" DATA MACHINE;
     static const char none[] = IDENTITY("4660", "7", "1") REST DATA MACHINE;
+    static const unsigned char forget[] = {0x4d, 0x02, 0x20, 0x65, 0x24, 0x01, 78, 0, 0, 0, 0, 0, 0, 0, 1, 0, 0, 0};
+    enip_once *other = NULL;
     enip_adapter *made = NULL;
-    unsigned char bytes[8];
+    unsigned char message[ENIP_MESSAGE_ROOM];
     size_t count;
+    is("once", enip_once_new(FIRST_LIFE, 78, 0, &other), ENIP_OK);
+    is("command", enip_once_command(other, add, sizeof add, message, sizeof message, &count), ENIP_OK);
+    ask(message, count, 0);
+    is("another originator", keep(), 1);
+    restart();
+    is("two slots", (long long)life(), FIRST_LIFE);
+    enip_adapter_free(adapter);
+    is("one slot", enip_adapter_new_kept(one, sizeof one - 1, state, state_size, LATER_LIFE, &adapter, NULL), ENIP_OK);
+    registers();
+    is("another life", (long long)life(), LATER_LIFE);
+    is("the data are kept", (long long)value(data), 0x04030201);
     is("without a ledger", enip_adapter_new_kept(none, sizeof none - 1, state, state_size, LATER_LIFE, &made, NULL),
        ENIP_OK);
-    is("no life", enip_adapter_read(made, 0x65, 1, 3, bytes, sizeof bytes, &count), ENIP_ABSENT);
     is("free", enip_adapter_free(made), ENIP_OK);
+    restart();
+    ask(forget, sizeof forget, 0);
+    is("a slot that is freed", keep(), 1);
+    enip_once_free(other);
 }
 
 static void rounds(uint32_t count) {

@@ -18,7 +18,7 @@ use std::marker::Model;
 /// ```
 /// let size = saved_size(&AdapterEntries::new(&adapter, None))?;
 /// ```
-#[derive(Clone, Copy)]
+#[derive(Drop)]
 pub struct AdapterEntries<'a> {
     objects: &'a Objects,
     ledger: Option<MarkedLedger<'a>>,
@@ -26,7 +26,7 @@ pub struct AdapterEntries<'a> {
     values: usize,
 }
 
-impl Model for AdapterEntries<'_> {
+impl<'a> Model for AdapterEntries<'a> {
     ghost use Rattle.std.specs.Prelude.{◌≡◌, List, length};
     ghost use Rattle.std.specs.Coded.{coded_list};
     ghost use Rattle.kept_adapter.specs.Saved.{saved_objects, saved_device};
@@ -72,7 +72,9 @@ impl<'a> AdapterEntries<'a> {
         if number > usize::from(MOST_ORIGINATORS) {
             return None;
         }
-        let ledger = self.ledger?;
+        let Some(ledger) = &self.ledger else {
+            return None;
+        };
         ledger.write(self.objects, number as u16, bytes);
         Some(ledger_key(number as u16))
     }

@@ -16,14 +16,14 @@ use std::marker::Model;
 const IN_DOUBT: u8 = 2;
 
 /// A ledger as it is with a command in doubt, if there is one. The ledger itself does not change.
-#[derive(Clone, Copy)]
+#[derive(Drop)]
 pub(crate) struct MarkedLedger<'a> {
     ledger: &'a Ledger,
     doubt: Option<DoubtfulCommand>,
     index: Option<usize>,
 }
 
-impl Model for MarkedLedger<'_> {
+impl<'a> Model for MarkedLedger<'a> {
     ghost use Rattle.cip_ledger.specs.Ledger.{LedgerState};
     ghost use Rattle.cip_ledger.specs.Executing.{doubted_by};
     ghost use Rattle.saved_adapter.specs.Entries.{IsMarkedAt};
