@@ -149,7 +149,8 @@ fn status_of(fault: KeptFault) -> Status
 {
     match fault {
         KeptFault::Memory | KeptFault::State(RestoreFault::Memory) => Status::Memory,
-        KeptFault::Configuration(_) | KeptFault::State(RestoreFault::Order) => Status::Configuration,
+        KeptFault::Configuration(_) | KeptFault::State(RestoreFault::Order) =>
+            Status::Configuration,
         KeptFault::State(RestoreFault::Malformed(_) | RestoreFault::OtherDevice) => {
             Status::SavedState
         }

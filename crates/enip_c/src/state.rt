@@ -139,11 +139,7 @@ fn in_doubt(adapter: &Adapter, index: usize) -> Option<DoubtfulCommand>
     }
 }
 
-fn return_command(
-    command: Option<DoubtfulCommand>,
-    originator: &mut u64,
-    number: &mut u32,
-) -> u32
+fn return_command(command: Option<DoubtfulCommand>, originator: &mut u64, number: &mut u32) -> u32
     ensures { ReturnsCommand command originator.old number.old originator.new number.new result }
 {
     match command {

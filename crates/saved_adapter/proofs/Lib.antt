@@ -1,3 +1,4 @@
 pub mod EntryLemmas
 pub mod SameLemmas
 pub mod MarkLemmas
+pub mod ReadLemmas

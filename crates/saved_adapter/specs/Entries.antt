@@ -63,3 +63,7 @@ last_state (b ∷ bytes) = state_of (b ∷ bytes)
 abbrev pub generation_after : State → List Entry → ℕ
 generation_after last entries =
     if are_same entries last.entries then last.generation else (last.generation + 1) % 2 ^ 64
+
+abbrev pub generation_of : Result State StateFault → List Entry → Result ℕ StateFault
+generation_of (Ok last) entries = Ok (generation_after last entries)
+generation_of (Err fault) entries = Err fault

@@ -1,9 +1,9 @@
 //! Writes the state of an adapter, and says whether anything has changed since.
 
-ghost use Rattle.std.specs.Prelude.{◌≡◌, ◌++◌, length, drop, Some, Ok, IfOk, IfErr, OnErr, Err, MatchResult};
-ghost use Rattle.saved_state.specs.States.{State, size, spelled};
+ghost use Rattle.std.specs.Prelude.{◌≡◌, ◌++◌, length, drop, Some, IfOk, IfErr, OnErr};
+ghost use Rattle.saved_state.specs.States.{size, spelled};
 ghost use Rattle.saved_state.specs.Writing.{write_refusal};
-ghost use Rattle.saved_adapter.specs.Entries.{are_same, entries_in_doubt, generation_after, last_state};
+ghost use Rattle.saved_adapter.specs.Entries.{are_same, entries_in_doubt, generation_of, last_state};
 
 use crate::entries::AdapterEntries;
 use cip_ledger::DoubtfulCommand;
@@ -56,9 +56,7 @@ pub fn generation(
     doubt: Option<DoubtfulCommand>,
     last: &[u8],
 ) -> Result<u64, StateFault>
-    ensures { MatchResult result
-        (λ g. (s : State) → last_state last.now ≡ Ok s → g ≡ generation_after s (entries_in_doubt doubt adapter.now))
-        (λ fault. last_state last.now ≡ Err fault) }
+    ensures { result ≡ generation_of (last_state last.now) (entries_in_doubt doubt adapter.now) }
 {
     if last.is_empty() {
         return Ok(1);

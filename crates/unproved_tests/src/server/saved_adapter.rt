@@ -52,7 +52,10 @@ fn an_adapter_starts_from_its_state(rt: HostRuntime) -> Result<(), Fail> {
     let mut buffer = [0; ROOM];
     assert!(rt; adapter.write_data(100, 0, &[7, 8, 9, 10]));
     let size = save(&adapter, None, 1, &mut buffer).map_err(|_| Fail::from("it fits"))?;
-    assert_eq!(rt; save(&adapter, None, 1, &mut [0; 36]), Err(WriteFault::Full));
+    assert_eq!(rt;
+        save(&adapter, None, 1, &mut [0; 36]),
+        Err(WriteFault::Full)
+    );
     let state = &buffer[..size];
     assert_eq!(rt; generation(&adapter, None, state), Ok(1));
     let again = started(alloc, &start_in(alloc, 10)?, state)?;
@@ -75,9 +78,17 @@ fn a_command_is_saved_in_doubt(rt: HostRuntime) -> Result<(), Fail> {
     let adapter = started(alloc, &start_in(alloc, 9)?, &[])?;
     let mut buffer = [0; ROOM];
     let size = save(&adapter, Some(COMMAND), 5, &mut buffer).map_err(|_| Fail::from("it fits"))?;
-    assert!(rt; adapter.ledger().is_some_and(|ledger: &Ledger| ledger.slot_count() == 0));
+    assert!(rt;
+        adapter
+            .ledger()
+            .is_some_and(|ledger: &Ledger| ledger.slot_count() == 0)
+    );
     let mut again = started(alloc, &start_in(alloc, 10)?, &buffer[..size])?;
-    assert!(rt; again.ledger().is_some_and(|ledger: &Ledger| ledger.in_doubt(0) == Some(COMMAND)));
+    assert!(rt;
+        again
+            .ledger()
+            .is_some_and(|ledger: &Ledger| ledger.in_doubt(0) == Some(COMMAND))
+    );
     assert!(rt; again.settle(COMMAND.originator, COMMAND.number, &[0xb2, 0, 0, 0]));
     assert_eq!(rt; generation(&again, None, &buffer[..size]), Ok(6));
     // A greater number takes the same slot, and a smaller one changes nothing.
@@ -93,8 +104,14 @@ fn a_command_is_saved_in_doubt(rt: HostRuntime) -> Result<(), Fail> {
     let size = save(&again, Some(later), 6, &mut other).map_err(|_| Fail::from("it fits"))?;
     assert_eq!(rt; generation(&again, Some(earlier), &other[..size]), Ok(7));
     let last = started(alloc, &start_in(alloc, 10)?, &other[..size])?;
-    assert!(rt; last.ledger().is_some_and(|ledger: &Ledger| ledger.slot_count() == 1));
-    assert!(rt; last.ledger().is_some_and(|ledger: &Ledger| ledger.in_doubt(0) == Some(later)));
+    assert!(rt;
+        last.ledger()
+            .is_some_and(|ledger: &Ledger| ledger.slot_count() == 1)
+    );
+    assert!(rt;
+        last.ledger()
+            .is_some_and(|ledger: &Ledger| ledger.in_doubt(0) == Some(later))
+    );
     Ok(())
 }
 
@@ -109,7 +126,10 @@ fn other_states_are_refused(rt: HostRuntime) -> Result<(), Fail> {
         start(alloc, &other, &buffer[..size + 1]).err(),
         Some(RestoreFault::Malformed(StateFault::TooLong))
     );
-    assert_eq!(rt; generation(&adapter, None, &buffer[..size - 1]), Err(StateFault::Cut));
+    assert_eq!(rt;
+        generation(&adapter, None, &buffer[..size - 1]),
+        Err(StateFault::Cut)
+    );
     other.objects.serial = 1;
     assert_eq!(rt;
         start(alloc, &other, &buffer[..size]).err(),
