@@ -22,13 +22,16 @@ enum { REFUSAL_LENGTH = 511, ASKED_DATA = 500 };
 
 /*
  * The mark lies behind the bytes that an allocator overwrites in a freed block. While the owner is asked, the calls
- * that could change what is asked are misuse.
+ * that could change what is asked are misuse, and `asking` is the piece that asks. Otherwise it is empty.
  */
 struct enip_adapter {
     struct kept kept;
     uint64_t spare[2];
     uint64_t mark;
     int is_asking;
+    uint32_t asking_peer;
+    const uint8_t *asking;
+    size_t asking_length;
 };
 
 struct enip_endings {
@@ -57,7 +60,21 @@ struct asked {
     uint8_t service, has_attribute;
 };
 
+/* Why the proved calls refuse a configuration or a saved state: the check, and the version of the state. */
+struct refused {
+    uint32_t number, version;
+};
+
 uint32_t enip_core_adapter_new(struct kept *, const uint8_t *, size_t, uint32_t *);
+uint32_t enip_core_adapter_new_kept(struct kept *, const uint8_t *, size_t, const uint8_t *, size_t, uint64_t,
+                                    struct refused *);
+uint32_t enip_core_adapter_save(struct kept *, uint64_t, uint32_t, const uint8_t *, size_t, uint8_t *, size_t,
+                                size_t *);
+uint32_t enip_core_adapter_generation(struct kept *, uint32_t, const uint8_t *, size_t, const uint8_t *, size_t,
+                                      uint64_t *);
+uint32_t enip_core_adapter_executing(struct kept *, uint32_t, const uint8_t *, size_t, uint64_t *, uint32_t *);
+uint32_t enip_core_adapter_in_doubt(struct kept *, size_t, uint64_t *, uint32_t *);
+uint32_t enip_core_adapter_settle(struct kept *, uint64_t, uint32_t, const uint8_t *, size_t);
 void enip_core_adapter_free(struct kept *);
 uint32_t enip_core_adapter_begin(struct kept *, uint32_t *);
 uint32_t enip_core_adapter_feed(struct kept *, uint64_t, uint32_t, const uint8_t *, size_t, uint8_t *, size_t,
@@ -84,6 +101,7 @@ void enip_core_endings_free(struct kept *);
 void enip_core_endings_update(struct kept *, struct kept *);
 uint32_t enip_core_endings_at(struct kept *, size_t, enip_ended *);
 size_t enip_core_explain(const uint8_t *, size_t, uint8_t *, size_t);
+size_t enip_core_state_text(uint32_t, uint32_t, uint8_t *, size_t);
 size_t enip_core_status_text(uint32_t, uint32_t, uint8_t *, size_t);
 uint32_t enip_core_client_new(struct kept *, const enip_wants *);
 void enip_core_client_free(struct kept *);
@@ -172,32 +190,100 @@ size_t enip_status_text(int kind, uint32_t number, char *buffer, size_t size) {
     return length;
 }
 
-int enip_adapter_new(const char *text, size_t length, enip_adapter **adapter, enip_refusal *refusal) {
-    enip_adapter *made;
-    uint32_t status, number = 0;
-    if (!is_range(text, length) || adapter == NULL || !are_apart(text, length, adapter, sizeof *adapter))
-        return ENIP_MISUSE;
-    if (refusal != NULL
-        && (!are_apart(text, length, refusal, sizeof *refusal)
-            || !are_apart(adapter, sizeof *adapter, refusal, sizeof *refusal)))
-        return ENIP_MISUSE;
-    if ((made = malloc(sizeof *made)) == NULL)
-        return ENIP_MEMORY;
-    made->kept.at = NULL;
-    status = enip_core_adapter_new(&made->kept, (const uint8_t *)text, length, &number);
-    if (status == ENIP_CONFIGURATION && refusal != NULL) {
-        size_t shown = enip_core_explain((const uint8_t *)text, length, (uint8_t *)refusal->text, REFUSAL_LENGTH);
-        refusal->text[shown] = '\0';
-        refusal->number = number;
+/* Whether a call may read the text of a configuration, and write a new adapter and a refusal. */
+static int is_making(const char *text, size_t length, enip_adapter *const *adapter, const enip_refusal *refusal) {
+    return is_range(text, length) && adapter != NULL && are_apart(text, length, adapter, sizeof *adapter)
+        && (refusal == NULL
+            || (are_apart(text, length, refusal, sizeof *refusal)
+                && are_apart(adapter, sizeof *adapter, refusal, sizeof *refusal)));
+}
+
+/* Whether a call may read a saved state. There may be none. */
+static int is_state(const void *state, size_t length) {
+    return state == NULL ? length == 0 : is_range(state, length);
+}
+
+/* The bytes of a saved state, which may be empty. */
+static const uint8_t *state_bytes(const void *state) {
+    static const uint8_t none[1];
+    return state == NULL ? none : state;
+}
+
+/* An adapter that has no object yet, or NULL. */
+static enip_adapter *empty_adapter(void) {
+    enip_adapter *made = malloc(sizeof *made);
+    if (made != NULL) {
+        made->kept.at = NULL;
+        made->is_asking = 0;
+        made->asking_peer = 0;
+        made->asking = state_bytes(NULL);
+        made->asking_length = 0;
     }
+    return made;
+}
+
+/* Returns an adapter that was made, or frees it. */
+static int finish(enip_adapter *made, uint32_t status, enip_adapter **adapter) {
     if (status != ENIP_OK) {
         free(made);
         return (int)status;
     }
     made->mark = ADAPTER_MARK;
-    made->is_asking = 0;
     *adapter = made;
     return ENIP_OK;
+}
+
+/* Writes why a configuration is refused: what is wrong with its text. */
+static void refuse_text(enip_refusal *refusal, uint32_t number, const char *text, size_t length) {
+    size_t shown;
+    if (refusal == NULL)
+        return;
+    shown = enip_core_explain((const uint8_t *)text, length, (uint8_t *)refusal->text, REFUSAL_LENGTH);
+    refusal->text[shown] = '\0';
+    refusal->number = number;
+}
+
+/* Writes why a saved state is refused, or that no state of a configuration can be saved. */
+static void refuse_state(enip_refusal *refusal, const struct refused *why) {
+    size_t shown;
+    if (refusal == NULL)
+        return;
+    shown = enip_core_state_text(why->number, why->version, (uint8_t *)refusal->text, REFUSAL_LENGTH);
+    refusal->text[shown] = '\0';
+    refusal->number = why->number;
+}
+
+int enip_adapter_new(const char *text, size_t length, enip_adapter **adapter, enip_refusal *refusal) {
+    enip_adapter *made;
+    uint32_t status, number = 0;
+    if (!is_making(text, length, adapter, refusal))
+        return ENIP_MISUSE;
+    if ((made = empty_adapter()) == NULL)
+        return ENIP_MEMORY;
+    status = enip_core_adapter_new(&made->kept, (const uint8_t *)text, length, &number);
+    if (status == ENIP_CONFIGURATION)
+        refuse_text(refusal, number, text, length);
+    return finish(made, status, adapter);
+}
+
+int enip_adapter_new_kept(const char *text, size_t length, const void *state, size_t state_length, uint64_t life,
+                          enip_adapter **adapter, enip_refusal *refusal) {
+    struct refused why = {0, 0};
+    enip_adapter *made;
+    uint32_t status;
+    if (!is_making(text, length, adapter, refusal) || !is_state(state, state_length)
+        || !are_apart(state, state_length, adapter, sizeof *adapter)
+        || (refusal != NULL && !are_apart(state, state_length, refusal, sizeof *refusal)))
+        return ENIP_MISUSE;
+    if ((made = empty_adapter()) == NULL)
+        return ENIP_MEMORY;
+    status = enip_core_adapter_new_kept(&made->kept, (const uint8_t *)text, length, state_bytes(state), state_length,
+                                        life, &why);
+    if (status == ENIP_CONFIGURATION && why.number != ENIP_CONFIG_ORDER)
+        refuse_text(refusal, why.number, text, length);
+    else if (status == ENIP_CONFIGURATION || status == ENIP_SAVED_STATE)
+        refuse_state(refusal, &why);
+    return finish(made, status, adapter);
 }
 
 int enip_adapter_free(enip_adapter *adapter) {
@@ -237,6 +323,8 @@ static int ask_owner(enip_adapter *adapter, int (*owner)(void *, const enip_aske
     adapter->is_asking = 1;
     answer = owner(context, &asked, reply);
     adapter->is_asking = 0;
+    adapter->asking = state_bytes(NULL);
+    adapter->asking_length = 0;
     if (answer != 0)
         return ENIP_STATE;
     return reply->length <= sizeof reply->data ? ENIP_OK : ENIP_MISUSE;
@@ -259,8 +347,12 @@ int enip_adapter_serve(enip_adapter *adapter, uint64_t now, uint32_t peer, const
     status = enip_core_adapter_asked(&adapter->kept, now, peer, bytes, length, data, sizeof data, &asked);
     if (status == ENIP_ABSENT)
         return (int)enip_core_adapter_feed(&adapter->kept, now, peer, bytes, length, buffer, size, fed);
-    if (status == ENIP_OK)
+    if (status == ENIP_OK) {
+        adapter->asking_peer = peer;
+        adapter->asking = bytes;
+        adapter->asking_length = length;
         status = (uint32_t)ask_owner(adapter, owner, context, &asked, data, &reply);
+    }
     if (status != ENIP_OK)
         return (int)status;
     return (int)enip_core_adapter_feed_prepared(&adapter->kept, now, peer, bytes, length, reply.status, reply.data,
@@ -352,6 +444,54 @@ int enip_adapter_set_state(enip_adapter *adapter, uint8_t state) {
         return ENIP_MISUSE;
     enip_core_adapter_set_state(&adapter->kept, state);
     return ENIP_OK;
+}
+
+/* Whether a call may write to a range, also while the owner is asked: the piece that asks is still to be read. */
+static int is_apart_from_piece(const enip_adapter *adapter, const void *range, size_t size) {
+    return adapter->asking_length == 0 || are_apart(adapter->asking, adapter->asking_length, range, size);
+}
+
+int enip_adapter_save(const enip_adapter *adapter, uint64_t generation, void *buffer, size_t size, size_t *count) {
+    if (!is_adapter(adapter) || !is_output(buffer, size, count) || !is_apart_from_piece(adapter, buffer, size)
+        || !is_apart_from_piece(adapter, count, sizeof *count))
+        return ENIP_MISUSE;
+    return (int)enip_core_adapter_save(kept_to_read(&adapter->kept), generation, adapter->asking_peer,
+                                       adapter->asking, adapter->asking_length, buffer, size, count);
+}
+
+int enip_adapter_generation(const enip_adapter *adapter, const void *state, size_t length, uint64_t *generation) {
+    if (!is_adapter(adapter) || !is_state(state, length) || generation == NULL
+        || !are_apart(state, length, generation, sizeof *generation)
+        || !is_apart_from_piece(adapter, generation, sizeof *generation))
+        return ENIP_MISUSE;
+    return (int)enip_core_adapter_generation(kept_to_read(&adapter->kept), adapter->asking_peer, adapter->asking,
+                                             adapter->asking_length, state_bytes(state), length, generation);
+}
+
+/* Whether a call may write who gave a command and its number. */
+static int is_command(const enip_adapter *adapter, const uint64_t *originator, const uint32_t *number) {
+    return originator != NULL && number != NULL && are_apart(originator, sizeof *originator, number, sizeof *number)
+        && is_apart_from_piece(adapter, originator, sizeof *originator)
+        && is_apart_from_piece(adapter, number, sizeof *number);
+}
+
+int enip_adapter_asked_command(const enip_adapter *adapter, uint64_t *originator, uint32_t *number) {
+    if (!is_adapter(adapter) || !is_command(adapter, originator, number))
+        return ENIP_MISUSE;
+    return (int)enip_core_adapter_executing(kept_to_read(&adapter->kept), adapter->asking_peer, adapter->asking,
+                                            adapter->asking_length, originator, number);
+}
+
+int enip_adapter_in_doubt(const enip_adapter *adapter, size_t index, uint64_t *originator, uint32_t *number) {
+    if (!is_adapter(adapter) || !is_command(adapter, originator, number))
+        return ENIP_MISUSE;
+    return (int)enip_core_adapter_in_doubt(kept_to_read(&adapter->kept), index, originator, number);
+}
+
+int enip_adapter_settle(enip_adapter *adapter, uint64_t originator, uint32_t number, const void *reply, size_t length) {
+    if (!is_free_adapter(adapter) || !is_range(reply, length))
+        return ENIP_MISUSE;
+    return (int)enip_core_adapter_settle(&adapter->kept, originator, number, reply, length);
 }
 
 int enip_endings_new(enip_endings **endings) {

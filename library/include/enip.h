@@ -3,7 +3,7 @@
  *
  * You pass bytes and times in and get bytes back. No call opens a socket, reads a clock, starts a thread, blocks,
  * prints or ends the program. No call allocates memory, except the calls that make an object (enip_adapter_new,
- * enip_endings_new, enip_client_new, enip_once_new, enip_once_resume).
+ * enip_adapter_new_kept, enip_endings_new, enip_client_new, enip_once_new, enip_once_resume).
  *
  * Use an object in one call at a time, also if the calls only read it. Objects share nothing: two threads may use two
  * objects at once.
@@ -61,7 +61,8 @@ enum {
     ENIP_GIVEN_UP = 16,     /* a request was given up */
     ENIP_ABANDONED = 17,    /* 65,535 requests were submitted since the last accepted reply */
     ENIP_WANTS = 18,        /* a connection size in enip_wants is out of range */
-    ENIP_NUMBERS = 19       /* no command number is left for this originator */
+    ENIP_NUMBERS = 19,      /* no command number is left for this originator */
+    ENIP_SAVED_STATE = 20   /* the saved state is refused */
 };
 
 /*
@@ -84,7 +85,7 @@ ENIP_API const char *enip_version(void);
 
 /* The kinds of numbers that enip_status_text explains. */
 enum {
-    ENIP_OF_CALL = 0,     /* the status of a call: ENIP_OK to ENIP_NUMBERS */
+    ENIP_OF_CALL = 0,     /* the status of a call: ENIP_OK to ENIP_SAVED_STATE */
     ENIP_OF_NO_REPLY = 1, /* why a frame got no answer: ENIP_NO_REPLY_INCOMPLETE and the following */
     ENIP_OF_GENERAL = 2,  /* the general status of a reply, 0x00 to 0xff */
     ENIP_OF_EXTENDED = 3, /* the extended status of the Connection Manager, 0x0000 to 0xffff */
@@ -115,12 +116,14 @@ enum {
     ENIP_CONFIG_KEY = 9,        /* a key is unknown */
     ENIP_CONFIG_OBJECT = 10,    /* an application object: its class, instance or name, or more than 32 objects */
     ENIP_CONFIG_ATTRIBUTE = 11, /* an attribute of one: its number, type, value, range or size, or more than 32 */
-    ENIP_CONFIG_SERVICE = 12    /* a service of one: its number or sizes, or more than 16 */
+    ENIP_CONFIG_SERVICE = 12,   /* a service of one: its number or sizes, or more than 16 */
+    ENIP_CONFIG_ORDER = 13      /* enip_adapter_new_kept: the assemblies or the objects are not in rising order */
 };
 
-/* Why enip_adapter_new refuses a configuration. */
+/* Why enip_adapter_new refuses a configuration, and enip_adapter_new_kept a configuration or a saved state. */
 typedef struct enip_refusal {
-    uint32_t number; /* the check that failed: one of ENIP_CONFIG_NAME and the following */
+    uint32_t number; /* the check that failed: one of ENIP_CONFIG_NAME and the following, or, if the status is
+                        ENIP_SAVED_STATE, one of ENIP_SAVED_NOT_A_STATE and the following */
     char text[512];  /* one line: where and what is wrong; empty if it does not fit. If memory runs out, it is empty or
                         does not say where */
 } enip_refusal;
@@ -204,8 +207,9 @@ typedef struct enip_reply {
  * The reply is {0, 0, {0}} when the owner is called: success without data. owner may be NULL, then nobody is asked, as
  * in enip_adapter_feed; context may be NULL.
  * While the owner is called, it may pass the same adapter to enip_endings_update and to the calls that read and write:
- * _deadline, _read, _discover, _places, _write, _write_attribute, _changes, _attribute_changes, _set_status and
- * _set_state. Any other call with it returns ENIP_MISUSE and changes nothing.
+ * _deadline, _read, _discover, _places, _write, _write_attribute, _changes, _attribute_changes, _set_status,
+ * _set_state, _generation, _save, _asked_command and _in_doubt. Any other call with it returns ENIP_MISUSE and changes
+ * nothing.
  * ENIP_OK; ENIP_STATE if the owner returned another value than 0; ENIP_MISUSE, also if the reply cannot be given: its
  * length is over asked->reply_limit, or its status is 0x11; ENIP_ROOM. If the owner was called and the status is not
  * ENIP_OK, the time is set and what the owner did is done, but no byte is taken: end the peer, as the same piece would
@@ -289,6 +293,81 @@ ENIP_API int enip_adapter_set_status(enip_adapter *adapter, uint16_t status);
 
 /* Sets the device's state (Identity, attribute 8, and ListIdentity). ENIP_OK, ENIP_MISUSE. */
 ENIP_API int enip_adapter_set_state(enip_adapter *adapter, uint8_t state);
+
+/* ---- an adapter that is kept over a restart ---- */
+
+/* Why a saved state is refused: the checks of docs/STATE.md, and the device. */
+enum {
+    ENIP_SAVED_NOT_A_STATE = 1, /* the bytes are not a saved state */
+    ENIP_SAVED_CUT = 2,         /* bytes are missing at its end */
+    ENIP_SAVED_VERSION = 3,     /* it has another version of the format */
+    ENIP_SAVED_TOO_LONG = 4,    /* bytes follow it */
+    ENIP_SAVED_CHECKSUM = 5,    /* its checksum is wrong: it is damaged */
+    ENIP_SAVED_LAYOUT = 6,      /* its entries do not fill it */
+    ENIP_SAVED_ORDER = 7,       /* the keys of its entries do not rise */
+    ENIP_SAVED_DEVICE = 8       /* it is of another device: vendor, product code or serial number */
+};
+
+/*
+ * Does what enip_adapter_new does, and continues from a saved state of state_length bytes, as enip_adapter_save wrote
+ * it: each value that is kept is as it was, and the command ledger goes on in the same life, with the same commands. If
+ * state is NULL and state_length is 0, the device starts for the first time. The key `life` of the configuration is not
+ * used: a ledger of which nothing is kept starts empty in the given life, which must differ from that of each earlier
+ * start.
+ * A value that the configuration no longer has, or has with another size, is not used. If a slot of the ledger cannot
+ * be used, because the configuration has fewer, the ledger starts empty in the given life.
+ * ENIP_OK; ENIP_CONFIGURATION, ENIP_SAVED_STATE: *refusal gives the reason, refusal may be NULL; ENIP_MEMORY;
+ * ENIP_MISUSE. On any status but ENIP_OK *adapter is unchanged.
+ */
+ENIP_API int enip_adapter_new_kept(const char *text, size_t length, const void *state, size_t state_length,
+                                   uint64_t life, enip_adapter **adapter, enip_refusal *refusal);
+
+/*
+ * Gives the generation of what is kept of the adapter now: the data of the assemblies, the counter, the attributes of
+ * the application objects, and the command ledger. state is the last saved state, of length bytes: if nothing that is
+ * kept has changed since, *generation is its generation, otherwise the next, modulo 2^64. So save the state if
+ * *generation is not the one of the last state. If nothing was saved yet, state is NULL and length 0, and *generation
+ * is 1.
+ * While the owner is asked to execute a numbered command, that command is in doubt in what is kept.
+ * ENIP_OK; ENIP_SAVED_STATE if the bytes are not a saved state; ENIP_MISUSE.
+ */
+ENIP_API int enip_adapter_generation(const enip_adapter *adapter, const void *state, size_t length,
+                                     uint64_t *generation);
+
+/*
+ * Writes the state of the adapter with this generation to buffer, and its size to *count (docs/STATE.md). It has fewer
+ * than 131,072 bytes, and its size can change with each request. Sessions and connections are not part of it.
+ * While the owner is asked to execute a numbered command, that command is in doubt in the state: an adapter that starts
+ * from it does not execute the command again.
+ * ENIP_OK; ENIP_ROOM if the state does not fit: then *count is the size that it needs, and nothing else is written;
+ * ENIP_STATE if the assemblies or the objects are not configured in rising order; ENIP_MISUSE.
+ */
+ENIP_API int enip_adapter_save(const enip_adapter *adapter, uint64_t generation, void *buffer, size_t size,
+                               size_t *count);
+
+/*
+ * Gives the originator and the number of the command that the owner is asked to execute. Call it while the owner is
+ * called.
+ * ENIP_OK; ENIP_ABSENT if the owner is not asked now, or if the request is not that of a numbered command;
+ * ENIP_MISUSE.
+ */
+ENIP_API int enip_adapter_asked_command(const enip_adapter *adapter, uint64_t *originator, uint32_t *number);
+
+/*
+ * Gives entry index, counted from 0, of the commands in doubt: the adapter started from a state in which they are in
+ * doubt, so nobody knows whether they were executed. The ledger answers each of them with the state "in doubt", and
+ * never executes it.
+ * ENIP_OK; ENIP_ABSENT if there is no such entry; ENIP_MISUSE.
+ */
+ENIP_API int enip_adapter_in_doubt(const enip_adapter *adapter, size_t index, uint64_t *originator, uint32_t *number);
+
+/*
+ * Settles a command in doubt: the ledger answers it with this reply from now on, 4 to 480 bytes. reply is the whole
+ * reply that its request should have had: the service with bit 7 set, 0, the general status, 0, and the data.
+ * ENIP_OK; ENIP_ABSENT if this command is not in doubt, or the reply has another length; ENIP_MISUSE.
+ */
+ENIP_API int enip_adapter_settle(enip_adapter *adapter, uint64_t originator, uint32_t number, const void *reply,
+                                 size_t length);
 
 /* ---- connections of an adapter that ended ---- */
 

@@ -39,7 +39,7 @@ static void is(const char *what, const char *how, int holds) {
 
 #define WORD(it) ((uint64_t)(uintptr_t)(it))
 
-enum { MOST_WORDS = 12, NOW = 5, LIFE = 6, ORIGINATOR = 7, NUMBER = 8 };
+enum { MOST_WORDS = 12, NOW = 5, LIFE = 6, ORIGINATOR = 7, NUMBER = 8, GENERATION = 9 };
 #ifdef LAYER
 /* Arguments that can be told apart. */
 enum { CLASS = 11, INSTANCE = 12, ATTRIBUTE = 13 };
@@ -93,6 +93,45 @@ static size_t fill(uint8_t *buffer, size_t size) {
 uint32_t enip_core_adapter_new(struct kept *k, const uint8_t *text, size_t length, uint32_t *number) {
     *number = 9;
     return make(k, NOTE("adapter_new", WORD(text), length));
+}
+/* The check that refuses a saved state or a configuration, and the version. */
+static struct refused core_refused = {9, 2};
+
+uint32_t enip_core_adapter_new_kept(struct kept *k, const uint8_t *text, size_t length, const uint8_t *state,
+                                    size_t state_length, uint64_t life, struct refused *why) {
+    *why = core_refused;
+    return make(k, NOTE("adapter_new_kept", WORD(text), length, state_length == 0 ? 0 : WORD(state), state_length, life));
+}
+/* The piece that asks, as the calls for the state get it: no bytes if the owner is not asked. */
+static const uint8_t *piece;
+static size_t piece_length;
+
+static void note_piece(const uint8_t *bytes, size_t length) {
+    piece = bytes;
+    piece_length = length;
+}
+
+uint32_t enip_core_adapter_save(struct kept *k, uint64_t generation, uint32_t p, const uint8_t *bytes, size_t length,
+                                uint8_t *buffer, size_t size, size_t *count) {
+    note_piece(bytes, length);
+    return NOTE("adapter_save", WORD(k), generation, p, WORD(buffer), size, WORD(count));
+}
+uint32_t enip_core_adapter_generation(struct kept *k, uint32_t p, const uint8_t *bytes, size_t length,
+                                      const uint8_t *state, size_t state_length, uint64_t *generation) {
+    note_piece(bytes, length);
+    return NOTE("adapter_generation", WORD(k), p, state_length == 0 ? 0 : WORD(state), state_length, WORD(generation));
+}
+uint32_t enip_core_adapter_executing(struct kept *k, uint32_t p, const uint8_t *bytes, size_t length,
+                                     uint64_t *originator, uint32_t *number) {
+    note_piece(bytes, length);
+    return NOTE("adapter_asked_command", WORD(k), p, WORD(originator), WORD(number));
+}
+uint32_t enip_core_adapter_in_doubt(struct kept *k, size_t index, uint64_t *originator, uint32_t *number) {
+    return NOTE("adapter_in_doubt", WORD(k), index, WORD(originator), WORD(number));
+}
+uint32_t enip_core_adapter_settle(struct kept *k, uint64_t originator, uint32_t number, const uint8_t *reply,
+                                  size_t length) {
+    return NOTE("adapter_settle", WORD(k), originator, number, WORD(reply), length);
 }
 void enip_core_adapter_free(struct kept *k) {
     NOTE("adapter_free", WORD(k));
@@ -175,6 +214,10 @@ uint32_t enip_core_endings_at(struct kept *k, size_t index, enip_ended *ended) {
 }
 size_t enip_core_explain(const uint8_t *text, size_t length, uint8_t *buffer, size_t size) {
     NOTE("explain", WORD(text), length, size);
+    return fill(buffer, size);
+}
+size_t enip_core_state_text(uint32_t number, uint32_t version, uint8_t *buffer, size_t size) {
+    NOTE("state_text", number, version, size);
     return fill(buffer, size);
 }
 size_t enip_core_status_text(uint32_t kind, uint32_t number, uint8_t *buffer, size_t size) {
@@ -295,6 +338,9 @@ CALL(adapter_changes, 100, a->result)
 CALL(adapter_attribute_changes, CLASS, INSTANCE, ATTRIBUTE, a->result)
 CALL(adapter_set_status, 0x1234)
 CALL(adapter_set_state, 3)
+CALL(adapter_save, GENERATION, a->buffer, a->size, a->result)
+CALL(adapter_generation, a->bytes, a->length, a->result)
+CALL(adapter_settle, ORIGINATOR, NUMBER, a->bytes, a->length)
 CALL(endings_at, 2, a->result)
 CALL(client_register, a->buffer, a->size, a->result)
 CALL(client_open, a->buffer, a->size, a->result)
@@ -332,6 +378,9 @@ static struct call calls[] = {
     {"adapter_attribute_changes", ADAPTER, adapter_attribute_changes, 0, 0, 4, 3, {CLASS, INSTANCE, ATTRIBUTE}},
     {"adapter_set_status", ADAPTER, adapter_set_status, 0, 0, 0, 1, {0x1234}},
     {"adapter_set_state", ADAPTER, adapter_set_state, 0, 0, 0, 1, {3}},
+    {"adapter_save", ADAPTER, adapter_save, 0, 1000, 8, 2, {GENERATION, 0}},
+    {"adapter_generation", ADAPTER, adapter_generation, 28, 0, 8, 1, {0}},
+    {"adapter_settle", ADAPTER, adapter_settle, 28, 0, 0, 2, {ORIGINATOR, NUMBER}},
     {"endings_at", ENDINGS, endings_at, 0, 0, sizeof(enip_ended), 1, {2}},
     {"client_register", CLIENT, client_register, 0, ENIP_FRAME_ROOM, 8, 0, {0}},
     {"client_open", CLIENT, client_open, 0, ENIP_FRAME_ROOM, 8, 0, {0}},
@@ -422,8 +471,8 @@ static void allowed(const struct call *call, const char *how, struct arguments a
     prepare(&a);
 #ifdef LAYER
     int returns = strcmp(call->name, "adapter_tick") != 0 && strcmp(call->name, "adapter_end") != 0
-        && strncmp(call->name, "adapter_set", 11) != 0;
-    for (core_status = 0; core_status < 20; core_status++) {
+        && strncmp(call->name, "adapter_set_", 12) != 0;
+    for (core_status = 0; core_status < 21; core_status++) {
         int status = is_small(call, &a) ? ENIP_ROOM : returns ? (int)core_status : ENIP_OK;
         call_count = 0;
         is(call->name, how, call->call(&a) == status);
@@ -612,6 +661,38 @@ static void offsets(void) {
 #endif
 }
 
+/* The two results of the calls that name a command: each NULL, and next to each other in each way. */
+static void commands(int with_freed) {
+    uint64_t *originator = (void *)(arena + MIDDLE);
+    void *handle = valid[ADAPTER];
+    for (int is_asked = 0; is_asked < 2; is_asked++) {
+#define NAMES(it, o, n) (is_asked ? enip_adapter_asked_command((it), (o), (n)) : enip_adapter_in_doubt((it), 2, (o), (n)))
+        const char *what = is_asked ? "asked_command" : "in_doubt";
+        uint32_t *number = (void *)(arena + LOW);
+        is(what, "NULL", NAMES(NULL, originator, number) == ENIP_MISUSE);
+        is(what, "foreign", NAMES(adapter_of(foreign), originator, number) == ENIP_MISUSE);
+        is(what, "another kind", NAMES(adapter_of(valid[CLIENT]), originator, number) == ENIP_MISUSE);
+        is(what, "freed", !with_freed || NAMES(adapter_of(freed[ADAPTER]), originator, number) == ENIP_MISUSE);
+        is(what, "NULL for the originator", NAMES(handle, NULL, number) == ENIP_MISUSE);
+        is(what, "NULL for the number", NAMES(handle, originator, NULL) == ENIP_MISUSE);
+        for (int how = 0; how < NEXT; how++) {
+            int status;
+            number = (void *)next_to(how, (unsigned char *)originator, 8, 4);
+            if (how == 1 || how == 2)
+                continue;
+            status = NAMES(handle, originator, number);
+#ifdef LAYER
+            is(what, next[how], status == (how < 4 ? ENIP_MISUSE : ENIP_OK));
+            if (how > 3)
+                is(what, "its arguments", words[0] == WORD(handle) && words[1] == (is_asked ? 0 : 2)
+                       && words[2] == WORD(originator) && words[3] == WORD(number));
+#else
+            is(what, next[how], status == (how < 4 ? ENIP_MISUSE : ENIP_ABSENT));
+#endif
+        }
+    }
+}
+
 static void updates(int with_freed) {
     enip_endings *endings = valid[ENDINGS];
     enip_adapter *adapter = valid[ADAPTER];
@@ -779,12 +860,45 @@ static void explained(enip_adapter **adapter, int status) {
     is("adapter_new", "without a refusal", enip_adapter_new((char *)arena, 77, adapter, NULL) == status);
 }
 
+/* What the call that starts from a state passes on, and what it writes of a refusal. */
+static void started(void) {
+    for (core_status = 0; core_status < 21; core_status++) {
+        for (int kind = 0; kind < 3; kind++) {
+            const void *from = kind == 0 ? NULL : arena + HIGH;
+            size_t size = kind == 0 ? 0 : 55;
+            int status = (int)core_status, is_refused = status == ENIP_CONFIGURATION || status == ENIP_SAVED_STATE;
+            enip_adapter *adapter = NULL;
+            enip_refusal refusal = {7, "as before"};
+            core_refused.number = kind == 2 ? ENIP_CONFIG_ORDER : 5;
+            text_length = 3;
+            call_count = 0;
+            is("new_kept", "its status",
+               enip_adapter_new_kept((char *)arena, 77, from, size, LIFE, &adapter, &refusal) == status);
+            is("new_kept", "made, or unchanged", (adapter != NULL) == (status == ENIP_OK));
+            if (!is_refused) {
+                PASSED("adapter_new_kept", WORD(arena), 77, WORD(from), size, LIFE);
+                is("new_kept", "no refusal", refusal.number == 7 && strcmp(refusal.text, "as before") == 0);
+            } else {
+                is("new_kept", "two calls", call_count == 2);
+                is("new_kept", "the text of the configuration, or of the state",
+                   strcmp(called, status == ENIP_CONFIGURATION && kind != 2 ? "explain" : "state_text") == 0);
+                is("new_kept", "the refusal",
+                   refusal.number == core_refused.number && strcmp(refusal.text, "xxx") == 0);
+                is("new_kept", "without a refusal",
+                   enip_adapter_new_kept((char *)arena, 77, from, size, LIFE, &adapter, NULL) == status);
+            }
+            is("new_kept", "freed", enip_adapter_free(adapter) == ENIP_OK);
+        }
+    }
+    core_status = ENIP_OK;
+}
+
 /* What the calls that make and free objects pass on, and what they return if the core makes none. */
 static void made(void) {
     static const char *const names[KINDS] = {"adapter_free", "endings_free", "client_free", "once_free"};
     enip_wants wants = {0};
     for (int resumed = 0; resumed < 2; resumed++) {
-        for (core_status = 0; core_status < 20; core_status++) {
+        for (core_status = 0; core_status < 21; core_status++) {
             void *objects[KINDS] = {NULL, NULL, NULL, NULL};
             enip_adapter *adapter = NULL;
             enip_endings *endings = NULL;
@@ -850,6 +964,29 @@ static enip_reply given;
 static int answered, owner_count;
 static enip_adapter *another;
 
+/* The calls for the state, while the owner is asked by 9 bytes of peer 7: they get these, and may not write to them. */
+static void within_state(enip_adapter *adapter) {
+    static unsigned char room[64];
+    unsigned char *bytes = arena + HIGH;
+    uint64_t wide;
+    uint32_t number;
+    size_t size;
+    int count = call_count;
+    is("within", "a settle", enip_adapter_settle(adapter, 1, 2, registers, 4) == ENIP_MISUSE);
+    is("within", "a save in the piece", enip_adapter_save(adapter, 1, bytes + 8, 9, &size) == ENIP_MISUSE);
+    is("within", "a size in the piece", enip_adapter_save(adapter, 1, room, 9, (void *)(bytes + 8)) == ENIP_MISUSE);
+    is("within", "a generation in the piece", enip_adapter_generation(adapter, NULL, 0, (void *)bytes) == ENIP_MISUSE);
+    is("within", "a command in the piece", enip_adapter_asked_command(adapter, (void *)bytes, &number) == ENIP_MISUSE);
+    is("within", "a number in the piece", enip_adapter_asked_command(adapter, &wide, (void *)bytes) == ENIP_MISUSE);
+    is("within", "the core is not called", call_count == count);
+    is("within", "a save", enip_adapter_save(adapter, 1, room, sizeof room, &size) == (int)core_status);
+    is("within", "its piece", piece == bytes && piece_length == 9 && words[2] == 7);
+    is("within", "a generation", enip_adapter_generation(adapter, NULL, 0, &wide) == (int)core_status);
+    is("within", "its piece", piece == bytes && piece_length == 9 && words[1] == 7);
+    is("within", "a command", enip_adapter_asked_command(adapter, &wide, &number) == (int)core_status);
+    is("within", "its piece", piece == bytes && piece_length == 9 && words[1] == 7);
+}
+
 /* The calls that are misuse while the owner is asked. */
 static void misuses(enip_adapter *adapter) {
     static unsigned char room[ENIP_ANSWER_ROOM];
@@ -868,6 +1005,7 @@ static void misuses(enip_adapter *adapter) {
     is("within", "the core is not called", call_count == count);
     is("within", "a read", enip_adapter_changes(adapter, 1, &number) == (int)core_status && call_count == count + 1);
     is("within", "another adapter", enip_adapter_tick(another, 1) == ENIP_OK && call_count == count + 2);
+    within_state(adapter);
 }
 
 static int answering(void *context, const enip_asked *asked, enip_reply *reply) {
@@ -900,7 +1038,7 @@ static void serves(void) {
         answered = i % 3 == 0 ? 0 : i % 3 == 1 ? 1 : -1;
         given = (enip_reply){lengths[i / 3], (uint8_t)i, {'r'}};
         is_given = answered == 0 && given.length <= 480;
-        for (core_status = 0; core_status < 20; core_status++) {
+        for (core_status = 0; core_status < 21; core_status++) {
             asked_status = ENIP_OK;
             owner_count = 0;
             status = enip_adapter_serve(adapter, NOW, 7, bytes, 9, buffer, 5000, answering, &owner_count, fed);
@@ -909,15 +1047,18 @@ static void serves(void) {
                status == (answered != 0 ? ENIP_STATE : is_given ? (int)core_status : ENIP_MISUSE));
             is("adapter_serve", "what is asked",
                memcmp(asked_words, (uint64_t[]){WORD(adapter), NOW, 7, WORD(bytes), 9, 500}, 6 * sizeof *words) == 0);
-            if (is_given)
-                is("adapter_serve", "what is fed", strcmp(called, "adapter_feed_prepared") == 0
-                       && memcmp(words, (uint64_t[]){WORD(adapter), NOW, 7, WORD(bytes), 9, i, 'r', given.length, 6,
+            if (!is_given) {
+                is("adapter_serve", "nothing is fed", strcmp(called, "adapter_asked_command") == 0);
+                continue;
+            }
+            is("adapter_serve", "what is fed", strcmp(called, "adapter_feed_prepared") == 0
+                   && memcmp(words, (uint64_t[]){WORD(adapter), NOW, 7, WORD(bytes), 9, i, 'r', given.length, 6,
                                                      WORD(buffer), 5000, WORD(fed)}, 12 * sizeof *words) == 0);
-            else
-                is("adapter_serve", "nothing is fed", strcmp(called, "adapter_tick") == 0);
+            is("adapter_save", "no piece afterwards", enip_adapter_save(adapter, 1, arena, 8, (size_t *)fed)
+                   == (int)core_status && piece_length == 0);
         }
     }
-    for (asked_status = 1; asked_status < 20; asked_status++) {
+    for (asked_status = 1; asked_status < 21; asked_status++) {
         call_count = 0;
         core_status = ENIP_OK;
         is("adapter_serve", "not asked", enip_adapter_serve(adapter, NOW, 7, bytes, 9, buffer, 5000, never, NULL, fed)
@@ -998,6 +1139,7 @@ int main(int count, char **arguments) {
     is("version", "that of the header", strcmp(enip_version(), ENIP_VERSION) == 0);
     frees_wrongly(with_freed);
     places(with_freed);
+    commands(with_freed);
     offsets();
     updates(with_freed);
     values(with_freed);
@@ -1010,6 +1152,7 @@ int main(int count, char **arguments) {
     makes_next();
 #ifdef LAYER
     made();
+    started();
     made_without_memory();
     texts();
 #endif

@@ -12,3 +12,4 @@ pub mod Words
 pub mod Turns
 pub mod Devices
 pub mod ReachingLemmas
+pub mod ExecutingLemmas

@@ -15,4 +15,5 @@ pub mod Laws
 pub mod DoubtLaws
 pub mod Runs
 pub mod Reaching
+pub mod Executing
 pub mod Device

@@ -7,6 +7,7 @@ ghost use Rattle.cip_ledger.specs.Laws.{router_law, passing_law, rising_law, onc
 ghost use Rattle.cip_ledger.specs.Laws.{of_execution_law, others_law, frees_law, executes_law, form_law, life_law};
 ghost use Rattle.cip_ledger.specs.Laws.{lives_law};
 ghost use Rattle.cip_ledger.specs.DoubtLaws.{kept_law, doubt_law, settled_law, settled_once_law, settled_numbers_law};
+ghost use Rattle.cip_ledger.specs.Executing.{doubtable_law};
 ghost use Rattle.cip_ledger.specs.Kept.{restored_law};
 
 use cip_objects::Router;
@@ -108,4 +109,9 @@ pub fn settling_keeps_numbers()
 /// A ledger with as many slots that starts from what is kept of a ledger, its life and its slots, is that ledger.
 pub fn restored_is_kept()
     ensures { restored_law }
+{}
+
+/// A command that a request would execute can be put in doubt, and is in doubt then.
+pub fn executed_can_be_in_doubt()
+    ensures { doubtable_law }
 {}

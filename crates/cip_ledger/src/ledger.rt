@@ -15,6 +15,8 @@ ghost use Rattle.cip_ledger.specs.Verdicts.{action_in, Fits};
 ghost use Rattle.cip_ledger.specs.Views.{command_in, request_in};
 ghost use Rattle.cip_ledger.specs.AttributeValue.{values_in};
 
+mod executing;
+
 use crate::attributes::{Attributes, class_value, write_single};
 use crate::doubt::DoubtfulCommand;
 use crate::reply::{

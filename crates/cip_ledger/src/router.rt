@@ -1,9 +1,11 @@
 //! A router with a ledger before it.
 ghost use Rattle.std.specs.Prelude.{◌≡◌, ◌≤◌, length, [], ◌∷◌, option_map};
+ghost use Rattle.cip_ledger.specs.Executing.{command_of};
 ghost use Rattle.cip_ledger.specs.Reaching.{listed};
 ghost use Rattle.cip_ledger.specs.Runs.{reached};
 ghost use Rattle.cip_ledger.specs.Turn.{turn, turn_of};
 
+use crate::doubt::DoubtfulCommand;
 use crate::ledger::{Ledger, execute_by};
 use crate::request::{LedgerRequest, may_be_to_ledger};
 use crate::slot::KEPT_LIMIT;
@@ -49,6 +51,29 @@ impl<R: Router> LedgerRouter<R> {
             Some(embedded) => Some((embedded, KEPT_LIMIT)),
             None => None,
         }
+    }
+
+    /// The command that would be executed if a request were executed now. `None` if the request is not Do_Once, or if its
+    /// command would be refused or answered by what its slot keeps.
+    ///
+    /// ```
+    /// let command = device.executing(request, 504);
+    /// let index = command.and_then(|c| ledger.doubt_index(c)); // the slot that the command will have
+    /// ```
+    pub fn executing(&self, request: &[u8], max_size: usize) -> Option<DoubtfulCommand>
+        ensures { result ≡ command_of self.now.ledger (max_size, request.now) }
+    {
+        let Some(ledger) = &self.ledger else {
+            return None;
+        };
+        let passes = !may_be_to_ledger(request);
+        if passes {
+            return None;
+        }
+        let Some(own) = LedgerRequest::read(request) else {
+            return None;
+        };
+        ledger.executed_by(own, max_size)
     }
 }
 

@@ -24,6 +24,7 @@ pub mod RootLemmas
 pub mod CauseLemmas
 pub mod DeviceLemmas
 pub mod AskLemmas
+pub mod ExecutingLemmas
 pub mod OwnerLemmas
 pub mod AskedLemmas
 pub mod WrittenLemmas

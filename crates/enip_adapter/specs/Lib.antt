@@ -25,4 +25,5 @@ pub mod Endings
 pub mod EndCauses
 pub mod DeviceRuns
 pub mod Asks
+pub mod Executing
 pub mod OwnerLaws

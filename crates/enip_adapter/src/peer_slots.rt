@@ -7,6 +7,7 @@ ghost use Rattle.std.specs.Option.{option_map};
 ghost use Rattle.std.specs.List.{position};
 ghost use Rattle.enip_adapter.specs.Adapter.{session_in, IsWaiting};
 ghost use Rattle.enip_adapter.specs.Asks.{asks_at, asks_by_seen};
+ghost use Rattle.enip_adapter.specs.Executing.{executing_at, executing_seen};
 ghost use Rattle.enip_adapter.specs.Lookup.{first_with, without_first};
 ghost use Rattle.enip_adapter.specs.PeerSlots.{IsFed, piece_at, handle_of, no_slot_taken, with_slot};
 ghost use Rattle.enip_adapter.specs.Serving.{is_open};
@@ -125,6 +126,8 @@ impl PeerSlots {
         ensures* state { sem 𝓛 (Rests the_row self.entry (λ last. last ≡ self.old)) }
         ensures seen { (next_handle : ℕ) (shared : Shared) → asks_by_seen shared result
             ≡ asks_at self.old.limit next_handle shared self.old.taken handle piece.now }
+        ensures executing { (next_handle : ℕ) (shared : Shared) → executing_seen shared result
+            ≡ executing_at self.old.limit next_handle shared self.old.taken handle piece.now }
     {
         let Some(index) = index_of(&self.taken, handle) else {
             return None;

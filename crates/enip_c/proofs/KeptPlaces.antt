@@ -4,7 +4,7 @@ use Rattle.cip_commander.specs.contracts.commander.Commander as commander
 use Rattle.enip_adapter.specs.contracts.adapter.Adapter as adapter
 use Rattle.enip_adapter.specs.contracts.endings.Endings as endings
 use Rattle.enip_client.specs.contracts.client.Client as client
-use Rattle.enip_c.specs.contracts.kept_adapter.KeptAdapter as kept_adapter
+use Rattle.enip_c.specs.contracts.adapter_pointer.KeptAdapter as kept_adapter
 use Rattle.enip_c.specs.contracts.kept_client.KeptClient as kept_client
 use Rattle.enip_c.specs.contracts.kept_commander.KeptCommander as kept_commander
 use Rattle.enip_c.specs.contracts.kept_endings.KeptEndings as kept_endings

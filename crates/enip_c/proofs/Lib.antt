@@ -3,3 +3,4 @@ pub mod KeptWalks
 pub mod KeptPlaces
 pub mod ClientLemmas
 pub mod CommanderLemmas
+pub mod StateLemmas

@@ -6,3 +6,4 @@ pub mod DeviceCalls
 pub mod OwnerCalls
 pub mod CommanderCalls
 pub mod ExplainCalls
+pub mod StateCalls

@@ -14,8 +14,8 @@ ghost use Rattle.enip_c.specs.Kept.{IsLive};
 ghost use Rattle.cip_objects.specs.Contents.{value_at};
 ghost use Rattle.enip_c.specs.Buffer.{status_number, in_buffer, returned_bytes, ReturnsNumber};
 
+use crate::adapter_pointer::KeptAdapter;
 use crate::buffer::{copy_front, return_bytes};
-use crate::kept_adapter::KeptAdapter;
 use crate::status::Status;
 use enip_adapter::{Adapter, DiscoveryBuffer, Full, LONGEST_ANSWER, NoReplyReason, Peer};
 use enip_config::{LoadFault, adapter_from};

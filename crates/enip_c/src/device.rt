@@ -11,7 +11,7 @@ ghost use Rattle.enip_c.specs.DeviceCalls.{ReturnsEnding, write_status};
 ghost use Rattle.enip_c.specs.Kept.{IsLive};
 ghost use Rattle.enip_c.specs.Buffer.{status_number, ReturnsNumber, IsMadeStatus};
 
-use crate::kept_adapter::KeptAdapter;
+use crate::adapter_pointer::KeptAdapter;
 use crate::kept_endings::KeptEndings;
 use crate::status::Status;
 use enip_adapter::{EndReason, Endings};

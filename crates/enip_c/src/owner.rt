@@ -12,8 +12,8 @@ ghost use Rattle.enip_c.specs.Kept.{IsLive};
 ghost use Rattle.enip_c.specs.Buffer.{status_number};
 
 use crate::adapter::{Fed, return_fed};
+use crate::adapter_pointer::KeptAdapter;
 use crate::buffer::copy_front;
-use crate::kept_adapter::KeptAdapter;
 use crate::status::Status;
 use cip_bytes::protocol::GeneralStatus;
 use cip_owner::{OWNER_REPLY_LIMIT, OwnRequest, OwnerReply};

@@ -68,6 +68,9 @@ pub enum Status {
     /// No command number is left for this originator.
     #[error("no command number is left for this originator")]
     Numbers = 19,
+    /// The saved state is refused.
+    #[error("the saved state is refused")]
+    SavedState = 20,
 }
 
 impl Status {

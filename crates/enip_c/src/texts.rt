@@ -8,6 +8,8 @@ use arrayvec::ArrayString;
 use cip_bytes::StatusText;
 use cip_bytes::protocol::GeneralStatus;
 use enip_adapter::NoReplyReason;
+use saved_adapter::RestoreFault;
+use saved_state::StateFault;
 use std::fmt::{self, Write};
 
 /// The longest text, in bytes.
@@ -41,7 +43,7 @@ impl Kind {
 }
 
 /// The statuses of calls, in the order of their numbers.
-static STATUSES: [Status; 20] = [
+static STATUSES: [Status; 21] = [
     Status::Done,
     Status::Misuse,
     Status::Room,
@@ -62,6 +64,7 @@ static STATUSES: [Status; 20] = [
     Status::Abandoned,
     Status::Wants,
     Status::Numbers,
+    Status::SavedState,
 ];
 
 /// Writes the text of a number of this kind. Returns its length, 0 if there is none or it does not fit.
@@ -77,6 +80,38 @@ pub extern "C" fn enip_core_status_text(kind: u32, number: u32, buffer: &mut [u8
         return 0;
     }
     copy_front(words.as_str().as_bytes(), buffer)
+}
+
+/// Writes why a saved state is refused, by the number of the check, and by the version of the state if that is why. Returns
+/// the length of the text, 0 if there is none or it does not fit.
+#[unsafe(no_mangle)]
+pub extern "C" fn enip_core_state_text(number: u32, version: u32, buffer: &mut [u8]) -> usize
+    ensures { result ≤ length buffer.new }
+{
+    let Some(fault) = restore_fault(number, version) else {
+        return 0;
+    };
+    let mut words = Words::new();
+    if write!(words, "{fault}").is_err() || words.as_str().len() > buffer.len() {
+        return 0;
+    }
+    copy_front(words.as_str().as_bytes(), buffer)
+}
+
+/// The check with this number.
+fn restore_fault(number: u32, version: u32) -> Option<RestoreFault> {
+    Some(match number {
+        1 => RestoreFault::Malformed(StateFault::NotAState),
+        2 => RestoreFault::Malformed(StateFault::Cut),
+        3 => RestoreFault::Malformed(StateFault::Version(version)),
+        4 => RestoreFault::Malformed(StateFault::TooLong),
+        5 => RestoreFault::Malformed(StateFault::Checksum),
+        6 => RestoreFault::Malformed(StateFault::Layout),
+        7 => RestoreFault::Malformed(StateFault::Order),
+        8 => RestoreFault::OtherDevice,
+        13 => RestoreFault::Order,
+        _ => return None,
+    })
 }
 
 /// Writes the text of a number, if it has one.

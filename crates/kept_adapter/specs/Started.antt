@@ -1,5 +1,5 @@
 -- The adapter that starts from what was kept.
-use Rattle.std.specs.Prelude.{ℕ, ◌==◌, Bool, IsTrue, true, false, not, ◌&&◌, ◌||◌, if◌then◌else◌}
+use Rattle.std.specs.Prelude.{ℕ, ◌≡◌, ⊤, ◌==◌, Bool, IsTrue, true, false, not, ◌&&◌, ◌||◌, if◌then◌else◌}
 use Rattle.std.specs.Prelude.{List, [], ◌∷◌, length, Option, Some, None, option_map}
 use Rattle.cip_ledger.specs.Device.{device_of}
 use Rattle.cip_ledger.specs.Ledger.{LedgerState, empty_ledger}
@@ -14,6 +14,8 @@ use Rattle.enip_keep.specs.Kept.{Kept}
 use Rattle.kept_server.specs.Changes.{rise}
 use Rattle.kept_adapter.specs.declared.adapter_start.AdapterStart.{AdapterStart}
 use Rattle.kept_adapter.specs.declared.adapter_start.LedgerStart.{LedgerStart}
+use Rattle.kept_adapter.specs.declared.fault.StartFault.{StartFault}
+use Rattle.kept_adapter.specs.declared.fault.StartFault.TheVariants.{Memory, OtherDevice as Another, Order}
 use Rattle.kept_adapter.specs.declared.progress.Progress.{Progress}
 use Rattle.kept_adapter.specs.Keys.{ledger_key, is_ledger_key, device_key}
 use Rattle.kept_adapter.specs.Saved.{adapter_keys}
@@ -106,6 +108,13 @@ is_refused start kept =
 
 abbrev pub Refuses : AdapterStart → Kept → Type 0
 Refuses start kept = IsTrue (is_refused start kept)
+
+-- When each fault comes.
+abbrev pub IsStartFault : AdapterStart → Kept → StartFault → Type 0
+IsStartFault start kept Memory = ⊤
+IsStartFault start kept Another = (put_back_in start kept).is_other_device ≡ true
+IsStartFault start kept Order =
+    ((put_back_in start kept).is_other_device ≡ false) × (rise (adapter_keys (started start kept)) ≡ false)
 
 -- ---- what is not used
 

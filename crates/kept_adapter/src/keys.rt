@@ -8,7 +8,11 @@ use cip_ledger::LEDGER;
 const LEDGER_KEYS: u64 = 0x1_0000_0000_0000;
 
 /// The key of an entry of the ledger: that of the life is number 0, and those of the slots are numbered from 1.
-pub(crate) fn ledger_key(number: u16) -> u64
+///
+/// ```
+/// let life = ledger_key(0); // 0x1_0065_0000_0000
+/// ```
+pub fn ledger_key(number: u16) -> u64
     ensures key { result ≡ ledger_key number }
     ensures small { result < 2 ^ 63 }
 {

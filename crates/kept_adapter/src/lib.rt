@@ -11,6 +11,7 @@
 
 mod adapter_start;
 mod entry_name;
+mod fault;
 mod keys;
 pub mod laws;
 mod progress;
@@ -19,3 +20,6 @@ mod starting;
 
 pub use adapter_start::{AdapterStart, LedgerStart};
 pub use entry_name::EntryName;
+pub use fault::StartFault;
+pub use keys::ledger_key;
+pub use saving::write_ledger_bytes;

@@ -132,8 +132,14 @@ pub(crate) fn save_ledger_if_any(
     }
 }
 
-/// Writes the content of an entry of the ledger to `bytes`, by the entry's number: that of the life or of a slot.
-fn write_ledger_bytes(objects: &Objects, ledger: &Ledger, number: u16, bytes: &mut ReplyBuf)
+/// Writes the content of an entry of the ledger to `bytes`, in place of its old content, by the entry's number: that of
+/// the life is 0, and those of the slots are numbered from 1. That of a free slot is empty.
+///
+/// ```
+/// let mut bytes = ReplyBuf::new();
+/// write_ledger_bytes(adapter.objects(), ledger, 0, &mut bytes); // the 8 bytes of the life
+/// ```
+pub fn write_ledger_bytes(objects: &Objects, ledger: &Ledger, number: u16, bytes: &mut ReplyBuf)
     ensures { bytes.new.items ≡ ledger_bytes ledger.now number }
 {
     if usize::from(number) > ledger.slot_count() {

@@ -1,13 +1,15 @@
 //! The start of an adapter, and what is kept of it.
-ghost use Rattle.std.specs.Prelude.{◌≡◌, IfOk, refl};
+ghost use Rattle.std.specs.Prelude.{◌≡◌, true, false, IfOk, IfErr, refl};
 ghost use Rattle.cip_objects.specs.Configuration.{contents_of_config};
 ghost use Rattle.enip_keep.specs.Kept.{pairs_of};
+ghost use Rattle.kept_server.specs.Changes.{rise};
 ghost use Rattle.kept_adapter.specs.SameKeys.{keys_stay};
 ghost use Rattle.kept_adapter.specs.Saved.{adapter_keys, saved_adapter};
-ghost use Rattle.kept_adapter.specs.Started.{beginning, configured, new_ledger, put_back_in, started, unused_keys, Refuses};
+ghost use Rattle.kept_adapter.specs.Started.{beginning, configured, new_ledger, put_back_in, started, unused_keys, Refuses, IsStartFault};
 ghost use Rattle.kept_adapter.specs.Started.{started_from};
 
 use crate::adapter_start::AdapterStart;
+use crate::fault::StartFault;
 use crate::progress::Progress;
 use crate::saving::{do_keys_rise, save_ledger_if_any, save_objects};
 use cip_ledger::Ledger;
@@ -37,6 +39,35 @@ impl AdapterStart {
         let ledger = self.new_ledger(alloc)?;
         let keys = Progress::new(objects, ledger).unused_keys(alloc, entries)?;
         Ok(keys)
+    }
+
+    /// Makes the adapter that starts from entries: those of `save`, in its order.
+    ///
+    /// # Errors
+    ///
+    /// `Memory` if memory is refused, `OtherDevice` if the entries are of another device, `Order` if the assemblies or the
+    /// application objects are not configured in rising order.
+    ///
+    /// ```
+    /// let adapter = start.start_from(alloc, &entries)?;
+    /// ```
+    pub fn start_from(&self, alloc: Global, entries: &[Entry]) -> Result<Adapter, StartFault>
+        ensures started { IfOk result (λ a. a ≡ started self.now (pairs_of entries.now)) }
+        ensures rising { IfOk result (λ a. rise (adapter_keys a) ≡ true) }
+        ensures own { IfOk result (λ a. (put_back_in self.now (pairs_of entries.now)).is_other_device ≡ false) }
+        ensures cause { IfErr result (IsStartFault self.now (pairs_of entries.now)) }
+    {
+        let progress = self.put_back(alloc, entries)?;
+        if progress.is_other_device {
+            return Err(StartFault::OtherDevice);
+        }
+        let adapter = self.adapter(alloc, progress)?;
+        let mut saved = Vec::new(alloc);
+        Self::save(alloc, &adapter, &mut saved)?;
+        if !do_keys_rise(&saved) {
+            return Err(StartFault::Order);
+        }
+        Ok(adapter)
     }
 
     /// The objects as they are configured.
@@ -108,17 +139,11 @@ impl KeptDevice for AdapterStart {
     }
 
     fn start(&self, alloc: Global, entries: &[Entry]) -> Result<Adapter, KeepError> {
-        let progress = self.put_back(alloc, entries)?;
-        if progress.is_other_device {
-            return Err(KeepError::Refused);
+        match self.start_from(alloc, entries) {
+            Ok(adapter) => Ok(adapter),
+            Err(StartFault::Memory) => Err(KeepError::Memory),
+            Err(StartFault::OtherDevice | StartFault::Order) => Err(KeepError::Refused),
         }
-        let adapter = self.adapter(alloc, progress)?;
-        let mut saved = Vec::new(alloc);
-        Self::save(alloc, &adapter, &mut saved)?;
-        if !do_keys_rise(&saved) {
-            return Err(KeepError::Refused);
-        }
-        Ok(adapter)
     }
 
     fn save(alloc: Global, adapter: &Adapter, into: &mut Vec<Entry>) -> Result<(), AllocError> {

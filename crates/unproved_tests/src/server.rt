@@ -5,5 +5,6 @@ mod held;
 mod kept;
 mod kept_adapter;
 mod owner;
+mod saved_adapter;
 mod turns;
 mod wires;

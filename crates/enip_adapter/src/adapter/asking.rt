@@ -12,15 +12,17 @@ ghost use Rattle.enip_adapter.specs.Adapter.{feed_output};
 use super::lend;
 use crate::adapter::{Adapter, Fed};
 use crate::asked_head::{copy_asked, lend_asked};
-use crate::commands::asked;
+use crate::commands::{asked, executing};
 use crate::peer::Peer;
 use crate::reply::LONGEST_ANSWER;
+use cip_ledger::DoubtfulCommand;
 use cip_owner::{OwnRequest, Owner, OwnerReply};
 
 impl Adapter {
     ghost use Rattle.enip_adapter.specs.Asks.{asks_of_call, prepared_feed, with_reply};
     ghost use Rattle.enip_adapter.specs.Asks.{after_asking, asking_adapter, owner_after};
     ghost use Rattle.enip_adapter.specs.Calls.{Call, call_meaning, call_answer, after_call};
+    ghost use Rattle.enip_adapter.specs.Executing.{executing};
     ghost use Rattle.enip_adapter.specs.Runs.{after_calls};
     ghost use Rattle.enip_adapter.specs.contracts.adapter.Adapter.{the_row};
 
@@ -54,6 +56,24 @@ impl Adapter {
         let seen = self.places.peek(peer.handle, piece);
         let head = copy_asked(asked(&self.shared, seen), &mut self.reply);
         lend_asked(head, &self.reply)
+    }
+
+    /// The command of the ledger that would be executed if these bytes were fed now: that of the frame which they
+    /// complete. `None` if none would. Nothing changes.
+    ///
+    /// If `asked` returns a request that a numbered command embeds, this is the command. An owner that keeps the ledger
+    /// keeps it with this command in doubt before it executes the request.
+    ///
+    /// ```
+    /// if let Some(command) = adapter.executing(&peer, piece) {
+    ///     keep_in_doubt(&adapter, command); // the originator, and the number
+    /// }
+    /// ```
+    pub fn executing(&mut self, peer: &Peer, piece: &[u8]) -> Option<DoubtfulCommand>
+        ensures state { self.new ≡ self.old }
+        ensures command { result ≡ executing self.old peer.now piece.now }
+    {
+        executing(&self.shared, self.places.peek(peer.handle, piece))
     }
 
     /// Feeds bytes as `feed` does, with the owner's reply to the request that they ask. `None` is answered 0x10, as a

@@ -10,12 +10,14 @@ ghost use Rattle.enip_wire.specs.Bodies.{rr_body_of, unit_body_of};
 ghost use Rattle.enip_wire.specs.Stream.{frame_of};
 ghost use Rattle.enip_adapter.specs.Asks.{request_lent, asks_by_requests, asks_by_seen};
 ghost use Rattle.enip_adapter.specs.DeviceRuns as runs;
+ghost use Rattle.enip_adapter.specs.Executing.{executing_seen};
 ghost use Rattle.enip_adapter.specs.SendRRData.{route_of};
 
 use super::requests::Route;
 use crate::peer::Session;
 use crate::shared::Shared;
 use cip_bytes::protocol::{Command, SEQUENCE_COUNT_SIZE, UNCONNECTED_LIMIT};
+use cip_ledger::DoubtfulCommand;
 use cip_owner::OwnRequest;
 use enip_wire::{FrameView, rr_body, unit_body};
 
@@ -31,6 +33,19 @@ pub(crate) fn asked<'a>(
     let (session, frame) = seen?;
     let (request, max_size) = request_in_frame(shared, session, frame)?;
     asked_by_request(shared, request, max_size)
+}
+
+/// The command of the ledger that would be executed if a peer's whole frame were served. `None` if there is no frame, or
+/// if it has no command that would be executed now.
+pub(crate) fn executing(
+    shared: &Shared,
+    seen: Option<(Session, FrameView<'_>)>,
+) -> Option<DoubtfulCommand>
+    ensures { result ≡ executing_seen shared.now seen.entry }
+{
+    let (session, frame) = seen?;
+    let (request, max_size) = request_in_frame(shared, session, frame)?;
+    shared.objects.executing(request, max_size)
 }
 
 /// What the owner would be asked by a request to the device, whose reply may have `max_size` bytes.

@@ -1,0 +1,72 @@
+-- What the calls for a state return, by what the calls below return.
+use Rattle.std.proofs.Common.{◌≡◌, ℕ, ◌++◌, ◌^◌, List, drop, length, Bool, true, false, not, nat_lt, if◌then◌else◌, Option, Some, None, Result, Ok, Err, refl, sym, ap, ◌∙◌}
+use Rattle.saved_state.specs.declared.fault.StateFault.{StateFault}
+use Rattle.saved_state.specs.declared.fault.WriteFault.{WriteFault}
+use Rattle.saved_state.specs.declared.fault.WriteFault.TheVariants.{Order, TooLong, Full}
+use Rattle.saved_state.specs.States.{Entry, State, size, rise_from, spelled}
+use Rattle.saved_state.specs.Writing.{entries_refusal, write_refusal}
+use Rattle.saved_adapter.specs.Entries.{generation_of}
+use Rattle.enip_c.specs.declared.status.Status.TheVariants as status
+use Rattle.enip_c.specs.Buffer.{Returned, returned, status_number}
+use Rattle.enip_c.specs.StateCalls.{generation_by, returned_state, state_by}
+
+-- no state has these entries
+pub not_saved : (entries : List Entry) (generation count : ℕ) (buffer : List ℕ) (fault : WriteFault)
+    → entries_refusal entries ≡ Some fault
+    → returned status.State count buffer ≡ returned_state entries generation count buffer
+not_saved entries generation count buffer fault e =
+    go (rise_from 0 entries) (nat_lt (size entries) (2 ^ 32)) (nat_lt (length buffer) (size entries)) e
+  where
+    go : (rises few short : Bool)
+        → (if not rises then Some Order else (if few then None else Some TooLong)) ≡ Some fault
+        → returned status.State count buffer
+        ≡ state_by (if not rises then Some Order else (if not few then Some TooLong else (if short then Some Full else None)))
+        entries generation count buffer
+    go false few short e = refl
+    go true false short e = refl
+    go true true short e = absurd (cc)
+
+-- it does not fit
+pub not_written : (entries : List Entry) (generation count : ℕ) (buffer : List ℕ) (fault : WriteFault)
+    → entries_refusal entries ≡ None → write_refusal (length buffer) entries ≡ Some fault
+    → returned status.Room (size entries) buffer ≡ returned_state entries generation count buffer
+not_written entries generation count buffer fault can e =
+    go (rise_from 0 entries) (nat_lt (size entries) (2 ^ 32)) (nat_lt (length buffer) (size entries)) can e
+  where
+    go : (rises few short : Bool)
+        → (if not rises then Some Order else (if few then None else Some TooLong)) ≡ None
+        → (if not rises then Some Order else (if not few then Some TooLong else (if short then Some Full else None)))
+        ≡ Some fault
+        → returned status.Room (size entries) buffer
+        ≡ state_by (if not rises then Some Order else (if not few then Some TooLong else (if short then Some Full else None)))
+        entries generation count buffer
+    go false few short can e = absurd (cc)
+    go true false short can e = absurd (cc)
+    go true true true can e = refl
+    go true true false can e = absurd (cc)
+
+-- it is written
+pub is_written : (entries : List Entry) (generation count n : ℕ) (buffer new : List ℕ)
+    → write_refusal (length buffer) entries ≡ None → n ≡ size entries
+    → new ≡ spelled (record { generation = generation; entries = entries }) ++ drop n buffer
+    → returned status.Done (size entries) new ≡ returned_state entries generation count buffer
+is_written entries generation count n buffer new can e is =
+    ap (returned status.Done (size entries))
+    (is ∙ ap (λ k. spelled (record { generation = generation; entries = entries }) ++ drop k buffer) e)
+    ∙ ap (λ r. state_by r entries generation count buffer) (sym can)
+
+-- ---- the generation
+
+pub is_generation : (last : Result State StateFault) (entries : List Entry) (old new : ℕ)
+    → Ok new ≡ generation_of last entries → generation_by last entries old new (status_number status.Done)
+is_generation (Ok s) entries old new e = (refl, same_ok new _ e)
+  where
+    same_ok : (a b : ℕ) → ◌≡◌ {A = Result ℕ StateFault} (Ok a) (Ok b) → a ≡ b
+    same_ok a b e = cc
+is_generation (Err fault) entries old new e = absurd (cc)
+
+pub no_generation : (last : Result State StateFault) (entries : List Entry) (old : ℕ) (fault : StateFault)
+    → Err fault ≡ generation_of last entries
+    → generation_by last entries old old (status_number status.SavedState)
+no_generation (Ok s) entries old fault e = absurd (cc)
+no_generation (Err other) entries old fault e = (refl, refl)

@@ -1,0 +1,4 @@
+pub mod EntryLemmas
+pub mod SameLemmas
+pub mod MarkLemmas
+pub mod ReadLemmas

@@ -1,0 +1,44 @@
+-- A ledger with a command in doubt, entry by entry.
+use Rattle.std.proofs.Common.{◌≡◌, ℕ, zero, suc, ◌+◌, ◌==◌, Bool, true, false, if◌then◌else◌, Option, Some, None, refl, sym, ap, ◌∙◌, arith}
+use Rattle.std.specs.Prelude.{slice_get}
+use Rattle.std.proofs.lemmas.Bool.{eq-eqb, ne_eqb}
+use Rattle.cip_bytes.specs.Numbers.{le}
+use Rattle.cip_ledger.specs.declared.doubt.DoubtfulCommand.{DoubtfulCommand}
+use Rattle.cip_ledger.specs.Doubt.{can_doubt, doubted, with_last}
+use Rattle.cip_ledger.specs.Executing.{doubted_by, doubtful, IsDoubtedAt}
+use Rattle.cip_ledger.specs.Ledger.{SlotState, LedgerState}
+use Rattle.device_state.specs.Saved.{slot_bytes}
+use Rattle.kept_adapter.specs.Saved.{ledger_bytes, bytes_of_slot}
+use Rattle.saved_adapter.specs.Entries.{IsMarkedAt}
+
+-- the life stays
+same_life : (ledger : LedgerState) (command : DoubtfulCommand)
+    → (doubted ledger command.originator command.number).life ≡ ledger.life
+same_life ledger command = go (can_doubt ledger command.originator command.number)
+  where
+    go : (can : Bool)
+        → (if can then with_last command.originator command.number None ledger else ledger).life ≡ ledger.life
+    go true = refl
+    go false = refl
+
+pub marked_slot : (ledger : LedgerState) (command : DoubtfulCommand) (index number : ℕ)
+    → IsMarkedAt ledger (Some command) (Some index) → number ≡ index + 1
+    → slot_bytes (doubtful command) ≡ ledger_bytes (doubted_by (Some command) ledger) number
+marked_slot ledger command index zero marked n = absurd (omega (arith, n))
+marked_slot ledger command index (suc at) marked n =
+    let same : at ≡ index = omega (arith, n) in
+    sym (ap bytes_of_slot (marked at
+    ∙ ap (λ b. if b then Some (doubtful command) else slice_get ledger.taken at) (eq-eqb at index same)))
+
+pub other_slot : (ledger : LedgerState) (command : DoubtfulCommand) (index number : ℕ)
+    → IsMarkedAt ledger (Some command) (Some index) → (number ≡ index + 1 → ⊥)
+    → ledger_bytes ledger number ≡ ledger_bytes (doubted_by (Some command) ledger) number
+other_slot ledger command index zero marked n = ap (le 8) (sym (same_life ledger command))
+other_slot ledger command index (suc at) marked n =
+    let other : at ≡ index → ⊥ = λ e. n (omega (arith, e)) in
+    sym (ap bytes_of_slot (marked at
+    ∙ ap (λ b. if b then Some (doubtful command) else slice_get ledger.taken at) (ne_eqb at index other)))
+
+pub no_slot : (ledger : LedgerState) (command : DoubtfulCommand) (number : ℕ) → IsMarkedAt ledger (Some command) None
+    → ledger_bytes ledger number ≡ ledger_bytes (doubted_by (Some command) ledger) number
+no_slot ledger command number marked = ap (λ l. ledger_bytes l number) (sym marked)

@@ -1,0 +1,113 @@
+//! The entries of an adapter.
+
+ghost use Rattle.std.specs.Prelude.{◌≡◌, length, slice_get};
+ghost use Rattle.kept_adapter.specs.Saved.{saved_objects};
+ghost use Rattle.saved_adapter.specs.Entries.{entries_in_doubt, entry_in};
+
+use crate::marked::MarkedLedger;
+use cip_ledger::{DoubtfulCommand, MOST_ORIGINATORS};
+use cip_objects::{Objects, ReplyBuf};
+use device_state::saved_entry;
+use enip_adapter::Adapter;
+use kept_adapter::ledger_key;
+use saved_state::{EntryHead, EntrySource};
+use std::marker::Model;
+
+/// The entries in which an adapter is kept: those of `kept_adapter`, with a command of its ledger in doubt if there is one.
+///
+/// ```
+/// let size = saved_size(&AdapterEntries::new(&adapter, None))?;
+/// ```
+#[derive(Drop)]
+pub struct AdapterEntries<'a> {
+    objects: &'a Objects,
+    ledger: Option<MarkedLedger<'a>>,
+    /// How many entries come before those of the ledger.
+    values: usize,
+}
+
+impl<'a> Model for AdapterEntries<'a> {
+    ghost use Rattle.std.specs.Prelude.{◌≡◌, List, length};
+    ghost use Rattle.std.specs.Coded.{coded_list};
+    ghost use Rattle.kept_adapter.specs.Saved.{saved_objects, saved_device};
+    ghost use Rattle.saved_state.specs.States.{Entry, entry_code};
+    ghost use Rattle.saved_adapter.specs.Entries.{entries_of};
+
+    ghost Value = { List Entry };
+
+    ghost coded = { coded_list entry_code };
+
+    ghost view = { λ s. entries_of (saved_device s.objects.now s.ledger) };
+
+    ghost invariant = { λ s. s.values ≡ length (saved_objects s.objects.now) };
+}
+
+impl<'a> AdapterEntries<'a> {
+    /// The entries of an adapter. If there is a command in `doubt`, it is in doubt in the ledger, if that can put it in
+    /// doubt (`Ledger::put_in_doubt`).
+    pub fn new(adapter: &'a Adapter, doubt: Option<DoubtfulCommand>) -> AdapterEntries<'a>
+        ensures { result ≡ entries_in_doubt doubt adapter.now }
+    {
+        let objects = adapter.objects();
+        let ledger = match adapter.ledger() {
+            Some(ledger) => Some(MarkedLedger::new(ledger, doubt)),
+            None => None,
+        };
+        AdapterEntries {
+            objects,
+            ledger,
+            values: value_count(objects),
+        }
+    }
+
+    /// The key of the entry at an index, and its bytes, which are written to `bytes` in place of the old content. `None`
+    /// past the last entry.
+    pub(crate) fn entry(&self, index: usize, bytes: &mut ReplyBuf) -> Option<u64>
+        ensures { entry_in result bytes.new.items ≡ slice_get self.now index }
+    {
+        if index < self.values {
+            return saved_entry(self.objects, None, index, bytes);
+        }
+        let number = index - self.values;
+        if number > usize::from(MOST_ORIGINATORS) {
+            return None;
+        }
+        let Some(ledger) = &self.ledger else {
+            return None;
+        };
+        ledger.write(self.objects, number as u16, bytes);
+        Some(ledger_key(number as u16))
+    }
+}
+
+impl EntrySource for AdapterEntries<'_> {
+    ghost entries = { λ s. s };
+
+    fn head(&self, index: usize) -> Option<EntryHead> {
+        let mut bytes = ReplyBuf::new();
+        let key = self.entry(index, &mut bytes)?;
+        Some(EntryHead {
+            key,
+            len: bytes.len(),
+        })
+    }
+
+    fn copy(&self, index: usize, into: &mut [u8]) {
+        let mut bytes = ReplyBuf::new();
+        if self.entry(index, &mut bytes).is_some() {
+            into.copy_from_slice(&bytes);
+        }
+    }
+}
+
+/// How many entries the objects have.
+fn value_count(objects: &Objects) -> usize
+    ensures { result ≡ length (saved_objects objects.now) }
+{
+    let mut bytes = ReplyBuf::new();
+    let mut count = 0;
+    while saved_entry(objects, None, count, &mut bytes).is_some() {
+        count += 1;
+    }
+    count
+}

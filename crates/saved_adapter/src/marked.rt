@@ -1,0 +1,82 @@
+//! A ledger with a command in doubt.
+
+ghost use Rattle.std.specs.Prelude.{◌≡◌, None};
+ghost use Rattle.cip_ledger.specs.Executing.{doubted_by, doubtful};
+ghost use Rattle.device_state.specs.Saved.{slot_bytes};
+ghost use Rattle.kept_adapter.specs.Saved.{ledger_bytes};
+ghost use Rattle.saved_adapter.specs.Entries.{IsMarkedAt};
+
+use cip_bytes::{append, append_u8, append_u32};
+use cip_ledger::{DoubtfulCommand, Ledger};
+use cip_objects::{Objects, ReplyBuf};
+use kept_adapter::write_ledger_bytes;
+use std::marker::Model;
+
+/// The state of a command that is in doubt.
+const IN_DOUBT: u8 = 2;
+
+/// A ledger as it is with a command in doubt, if there is one. The ledger itself does not change.
+#[derive(Drop)]
+pub(crate) struct MarkedLedger<'a> {
+    ledger: &'a Ledger,
+    doubt: Option<DoubtfulCommand>,
+    index: Option<usize>,
+}
+
+impl<'a> Model for MarkedLedger<'a> {
+    ghost use Rattle.cip_ledger.specs.Ledger.{LedgerState};
+    ghost use Rattle.cip_ledger.specs.Executing.{doubted_by};
+    ghost use Rattle.saved_adapter.specs.Entries.{IsMarkedAt};
+
+    ghost Value = { LedgerState };
+
+    ghost view = { λ m. doubted_by m.doubt m.ledger.now };
+
+    ghost invariant = { λ m. IsMarkedAt m.ledger.now m.doubt m.index };
+}
+
+impl<'a> MarkedLedger<'a> {
+    /// The ledger with this command in doubt.
+    pub(crate) fn new(ledger: &'a Ledger, doubt: Option<DoubtfulCommand>) -> MarkedLedger<'a>
+        ensures { result ≡ doubted_by doubt ledger.now }
+    {
+        let index = index_of(ledger, doubt);
+        MarkedLedger {
+            ledger,
+            doubt,
+            index,
+        }
+    }
+
+    /// Writes the content of an entry by its number, as `write_ledger_bytes` does.
+    pub(crate) fn write(&self, objects: &Objects, number: u16, bytes: &mut ReplyBuf)
+        ensures { bytes.new.items ≡ ledger_bytes self.now number }
+    {
+        match (self.doubt, self.index) {
+            (Some(command), Some(index)) if usize::from(number) == index + 1 => {
+                write_doubtful(command, bytes);
+            }
+            _ => write_ledger_bytes(objects, self.ledger, number, bytes),
+        }
+    }
+}
+
+/// Where a command would be in doubt.
+fn index_of(ledger: &Ledger, doubt: Option<DoubtfulCommand>) -> Option<usize>
+    ensures { IsMarkedAt ledger.now doubt result }
+{
+    match doubt {
+        Some(command) => ledger.doubt_index(command),
+        None => None,
+    }
+}
+
+/// Writes the slot of a command in doubt to `bytes`, in place of its old content.
+fn write_doubtful(command: DoubtfulCommand, bytes: &mut ReplyBuf)
+    ensures { bytes.new.items ≡ slot_bytes (doubtful command) }
+{
+    bytes.clear();
+    append(bytes, &command.originator.to_le_bytes());
+    append_u32(bytes, command.number);
+    append_u8(bytes, IN_DOUBT);
+}
