@@ -4,8 +4,9 @@
 //! than 80 columns.
 
 use crate::texts::{
-    ABANDON_DETAILS, COUNT_DETAILS, EVERY_DETAILS, ONCE_DETAILS, PENDING_DETAILS,
-    PRINTED_TYPE_DETAILS, TRIES_DETAILS, WAIT_DETAILS, WRITTEN_TYPE_DETAILS,
+    ABANDON_DETAILS, ACCEPT_OLDER_DETAILS, COUNT_DETAILS, EVERY_DETAILS, KEEP_DETAILS,
+    KEPT_FILE_DETAILS, ONCE_DETAILS, PENDING_DETAILS, PRINTED_TYPE_DETAILS, TRIES_DETAILS,
+    WAIT_DETAILS, WRITTEN_TYPE_DETAILS,
 };
 use clap::{Arg, ArgAction, value_parser};
 use std::alloc::{AllocError, Global};
@@ -21,6 +22,9 @@ pub(crate) enum Argument {
     IdleTimeout,
     Discovery,
     Log,
+    Keep,
+    KeptFile,
+    AcceptOlder,
     DeviceAddress,
     NetworkAddress,
     Class,
@@ -62,6 +66,9 @@ impl Argument {
             Argument::IdleTimeout => idle_timeout(alloc),
             Argument::Discovery => discovery(alloc),
             Argument::Log => log(alloc),
+            Argument::Keep => keep(alloc, KEEP_DETAILS),
+            Argument::KeptFile => keep(alloc, KEPT_FILE_DETAILS),
+            Argument::AcceptOlder => accept_older(alloc)?,
             Argument::DeviceAddress => device_address(alloc),
             Argument::NetworkAddress => network_address(alloc),
             Argument::Class => class(alloc).required(true),
@@ -164,6 +171,23 @@ fn log<'a>(alloc: Global) -> Arg<'a> {
         .long("log")
         .action(ArgAction::SetTrue)
         .help("Log connections and frames to standard error")
+}
+
+fn keep<'a>(alloc: Global, details: &'static str) -> Arg<'a> {
+    Arg::new(alloc, "keep")
+        .long("keep")
+        .value_name("FILE")
+        .help("File that keeps the state of the device over restarts")
+        .long_help(details)
+}
+
+fn accept_older<'a>(alloc: Global) -> Result<Arg<'a>, AllocError> {
+    Arg::new(alloc, "accept-older")
+        .long("accept-older")
+        .action(ArgAction::SetTrue)
+        .hide_short_help(true)
+        .help(ACCEPT_OLDER_DETAILS)
+        .requires_arg("keep")
 }
 
 fn device_address<'a>(alloc: Global) -> Arg<'a> {

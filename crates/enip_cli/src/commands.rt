@@ -45,6 +45,8 @@ static COMMANDS: [Row; 11] = [
             Argument::IdleTimeout,
             Argument::Discovery,
             Argument::Log,
+            Argument::Keep,
+            Argument::AcceptOlder,
         ],
     },
     Row {
@@ -53,7 +55,7 @@ static COMMANDS: [Row; 11] = [
         usage: None,
         examples: EXAMPLES_CHECK,
         details: DETAILS_CHECK,
-        arguments: &[Argument::Config],
+        arguments: &[Argument::Config, Argument::KeptFile],
     },
     Row {
         name: "get",

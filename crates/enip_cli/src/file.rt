@@ -1,9 +1,11 @@
 //! Files that arguments name. A name may be any bytes that the system accepts, UTF-8 or not.
 
+ghost use Rattle.std.specs.Prelude.{◌≤◌, length, IfOk};
+
 use crate::command_line::OsArg;
 use std::alloc::Global;
 use std::convert::AsStr;
-use std::io::{self, Read, Write};
+use std::io::{self, ErrorKind, Read, Write};
 
 /// The bytes of the name of a file that an argument names. `text` is the argument as text.
 fn file_name<'a>(args: &'a [OsArg], text: &'a str) -> &'a [u8] {
@@ -46,6 +48,19 @@ pub fn read_file(alloc: Global, args: &[OsArg], text: &str) -> io::Result<Vec<u8
 /// Whether there is a file of this name, of whatever kind.
 pub fn exists(name: &[u8]) -> bool {
     File::open(name).is_ok()
+}
+
+/// Whether there is a file of this name. It can be read and written.
+///
+/// # Errors
+///
+/// That of the system, if there is something of this name that cannot be read and written.
+pub fn can_update(name: &[u8]) -> io::Result<bool> {
+    match File::open_to_update(name) {
+        Ok(_) => Ok(true),
+        Err(error) if error.kind() == ErrorKind::NotFound => Ok(false),
+        Err(error) => Err(error),
+    }
 }
 
 /// The descriptors of the standard streams are below this one.
@@ -122,6 +137,29 @@ impl File {
     /// Takes the lock of the file, which ends with this value. `WouldBlock` if another process holds it.
     pub(crate) fn try_lock(&self) -> io::Result<()> {
         checked(libc::flock(self.descriptor, libc::LOCK_EX | libc::LOCK_NB))
+    }
+
+    /// Reads the front of the file. Returns how many bytes it has, if they are fewer than the slice takes.
+    pub(crate) fn read_at_start(&self, into: &mut [u8]) -> io::Result<usize>
+        ensures { IfOk result (λ count. count ≤ length into.new) }
+    {
+        let count = libc::pread(self.descriptor, into, 0);
+        if count < 0 {
+            return Err(io::Error::from_raw_os_error(os::errno()));
+        }
+        Ok(count as usize)
+    }
+
+    /// Replaces the front of the file, and waits until that has reached the disk.
+    pub(crate) fn write_at_start(&self, bytes: &[u8]) -> io::Result<()> {
+        let count = libc::pwrite(self.descriptor, bytes, 0);
+        if count < 0 {
+            return Err(io::Error::from_raw_os_error(os::errno()));
+        }
+        if count as usize != bytes.len() {
+            return Err(io::Error::from(ErrorKind::WriteZero));
+        }
+        checked(libc::fdatasync(self.descriptor))
     }
 
     /// Waits until what was written has reached the disk.

@@ -6,11 +6,13 @@ mod command_line;
 mod commands;
 mod file;
 mod locked_file;
+mod round_file;
 mod seconds;
 mod texts;
 
 pub use command_line::{OsArg, os_args};
 pub use commands::{PROGRAM, program};
-pub use file::{arguments_after, exists, option_file_name, read_file, reserve_streams};
+pub use file::{arguments_after, can_update, exists, option_file_name, read_file, reserve_streams};
 pub use locked_file::LockedFile;
+pub use round_file::{LastRound, RoundFile};
 pub use seconds::microseconds_of;

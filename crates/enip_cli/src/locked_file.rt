@@ -74,7 +74,7 @@ impl LockedFile {
 }
 
 /// A name with all its symbolic links resolved. If there is no such file, the name itself.
-fn resolved(alloc: Global, name: &[u8]) -> Result<Vec<u8>, AllocError> {
+pub(crate) fn resolved(alloc: Global, name: &[u8]) -> Result<Vec<u8>, AllocError> {
     let mut path = [0; libc::PATH_MAX];
     let found = os::realpath(name, &mut path) == 0;
     let mut resolved = Vec::new(alloc);
@@ -86,7 +86,11 @@ fn resolved(alloc: Global, name: &[u8]) -> Result<Vec<u8>, AllocError> {
     Ok(resolved)
 }
 
-fn with_suffix(alloc: Global, name: &[u8], suffix: &[u8]) -> Result<Vec<u8>, AllocError> {
+pub(crate) fn with_suffix(
+    alloc: Global,
+    name: &[u8],
+    suffix: &[u8],
+) -> Result<Vec<u8>, AllocError> {
     let mut longer = Vec::new(alloc);
     longer.extend_from_slice(name)?;
     longer.extend_from_slice(suffix)?;
@@ -94,7 +98,7 @@ fn with_suffix(alloc: Global, name: &[u8], suffix: &[u8]) -> Result<Vec<u8>, All
 }
 
 /// The folder that a file is in.
-fn folder_of(name: &[u8]) -> &[u8] {
+pub(crate) fn folder_of(name: &[u8]) -> &[u8] {
     match name.iter().rposition(|byte| *byte == b'/') {
         None => b".",
         Some(0) => b"/",

@@ -21,6 +21,8 @@ before it starts with `enip: ` and gives the reason.
   2  life               --once: the device has restarted since the pending
                         command was sent
   3  configuration N    the configuration is refused
+  3  state              --keep: FILE is not the kept state of this device, or is
+                        damaged, or older than it was
   4  line N             line N of the input or the script is refused; the lines
                         before it were run. --once: line N of FILE is refused
   5  device             a file, a stream or the network failed, or the device
@@ -466,6 +468,22 @@ REAL                     a decimal number, with or without exponent,
                          inf, -inf or NaN
 SHORT_STRING             up to 255 characters; \\xNN is a byte, \\\\ a
                          backslash";
+
+pub(crate) const KEEP_DETAILS: &str = "\
+Keep the state of the device in FILE, an SQLite database, over restarts
+and power cuts: what clients have set, the counter and the command
+ledger. No answer leaves before the change that it reports is kept.
+FILE is created if there is none. FILE-wal and FILE.round are files next
+to it: move them together";
+
+pub(crate) const KEPT_FILE_DETAILS: &str = "\
+Print also what a device would start with that keeps its state in FILE.
+FILE is not changed";
+
+pub(crate) const ACCEPT_OLDER_DETAILS: &str = "\
+With --keep, start even if FILE is damaged or older than FILE.round says.
+The command ledger then begins a new life, so that no pending command is
+executed twice";
 
 pub(crate) const ONCE_DETAILS: &str = "\
 Execute the command once, even if connections are lost. The device

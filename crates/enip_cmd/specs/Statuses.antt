@@ -13,11 +13,12 @@ use Rattle.enip_commands.specs.Statuses.{exit_status as run_status, request_fail
 use Rattle.enip_commands.specs.Once.{once_refusal_status}
 use Rattle.enip_cmd.specs.declared.fault.Fault.{Fault}
 use Rattle.enip_cmd.specs.declared.fault.Fault.TheVariants.{Configuration as Refused, Setup, Run, Value}
-use Rattle.enip_cmd.specs.declared.fault.Fault.TheVariants.{Once, CommandFile, Request}
+use Rattle.enip_cmd.specs.declared.fault.Fault.TheVariants.{Once, CommandFile, Request, State}
 
 -- The exit status of a fault.
 abbrev pub exit_status : Fault → ℕ
 exit_status (Refused check) = 3
+exit_status State = 3
 exit_status Setup = 6
 exit_status Value = 2
 exit_status (Once refusal) = once_refusal_status refusal

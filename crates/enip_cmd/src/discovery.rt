@@ -2,8 +2,8 @@
 
 use crate::observer::Observer;
 use crate::readiness::Readiness;
+use crate::serving::Serving;
 use enip_adapter::DiscoveryBuffer;
-use enip_server::Peers;
 use mio::net::UdpSocket;
 use std::alloc::{AllocError, Global};
 
@@ -46,9 +46,9 @@ impl Discovery {
 
     /// Reads one datagram, if there is one, and sends the answer to its sender. An answer that cannot be sent is dropped.
     /// `now` is in microseconds.
-    pub(crate) fn answer_one<O: Observer>(
+    pub(crate) fn answer_one<O: Observer, S: Serving<O::Wire>>(
         &mut self,
-        peers: &Peers<O::Wire>,
+        peers: &S,
         observer: &O,
         now: u64,
     ) {

@@ -28,6 +28,9 @@ pub enum Fault {
     /// A command that is executed once is not sent.
     #[error("{0}")]
     Once(OnceRefusal),
+    /// The file of `--keep` is refused.
+    #[error("state")]
+    State,
     /// A line of a command file is refused: its number, from 1.
     #[error("line {0}")]
     CommandFile(u64),
@@ -44,7 +47,7 @@ impl Fault {
         match self {
             Fault::Value => 2,
             Fault::Once(refusal) => refusal.exit_status(),
-            Fault::Configuration(_) => 3,
+            Fault::Configuration(_) | Fault::State => 3,
             Fault::Setup => ReplayFailure::Setup.exit_status(),
             Fault::CommandFile(_) => 4,
             Fault::Run(fault) => fault.exit_status(),

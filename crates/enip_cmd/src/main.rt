@@ -1,8 +1,6 @@
 //! `enip`: an EtherNet/IP adapter and explicit messaging client on the command line.
 #![tactic(auto)]
 
-ghost use Rattle.std.specs.Prelude.{◌≡◌, ◌<◌, ◌*◌, ◌-◌, ◌^◌};
-
 mod acceptor;
 pub mod answer;
 mod argument_error;
@@ -13,6 +11,8 @@ pub mod fault;
 mod frame_log;
 mod frame_summary;
 mod host_port;
+mod keeping;
+mod kept_file;
 mod listing;
 mod logged_wire;
 mod named_file;
@@ -27,6 +27,8 @@ pub mod report;
 mod request;
 mod retry;
 pub mod serve;
+mod serve_command;
+mod serving;
 pub mod show;
 pub mod socket;
 mod wire;
@@ -36,36 +38,25 @@ use argument_error::ArgumentError;
 use checking::print_device;
 use clap::ArgMatches;
 use clap::error::ErrorKind;
-use enip_adapter::Adapter;
 use enip_cli::{OsArg, PROGRAM, arguments_after, os_args, program, reserve_streams};
 use enip_client::ListCommand;
-use enip_server::NO_IDLE_TIMEOUT;
 use error_keeping::ErrorKeeping;
 use fault::Fault;
-use frame_log::FrameLog;
-use host_port::{HostPort, Timeout};
+use host_port::Timeout;
 use listing::{run_discovery, run_list};
-use mio::net::UdpSocket;
 use named_file::{NamedFile, error_of_run};
-use observer::NoObserver;
 use once::{OnceOptions, run_once};
 use polling::{PollOptions, run_polling};
-use reason::{CLOCK, CommandError, Reason};
+use reason::{CommandError, Reason};
 use replay::{draw, replay};
 use report::Reported;
 use request::{Device, Request, run_request};
-use serve::{ServeOptions, Sockets, serve_connections};
+use serve_command::run_serve;
 use show::show;
-use std::io;
-use std::net::TcpListener;
 use std::process::ExitCode;
-use std::time::{Instant, UNIX_EPOCH};
 
 /// The exit status if the arguments are refused.
 const ARGUMENTS_REFUSED: u8 = 2;
-
-/// The microseconds of a second.
-const SECOND: u64 = 1_000_000;
 
 /// Common services. (Volume 1, common services.)
 const GET_ATTRIBUTES_ALL: u8 = 0x01;
@@ -283,105 +274,6 @@ fn command_of<'a, 'm>(
 fn print_argument_error(rt: &HostRuntime, error: ArgumentError<'_>) -> u8 {
     let _ = eprintln!(rt; "error: {error}\n\nFor more information, try '--help'.");
     ARGUMENTS_REFUSED
-}
-
-/// `enip serve`.
-fn run_serve<'a>(
-    rt: &HostRuntime,
-    args: &[OsArg],
-    matches: &ArgMatches<'a>,
-) -> Result<u8, CommandError<'a>> {
-    // Without --count there is no end: more connections than there can be.
-    let count = matches.get_one::<u16>("count").map_or(u64::MAX, u64::from);
-    let Some(seconds) = matches.get_one("idle") else {
-        return Ok(ARGUMENTS_REFUSED);
-    };
-    let idle_timeout = idle_timeout_of(seconds);
-    let config = NamedFile::read(rt.alloc(), args, matches, "CONFIG")?;
-    let adapter = adapter_to_serve(rt, &config)?;
-    let address = HostPort::parse(matches.get_str("ADDRESS").unwrap_or(""))?;
-    let sockets = bind(rt, address, matches.get_flag("discovery"))?;
-    print_listening(rt, &sockets).map_err(|error| CommandError::of_system(ERRORS, error))?;
-    let options = ServeOptions {
-        count,
-        idle_timeout,
-    };
-    let served = if matches.get_flag("log") {
-        let start = Instant::now(rt).map_err(|error| CommandError::of_system(CLOCK, error))?;
-        let log = FrameLog::new(rt, rt.alloc(), start);
-        serve_connections(rt, rt.alloc(), sockets, adapter, options, &log)
-    } else {
-        serve_connections(rt, rt.alloc(), sockets, adapter, options, NoObserver)
-    };
-    match served {
-        Ok(()) => Ok(0),
-        Err(enip_commands::ProgramFault::Memory) => Err(CommandError::of_memory()),
-        Err(_) => Err(CommandError::of_reason(Reason::Failed(address.text()))),
-    }
-}
-
-/// The adapter of a configuration whose device needs no owner. A command ledger gets another life with each start,
-/// because it is empty then.
-fn adapter_to_serve<'a>(
-    rt: &HostRuntime,
-    config: &NamedFile<'a>,
-) -> Result<Adapter, CommandError<'a>> {
-    let configuration = config.configuration_to_serve(rt.alloc())?;
-    if configuration.ledger.is_none() {
-        return config.adapter(rt.alloc());
-    }
-    let life = life_now(rt).map_err(|error| CommandError::of_system(CLOCK, error))?;
-    config.adapter_in_life(rt.alloc(), life)
-}
-
-/// The number of a life that starts now: the microseconds of the wall clock since 1970 (ours).
-fn life_now(rt: &HostRuntime) -> io::Result<u64> {
-    let age = UNIX_EPOCH.elapsed(rt)?;
-    Ok(u64::try_from(age.as_micros()).unwrap_or(u64::MAX))
-}
-
-/// Prints the address at which the device listens.
-fn print_listening(rt: &HostRuntime, sockets: &Sockets) -> io::Result<()> {
-    let listening = sockets.listener.local_addr()?;
-    eprintln!(rt; "listening on {listening}")
-}
-
-/// The idle timeout of so many seconds, in microseconds. 0 is no limit.
-fn idle_timeout_of(seconds: u16) -> u64
-    ensures limit { 0 < seconds → result ≡ seconds * 1_000_000 }
-    ensures no_limit { seconds ≡ 0 → result ≡ 2 ^ 64 - 1 }
-{
-    match seconds {
-        0 => NO_IDLE_TIMEOUT,
-        _ => u64::from(seconds) * SECOND,
-    }
-}
-
-/// Binds the sockets of a device to an address, with discovery one for datagrams too.
-fn bind<'a>(
-    rt: &HostRuntime,
-    address: HostPort<'a>,
-    discovery: bool,
-) -> Result<Sockets, CommandError<'a>> {
-    let listener = address.bind(rt)?;
-    sockets_of(rt, listener, discovery).map_err(|error| CommandError::of_system(
-        address.text(),
-        error,
-    ))
-}
-
-/// The sockets of a device that listens, with discovery one for datagrams at the same address too.
-fn sockets_of(rt: &HostRuntime, listener: TcpListener, discovery: bool) -> io::Result<Sockets> {
-    listener.set_nonblocking(true)?;
-    let bound = listener.local_addr()?;
-    let mut datagrams = None;
-    if discovery {
-        datagrams = Some(UdpSocket::bind(rt, bound)?);
-    }
-    Ok(Sockets {
-        listener: mio::net::TcpListener::from_std(listener),
-        datagrams,
-    })
 }
 
 /// Parses the command line, and runs its command. Returns the exit status.

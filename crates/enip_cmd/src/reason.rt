@@ -101,6 +101,24 @@ pub(crate) enum Reason<'a> {
     /// The device does not know whether it executed the command.
     #[error("{0}: the device does not know whether it executed the command, and its owner has to settle that")]
     InDoubt(&'a str),
+    /// The name of the file is no text.
+    #[error("{0}: the name is not UTF-8")]
+    NotText(&'a str),
+    /// The file is no state, or is damaged.
+    #[error("{0}: not the state of a device, or damaged")]
+    NotAState(&'a str),
+    /// The state is that of another device.
+    #[error("{0}: the state of another device (vendor, product code or serial number)")]
+    OtherDevice(&'a str),
+    /// The state lacks so many of the last rounds.
+    #[error("{0}: older than it was: the last {1} changes are missing (see --accept-older)")]
+    Older(&'a str, u64),
+    /// `FILE.round` is missing or damaged.
+    #[error("{0}: {0}.round is missing or damaged, so the state may be older than it was (see --accept-older)")]
+    NoLastRound(&'a str),
+    /// What has changed could not be kept.
+    #[error("{0}: could not be written, so the last requests were not answered")]
+    NotKept(&'a str),
     /// Memory was refused.
     #[error("out of memory")]
     Memory,

@@ -4,18 +4,17 @@
 //! may be ready has one turn, and one connection is accepted. All of a round has the same time, in microseconds since
 //! the start.
 
-ghost use Rattle.std.specs.Prelude.{◌≡◌, ◌≤◌, ◌<◌, ◌⊎◌, ◌↔◌, Some, IfSome, IsSomeAnd, IfErr, IsTrue};
-ghost use Rattle.enip_commands.specs.Statuses.{IsOfDevices};
+ghost use Rattle.std.specs.Prelude.{◌≡◌, ◌≤◌, ◌<◌, ◌⊎◌, ◌↔◌, Some, IfSome, IsSomeAnd, IsTrue};
 
 use crate::acceptor::Acceptor;
 use crate::discovery::Discovery;
 use crate::observer::Observer;
-use enip_adapter::Adapter;
-use enip_commands::ProgramFault;
-use enip_server::{Peers, RoundEnd};
+use crate::serving::{ServeFault, Serving};
+use enip_server::RoundEnd;
 use mio::net::{TcpListener, TcpStream, UdpSocket};
 use mio::{Events, Interest, Poll, Token};
 use std::alloc::Global;
+use std::io;
 use std::net::Net;
 use std::rt::Clock;
 use std::time::{Duration, Instant};
@@ -40,34 +39,21 @@ pub(crate) struct Sockets {
     pub(crate) datagrams: Option<UdpSocket>,
 }
 
-/// How a device is served.
-#[derive(Clone, Copy)]
-pub(crate) struct ServeOptions {
-    /// After how many connections to return.
-    pub(crate) count: u64,
-    /// How long a peer may be silent, in microseconds.
-    pub(crate) idle_timeout: u64,
-}
-
-/// Serves connections until as many as the options say have come and gone. A connection that fails ends only itself.
-pub(crate) fn serve_connections<R: Clock + Net, O: Observer + Drop>(
+/// Serves `count` connections, until they have come and gone. A connection that fails ends only itself.
+pub(crate) fn serve_connections<R: Clock + Net, O: Observer + Drop, S: Serving<O::Wire> + Drop>(
     rt: &R,
     alloc: Global,
     sockets: Sockets,
-    adapter: Adapter,
-    options: ServeOptions,
+    serving: S,
+    count: u64,
     observer: O,
-) -> Result<(), ProgramFault>
-    ensures { IfErr result IsOfDevices }
-{
-    let mut server = Server::new(rt, alloc, adapter, options, observer)?;
+) -> Result<(), ServeFault> {
+    let mut server = Server::new(rt, alloc, serving, count, observer)?;
     server.run(rt, alloc, sockets)
 }
 
 /// The microseconds since `start`.
-fn microseconds_since<C: Clock>(clock: &C, start: Instant) -> Result<u64, ProgramFault>
-    ensures { IfErr result IsOfDevices }
-{
+fn microseconds_since<C: Clock>(clock: &C, start: Instant) -> io::Result<u64> {
     let elapsed = start.elapsed(clock)?;
     Ok(u64::try_from(elapsed.as_micros()).unwrap_or(u64::MAX))
 }
@@ -97,9 +83,7 @@ struct System {
 
 impl System {
     /// A poll without sockets.
-    fn new<R: Clock + Net>(rt: &R, alloc: Global) -> Result<System, ProgramFault>
-        ensures { IfErr result IsOfDevices }
-    {
+    fn new<R: Clock + Net>(rt: &R, alloc: Global) -> io::Result<System> {
         let start = Instant::now(rt)?;
         let poll = Poll::new(rt)?;
         let events = Events::with_capacity(alloc, EVENT_CAPACITY)?;
@@ -113,12 +97,12 @@ impl System {
 
 /// The peers and the sockets of a served device.
 #[derive(Drop)]
-struct Server<O: Observer + Drop> {
+struct Server<O: Observer + Drop, S: Serving<O::Wire> + Drop> {
     system: System,
     /// `None` before the sockets are open, and once all connections were accepted.
     acceptor: Option<Acceptor>,
     discovery: Option<Discovery>,
-    peers: Peers<O::Wire>,
+    peers: S,
     observer: O,
     /// The end of the last round. `ready` is set if a peer was added since.
     last_round: RoundEnd,
@@ -132,19 +116,16 @@ struct Server<O: Observer + Drop> {
     rounds_deferred: u32,
 }
 
-impl<O: Observer + Drop> Server<O> {
+impl<O: Observer + Drop, S: Serving<O::Wire> + Drop> Server<O, S> {
     /// A server without sockets and peers.
     fn new<R: Clock + Net>(
         rt: &R,
         alloc: Global,
-        adapter: Adapter,
-        options: ServeOptions,
+        peers: S,
+        count: u64,
         observer: O,
-    ) -> Result<Server<O>, ProgramFault>
-        ensures { IfErr result IsOfDevices }
-    {
+    ) -> io::Result<Server<O, S>> {
         let system = System::new(rt, alloc)?;
-        let peers = Peers::new(alloc, adapter, options.idle_timeout)?;
         let last_round = RoundEnd {
             ended: 0,
             ready: false,
@@ -157,7 +138,7 @@ impl<O: Observer + Drop> Server<O> {
             peers,
             observer,
             last_round,
-            count: options.count,
+            count,
             accepted: 0,
             ended: 0,
             rounds_deferred: 0,
@@ -165,9 +146,7 @@ impl<O: Observer + Drop> Server<O> {
     }
 
     /// Takes over the sockets. The system reports them from now on.
-    fn open(&mut self, alloc: Global, sockets: Sockets) -> Result<(), ProgramFault>
-        ensures { IfErr result IsOfDevices }
-    {
+    fn open(&mut self, alloc: Global, sockets: Sockets) -> io::Result<()> {
         let Sockets {
             listener,
             datagrams,
@@ -180,9 +159,7 @@ impl<O: Observer + Drop> Server<O> {
     }
 
     /// Accepts connections from a listener.
-    fn listen(&mut self, mut listener: TcpListener) -> Result<(), ProgramFault>
-        ensures { IfErr result IsOfDevices }
-    {
+    fn listen(&mut self, mut listener: TcpListener) -> io::Result<()> {
         let registry = self.system.poll.registry();
         registry.register(&mut listener, Token(LISTENER), Interest::READABLE)?;
         self.acceptor = Some(Acceptor::new(listener));
@@ -190,9 +167,7 @@ impl<O: Observer + Drop> Server<O> {
     }
 
     /// Answers datagrams from a socket.
-    fn answer_datagrams(&mut self, alloc: Global, mut socket: UdpSocket) -> Result<(), ProgramFault>
-        ensures { IfErr result IsOfDevices }
-    {
+    fn answer_datagrams(&mut self, alloc: Global, mut socket: UdpSocket) -> io::Result<()> {
         let registry = self.system.poll.registry();
         registry.register(&mut socket, Token(DATAGRAMS), Interest::READABLE)?;
         self.discovery = Some(Discovery::new(alloc, socket)?);
@@ -205,9 +180,7 @@ impl<O: Observer + Drop> Server<O> {
         clock: &C,
         alloc: Global,
         sockets: Sockets,
-    ) -> Result<(), ProgramFault>
-        ensures { IfErr result IsOfDevices }
-    {
+    ) -> Result<(), ServeFault> {
         self.open(alloc, sockets)?;
         let mut now = 0;
         for _ in 0..u64::MAX {
@@ -216,7 +189,7 @@ impl<O: Observer + Drop> Server<O> {
             }
             self.wait(now)?;
             now = microseconds_since(clock, self.system.start)?;
-            self.round(now);
+            self.round(now)?;
         }
         Ok(())
     }
@@ -229,9 +202,7 @@ impl<O: Observer + Drop> Server<O> {
     }
 
     /// Waits until a socket may be ready or a time limit is reached. `now` is the time of the last round.
-    fn wait(&mut self, now: u64) -> Result<(), ProgramFault>
-        ensures { IfErr result IsOfDevices }
-    {
+    fn wait(&mut self, now: u64) -> io::Result<()> {
         let timeout = self.timeout(now);
         self.system.poll.poll(&mut self.system.events, timeout)?;
         for event in &self.system.events {
@@ -274,11 +245,11 @@ impl<O: Observer + Drop> Server<O> {
     }
 
     /// One round: answers a datagram, gives each peer that may be ready a turn, and accepts a connection.
-    fn round(&mut self, now: u64) {
+    fn round(&mut self, now: u64) -> Result<(), ServeFault> {
         if let Some(discovery) = &mut self.discovery {
             discovery.answer_one(&self.peers, &self.observer, now);
         }
-        self.last_round = self.peers.round(now);
+        self.last_round = self.peers.round(now).map_err(ServeFault::Keep)?;
         if self.last_round.ended > 0 {
             self.ended = self.ended.saturating_add(self.last_round.ended as u64);
             if let Some(acceptor) = &mut self.acceptor {
@@ -286,6 +257,7 @@ impl<O: Observer + Drop> Server<O> {
             }
         }
         self.accept_one(now);
+        Ok(())
     }
 
     /// Accepts the next connection, if there is one. If it cannot become a peer it is closed at once.
@@ -346,7 +318,7 @@ impl<O: Observer + Drop> Server<O> {
         let Some(wire) = self.observer.wire(stream) else {
             return false;
         };
-        if self.peers.add(now, wire).is_err() {
+        if !self.peers.add(now, wire) {
             return false;
         }
         self.last_round.ready = true;
