@@ -2,6 +2,8 @@
 import atexit
 import contextlib
 import os
+import re
+import shutil
 import socket
 import struct
 import subprocess
@@ -41,6 +43,16 @@ ADD = ["50", "100", "1", "07000000"]
 LONGEST = 60
 good = bad = 0
 counting = threading.Lock()
+running = set()
+
+
+def kill_all():
+    """Kills all devices that still run."""
+    for process in list(running):
+        process.kill()
+
+
+atexit.register(kill_all)
 
 
 def expect(name, got, want):
@@ -120,7 +132,7 @@ class Device:
         environment = {**os.environ, **self.environment}
         self.errors, self.listens = [], False
         self.process = subprocess.Popen(list(map(str, command)), stderr=subprocess.PIPE, text=True, env=environment, **more)
-        atexit.register(self.process.kill)
+        running.add(self.process)
         patience = threading.Timer(LONGEST, self.process.kill)
         patience.start()
         for line in self.process.stderr:
@@ -145,7 +157,7 @@ class Device:
         if not self.process.stderr.closed:
             self.errors += self.process.stderr.readlines()
             self.process.stderr.close()
-        atexit.unregister(self.process.kill)
+        running.discard(self.process)
         return status
 
     def restart(self, *options):
@@ -166,7 +178,7 @@ class Device:
 
     def files(self):
         """The bytes of FILE and of the files next to it, by their names."""
-        return {path.name: path.read_bytes() for path in self.folder.glob("state*")}
+        return {path.name: path.read_bytes() for path in self.folder.glob("state*") if path.is_file()}
 
     def put(self, files):
         """Replaces FILE and the files next to it."""
@@ -202,5 +214,20 @@ def started(config=CONFIG, **environment):
 
 
 def sqlite3(file, statement):
+    """What sqlite3 prints of a database."""
     done = subprocess.run(["sqlite3", str(file), statement], capture_output=True, text=True, timeout=LONGEST)
     return done.stdout.strip() + done.stderr.strip()
+
+
+def last_round(content):
+    """The number of the last round in the bytes of FILE.round. Each line has it twice."""
+    return max(int(number) for number in re.findall(rb"\d{20}", content))
+
+
+def dump(file):
+    """The content of a database, read from a copy, since sqlite3 changes the files that it reads."""
+    with tempfile.TemporaryDirectory() as folder:
+        for suffix in ("", "-wal"):
+            if Path(str(file) + suffix).exists():
+                shutil.copy(str(file) + suffix, os.path.join(folder, "copy" + suffix))
+        return sqlite3(os.path.join(folder, "copy"), ".dump")

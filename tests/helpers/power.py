@@ -6,8 +6,8 @@ from pathlib import Path
 HEAD = struct.Struct("<5Q")
 # The disk writes a sector as a whole.
 SECTOR = 512
-# How much of what was not synced is on the disk: nothing, all of it, any sectors of it, all up to some byte, or that with
-# other bytes behind it.
+# How much of what was not synced is on the disk: nothing, all of it, any sectors of it, all up to some byte of some write,
+# or that with other bytes for the rest of that write, as far as the file had bytes there.
 KINDS = ("none", "all", "some", "torn", "garbage")
 
 
@@ -37,8 +37,8 @@ class Image:
             kept = changes[:last]
             if data is not None:
                 size = random.randrange(len(data) + 1)
-                rest = random.randbytes(len(data) - size) if kind == "garbage" else b""
-                kept = kept + [(offset, data[:size] + rest)]
+                rest = min(len(data), max(size, len(self.durable) - offset)) - size
+                kept = kept + [(offset, data[:size] + (random.randbytes(rest) if kind == "garbage" else b""))]
         for change in kept:
             content = changed(content, *change)
         return content

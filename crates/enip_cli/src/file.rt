@@ -150,9 +150,9 @@ impl File {
         Ok(count as usize)
     }
 
-    /// Replaces the front of the file, and waits until that has reached the disk.
-    pub(crate) fn write_at_start(&self, bytes: &[u8]) -> io::Result<()> {
-        let count = libc::pwrite(self.descriptor, bytes, 0);
+    /// Writes bytes at an offset, and waits until they have reached the disk.
+    pub(crate) fn write_at(&self, bytes: &[u8], offset: u32) -> io::Result<()> {
+        let count = libc::pwrite(self.descriptor, bytes, i64::from(offset));
         if count < 0 {
             return Err(io::Error::from_raw_os_error(os::errno()));
         }

@@ -1,7 +1,11 @@
 //! The file beside a kept state that has the number of its last round.
 //!
-//! FILE is the kept state, and `FILE.round` has one line: the number of the last round whose changes FILE has. If FILE is
-//! damaged, or is replaced by an older copy, its own number is less. Whoever uses FILE holds the lock of `FILE.round`.
+//! FILE is the kept state, and `FILE.round` has the number of the last round whose changes FILE has. If FILE is damaged,
+//! or is replaced by an older copy, its own number is less. Whoever uses FILE holds the lock of `FILE.round`.
+//!
+//! `FILE.round` has two lines: that of the last even round, then that of the last odd one. A round's line is written over
+//! the line of two rounds before, so a power cut in the middle of that spoils neither the line of the round before nor
+//! what it says. Each line has its number twice, so half of a line is none.
 
 use crate::file::{File, checked};
 use crate::locked_file::{folder_of, resolved, with_suffix};
@@ -11,19 +15,25 @@ use std::io::{self, ErrorKind};
 /// What is appended to the name of a kept state.
 const ROUND: &[u8] = b".round";
 
-/// What comes before the number.
+/// What comes before the number in a line.
 const START: &str = "enip state 1, round ";
 
-/// The digits of the greatest number.
+/// What comes between the number and its repetition.
+const BETWEEN: &str = " = ";
+
+/// The digits of a number. The greatest has so many.
 const DIGITS: usize = 20;
 
-/// Our own limit, in bytes: one more than the line has.
-const LONGEST: usize = START.len() + DIGITS + 2;
+/// The bytes of a line.
+const LINE: usize = START.len() + DIGITS + BETWEEN.len() + DIGITS + 1;
+
+/// One byte more than two lines have.
+const LONGEST: usize = 2 * LINE + 1;
 
 /// What `FILE.round` says.
 #[derive(Clone, Copy, Debug, PartialEq, Eq)]
 pub enum LastRound {
-    /// Nothing: the file is new.
+    /// Nothing: the file is new, or its first line was not written to its end.
     New,
     /// The number of the last round.
     Number(u64),
@@ -63,38 +73,56 @@ impl RoundFile {
     ///
     /// That of the system.
     pub fn read(&self) -> io::Result<LastRound> {
-        let mut line = [0; LONGEST];
-        let size = self.file.read_at_start(&mut line)?;
-        Ok(last_round(&line[..size]))
+        let mut lines = [0; LONGEST];
+        let size = self.file.read_at_start(&mut lines)?;
+        Ok(last_round(&lines[..size]))
     }
 
     /// Writes the number of the last round. Once this returns, it survives a crash of the machine.
     ///
     /// # Errors
     ///
-    /// That of the system. The file has the number of before, the new one, or is damaged.
+    /// That of the system. If the round follows that of the last write, the file has the number of before or the new one.
     pub fn write(&self, alloc: Global, round: u64) -> io::Result<()> {
-        let line = format!(in alloc; "{START}{round:020}\n")?;
-        self.file.write_at_start(line.as_bytes())
+        let line = format!(in alloc; "{START}{round:020}{BETWEEN}{round:020}\n")?;
+        let offset = if round % 2 == 0 { 0 } else { LINE as u32 };
+        self.file.write_at(line.as_bytes(), offset)
     }
 }
 
 /// What a file with these bytes says.
-fn last_round(line: &[u8]) -> LastRound {
-    if line.is_empty() {
+fn last_round(bytes: &[u8]) -> LastRound {
+    if is_unfinished(bytes) {
         return LastRound::New;
     }
-    match number_in(line) {
-        Some(number) => LastRound::Number(number),
-        None => LastRound::Damaged,
+    if bytes.len() >= LONGEST {
+        return LastRound::Damaged;
+    }
+    let (even, odd) = bytes.split_at(bytes.len().min(LINE));
+    match (number_in(even), number_in(odd)) {
+        (Some(even), Some(odd)) => LastRound::Number(even.max(odd)),
+        (Some(number), None) | (None, Some(number)) => LastRound::Number(number),
+        (None, None) => LastRound::Damaged,
     }
 }
 
-/// The number in a line.
+/// Whether a file with these bytes is empty, or has a part of its first line, and zeros for what was not written.
+fn is_unfinished(bytes: &[u8]) -> bool {
+    let written = bytes.iter().take_while(|byte| **byte != 0).count();
+    written < LINE
+        && START.as_bytes().iter().zip(bytes).take(written).all(|(one, other)| one == other)
+        && bytes.iter().skip(written).all(|byte| *byte == 0)
+}
+
+/// The number in a line, which must have it twice.
 fn number_in(line: &[u8]) -> Option<u64> {
-    let digits = line.strip_prefix(START.as_bytes())?.strip_suffix(b"\n")?;
-    if digits.len() != DIGITS || !digits.iter().all(|digit| digit.is_ascii_digit()) {
+    let numbers = line.strip_prefix(START.as_bytes())?.strip_suffix(b"\n")?;
+    if numbers.len() != 2 * DIGITS + BETWEEN.len() {
         return None;
     }
-    str::from_utf8(digits).ok()?.parse().ok()
+    let (number, rest) = numbers.split_at(DIGITS);
+    if rest.strip_prefix(BETWEEN.as_bytes())? != number || !number.iter().all(u8::is_ascii_digit) {
+        return None;
+    }
+    str::from_utf8(number).ok()?.parse().ok()
 }
