@@ -50,6 +50,7 @@ abbrev pub IsFaultOf : List ℕ → Fault → Type 0
 IsFaultOf text (Refused refusal) = IsRefused text refusal
 IsFaultOf text Setup = ⊥
 IsFaultOf text Value = ⊥
+IsFaultOf text State = ⊥
 IsFaultOf text (Once refusal) = ⊥
 IsFaultOf text (CommandFile line) = ⊥
 IsFaultOf text (Request failure) = ⊥

@@ -1,11 +1,13 @@
 //! A device whose state is kept: no answer leaves before what it reports is kept.
 
+ghost use Rattle.std.specs.Prelude.{◌≡◌};
 ghost use Rattle.enip_keep.specs.Server.{IsReady};
+ghost use Rattle.kept_server.specs.Rounds.{kept_of};
 
 use crate::serving::Serving;
 use arrayvec::ArrayVec;
 use enip_adapter::DiscoveryBuffer;
-use enip_keep::{KeepError, Keeper, Server};
+use enip_keep::{Device, KeepError, Keeper, Server};
 use enip_server::{RoundEnd, Wire};
 use kept_server::{KeptDevice, KeptPeers, MOST_READY, ReadyWire, RoundInput};
 
@@ -21,7 +23,9 @@ pub(crate) struct Keeping<W: Wire + Drop, C: KeptDevice, K: Keeper + Drop> {
 
 impl<W: Wire + Drop, C: KeptDevice, K: Keeper + Drop> Keeping<W, C, K> {
     /// Serves with this server.
-    pub(crate) fn new(server: Server<KeptPeers<W, C>, K>) -> Keeping<W, C, K> {
+    pub(crate) fn new(server: Server<KeptPeers<W, C>, K>) -> Keeping<W, C, K>
+        ensures { result.server ≡ server }
+    {
         Keeping {
             server,
             accepted: None,
@@ -30,7 +34,9 @@ impl<W: Wire + Drop, C: KeptDevice, K: Keeper + Drop> Keeping<W, C, K> {
     }
 
     /// What the next round gets.
-    fn input(&mut self, now: u64) -> RoundInput<W> {
+    fn input(&mut self, now: u64) -> RoundInput<W>
+        ensures { self.new.server ≡ self.old.server }
+    {
         let accepted = self.accepted.take();
         let mut ready = ArrayVec::new();
         std::mem::swap(&mut self.ready, &mut ready);
@@ -43,6 +49,9 @@ impl<W: Wire + Drop, C: KeptDevice, K: Keeper + Drop> Keeping<W, C, K> {
 }
 
 impl<W: Wire + Drop, C: KeptDevice, K: Keeper + Drop> Serving<W> for Keeping<W, C, K> {
+    ghost is_ready = { λ k. IsReady K.doubt K.is_up K.kept ⟦<KeptPeers<W, C> as Device>⟧.contents
+        ⟦<KeptPeers<W, C> as Device>⟧.known_kept kept_of k.server };
+
     fn first_free(&self) -> Option<usize> {
         self.server.device().peers().first_free()
     }

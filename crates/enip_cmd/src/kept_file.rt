@@ -3,27 +3,45 @@
 //! `FILE.round` is locked first, so one process uses FILE at a time. FILE is made only if neither of them says that there
 //! was a state before.
 
+ghost use Rattle.std.specs.Prelude.{◌≡◌, IfOk};
+
 use crate::fault::Fault;
+use crate::file_identity::FileIdentity;
 use crate::reason::{CommandError, Reason};
 use enip_cli::{LastRound, OsArg, RoundFile, can_update, option_file_name};
-use enip_keep::{KeepError, Numbered, RoundNote};
+use enip_keep::{KeepError, Keeper, Numbered, RoundNote};
 use enip_keep_sqlite::{Rows, make_file, open};
 use sqlite::{FileFrom, FileStore, Wary};
 use std::alloc::Global;
+use std::io::{self, ErrorKind};
 
 /// The keeper of a file.
-pub(crate) type FileKeeper = Numbered<Rows<FileStore<FileFrom<Wary>>>, FileNote>;
+pub(crate) type FileKeeper<'r> = Numbered<Rows<FileStore<FileFrom<Wary>>>, FileNote<'r>>;
 
 /// Notes the numbers of rounds in `FILE.round`.
 #[derive(Drop)]
-pub(crate) struct FileNote {
+pub(crate) struct FileNote<'r> {
     alloc: Global,
     file: RoundFile,
+    database: FileIdentity<'r>,
+    log: FileIdentity<'r>,
+    /// The number that was noted last.
+    noted: u64,
 }
 
-impl RoundNote for FileNote {
+impl RoundNote for FileNote<'_> {
+    ghost noted = { λ n. n.noted };
+
     fn note(&mut self, round: u64) -> bool {
-        self.file.write(self.alloc, round).is_ok()
+        // what is written to a file that was removed is not there after a restart
+        if !self.database.is_there() || !self.log.is_there() {
+            return false;
+        }
+        if self.file.write(self.alloc, round).is_err() {
+            return false;
+        }
+        self.noted = round;
+        true
     }
 }
 
@@ -33,15 +51,32 @@ pub(crate) struct KeptFile<'a> {
     name: &'a str,
     /// Whether a state that is damaged, or older than it was, is taken.
     accepts_older: bool,
+    /// Whether the file is made if there is none.
+    is_made: bool,
 }
 
 impl<'a> KeptFile<'a> {
-    /// The file of this name.
+    /// The file of a device that is served.
     pub(crate) fn new(name: &'a str, accepts_older: bool) -> KeptFile<'a> {
         KeptFile {
             name,
             accepts_older,
+            is_made: true,
         }
+    }
+
+    /// A file that is only read.
+    pub(crate) fn to_read(name: &'a str) -> KeptFile<'a> {
+        KeptFile {
+            name,
+            accepts_older: false,
+            is_made: false,
+        }
+    }
+
+    /// The name as the argument gives it.
+    pub(crate) fn name(self) -> &'a str {
+        self.name
     }
 
     /// Whether a state that is damaged, or older than it was, is taken.
@@ -55,26 +90,60 @@ impl<'a> KeptFile<'a> {
     ///
     /// If another process uses it, if it is no state, or if it is damaged or older than `FILE.round` says. It is left as
     /// it is.
-    pub(crate) fn open(
+    pub(crate) fn open<'r>(
         self,
-        rt: &HostRuntime,
+        rt: &'r HostRuntime,
         args: &[OsArg],
-    ) -> Result<FileKeeper, CommandError<'a>> {
+    ) -> Result<FileKeeper<'r>, CommandError<'a>>
+        ensures up { IfOk result (λ k. ⟦<FileKeeper<'r> as Keeper>⟧.doubt k ≡ 0 → ⟦<FileKeeper<'r> as Keeper>⟧.is_up k) }
+    {
         let alloc = rt.alloc();
         let bytes = option_file_name(args, "--keep", self.name);
         let Ok(path) = str::from_utf8(bytes) else {
             return Err(CommandError::of_reason(Reason::NotText(self.name)));
         };
-        let exists = can_update(bytes).map_err(|error| CommandError::of_system(self.name, error))?;
+        let exists = self.exists(bytes)?;
         let file = self.lock(alloc, bytes)?;
         let last = self.last_round(alloc, &file, exists)?;
         if last == 0 || !exists {
             make_file(rt, path, Wary).map_err(|error| self.refused(error))?;
         }
         let rows = open(rt, path, Wary).map_err(|error| self.refused(error))?;
-        let note = FileNote { alloc, file };
+        let note = self
+            .note(rt, path, file, last)
+            .map_err(|error| CommandError::of_system(self.name, error))?;
         let keeper = Numbered::start(alloc, rows, note).map_err(|error| self.refused(error))?;
         self.compare(keeper, last)
+    }
+
+    /// What notes the numbers of rounds, the last of which is this one.
+    fn note<'r>(
+        self,
+        rt: &'r HostRuntime,
+        path: &str,
+        file: RoundFile,
+        noted: u64,
+    ) -> io::Result<FileNote<'r>> {
+        let alloc = rt.alloc();
+        Ok(FileNote {
+            alloc,
+            file,
+            database: FileIdentity::of(rt, String::from_str(alloc, path)?)?,
+            log: FileIdentity::of(rt, format!(in alloc; "{path}-wal")?)?,
+            noted,
+        })
+    }
+
+    /// Whether there is such a file.
+    fn exists(self, bytes: &[u8]) -> Result<bool, CommandError<'a>> {
+        match can_update(bytes) {
+            Ok(false) if !self.is_made => {
+                let error = io::Error::from(ErrorKind::NotFound);
+                Err(CommandError::of_system(self.name, error))
+            }
+            Ok(exists) => Ok(exists),
+            Err(error) => Err(CommandError::of_system(self.name, error)),
+        }
     }
 
     /// Locks `FILE.round`.
@@ -111,11 +180,23 @@ impl<'a> KeptFile<'a> {
         }
     }
 
-    /// Compares the number of the last round in FILE with that of `FILE.round`.
-    fn compare(self, keeper: FileKeeper, last: u64) -> Result<FileKeeper, CommandError<'a>> {
+    /// Tests the checksum of what is kept, and compares the number of its last round with that of `FILE.round`.
+    fn compare<'r>(
+        self,
+        keeper: FileKeeper<'r>,
+        last: u64,
+    ) -> Result<FileKeeper<'r>, CommandError<'a>>
+        requires { ⟦<FileKeeper<'r> as Keeper>⟧.doubt keeper ≡ 0 → ⟦<FileKeeper<'r> as Keeper>⟧.is_up keeper }
+        ensures { IfOk result (λ k. ⟦<FileKeeper<'r> as Keeper>⟧.doubt k ≡ 0 → ⟦<FileKeeper<'r> as Keeper>⟧.is_up k) }
+    {
         let mut keeper = keeper;
-        if keeper.round() < last && !self.accepts_older {
-            return Err(self.lost(last - keeper.round()));
+        if !self.accepts_older {
+            if !keeper.is_whole() {
+                return Err(self.state_refused(Reason::NotAState(self.name)));
+            }
+            if keeper.round() < last {
+                return Err(self.lost(last - keeper.round()));
+            }
         }
         keeper.skip_to(last);
         Ok(keeper)

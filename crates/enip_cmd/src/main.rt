@@ -8,11 +8,13 @@ mod checking;
 mod discovery;
 mod error_keeping;
 pub mod fault;
+mod file_identity;
 mod frame_log;
 mod frame_summary;
 mod host_port;
 mod keeping;
 mod kept_file;
+mod kept_values;
 mod listing;
 mod logged_wire;
 mod named_file;
@@ -51,7 +53,7 @@ use reason::{CommandError, Reason};
 use replay::{draw, replay};
 use report::Reported;
 use request::{Device, Request, run_request};
-use serve_command::run_serve;
+use serve_command::{print_kept_values, run_serve};
 use show::show;
 use std::process::ExitCode;
 
@@ -219,10 +221,13 @@ fn run_check<'a>(
 ) -> Result<u8, CommandError<'a>> {
     let config = NamedFile::read(rt.alloc(), args, matches, "CONFIG")?;
     let configuration = config.configuration(rt.alloc())?;
-    match print_device(rt.alloc(), &configuration, rt.stdout()) {
-        Ok(()) => Ok(0),
-        Err(error) => Err(CommandError::of_system(OUTPUT, error)),
+    print_device(rt.alloc(), &configuration, rt.stdout()).map_err(|error| CommandError::of_system(
+        OUTPUT, error,
+    ))?;
+    if let Some(file) = matches.get_str("keep") {
+        print_kept_values(rt, args, &config, file)?;
     }
+    Ok(0)
 }
 
 /// `enip get`, `enip set` and `enip call`: sends a request for a service once, again and again, or until it is executed

@@ -9,6 +9,7 @@ use enip_commands::{
     CommandFileFault, Digits, LedgerRefusal, LineFault, ProgramFault, RequestFailure,
 };
 use enip_config::Explanation;
+use kept_adapter::EntryName;
 use std::alloc::{AllocError, Global};
 use std::fmt;
 use std::io::{self, ErrorKind};
@@ -111,11 +112,17 @@ pub(crate) enum Reason<'a> {
     #[error("{0}: the state of another device (vendor, product code or serial number)")]
     OtherDevice(&'a str),
     /// The state lacks so many of the last rounds.
-    #[error("{0}: older than it was: the last {1} changes are missing (see --accept-older)")]
+    #[error("{0}: older than it was: it lacks the last {1} rounds of changes (see --accept-older)")]
     Older(&'a str, u64),
     /// `FILE.round` is missing or damaged.
     #[error("{0}: {0}.round is missing or damaged, so the state may be older than it was (see --accept-older)")]
     NoLastRound(&'a str),
+    /// A kept value is not used, because the configuration does not describe it.
+    #[error("{0}: {1} is not used: the configuration has none, or one of another size")]
+    NotUsed(&'a str, EntryName),
+    /// A part of the command ledger is not used.
+    #[error("{0}: the command ledger starts empty, in a new life")]
+    NewLife(&'a str),
     /// What has changed could not be kept.
     #[error("{0}: could not be written, so the last requests were not answered")]
     NotKept(&'a str),

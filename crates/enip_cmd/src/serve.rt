@@ -4,7 +4,7 @@
 //! may be ready has one turn, and one connection is accepted. All of a round has the same time, in microseconds since
 //! the start.
 
-ghost use Rattle.std.specs.Prelude.{◌≡◌, ◌≤◌, ◌<◌, ◌⊎◌, ◌↔◌, Some, IfSome, IsSomeAnd, IsTrue};
+ghost use Rattle.std.specs.Prelude.{◌≡◌, ◌≤◌, ◌<◌, ◌⊎◌, ◌↔◌, Some, IfSome, IsSomeAnd, IsTrue, IfOk};
 
 use crate::acceptor::Acceptor;
 use crate::discovery::Discovery;
@@ -47,7 +47,9 @@ pub(crate) fn serve_connections<R: Clock + Net, O: Observer + Drop, S: Serving<O
     serving: S,
     count: u64,
     observer: O,
-) -> Result<(), ServeFault> {
+) -> Result<(), ServeFault>
+    requires { S.is_ready serving }
+{
     let mut server = Server::new(rt, alloc, serving, count, observer)?;
     server.run(rt, alloc, sockets)
 }
@@ -124,7 +126,9 @@ impl<O: Observer + Drop, S: Serving<O::Wire> + Drop> Server<O, S> {
         peers: S,
         count: u64,
         observer: O,
-    ) -> io::Result<Server<O, S>> {
+    ) -> io::Result<Server<O, S>>
+        ensures { IfOk result (λ s. s.peers ≡ peers) }
+    {
         let system = System::new(rt, alloc)?;
         let last_round = RoundEnd {
             ended: 0,
@@ -146,7 +150,9 @@ impl<O: Observer + Drop, S: Serving<O::Wire> + Drop> Server<O, S> {
     }
 
     /// Takes over the sockets. The system reports them from now on.
-    fn open(&mut self, alloc: Global, sockets: Sockets) -> io::Result<()> {
+    fn open(&mut self, alloc: Global, sockets: Sockets) -> io::Result<()>
+        ensures { self.new.peers ≡ self.old.peers }
+    {
         let Sockets {
             listener,
             datagrams,
@@ -159,7 +165,9 @@ impl<O: Observer + Drop, S: Serving<O::Wire> + Drop> Server<O, S> {
     }
 
     /// Accepts connections from a listener.
-    fn listen(&mut self, mut listener: TcpListener) -> io::Result<()> {
+    fn listen(&mut self, mut listener: TcpListener) -> io::Result<()>
+        ensures { self.new.peers ≡ self.old.peers }
+    {
         let registry = self.system.poll.registry();
         registry.register(&mut listener, Token(LISTENER), Interest::READABLE)?;
         self.acceptor = Some(Acceptor::new(listener));
@@ -167,7 +175,9 @@ impl<O: Observer + Drop, S: Serving<O::Wire> + Drop> Server<O, S> {
     }
 
     /// Answers datagrams from a socket.
-    fn answer_datagrams(&mut self, alloc: Global, mut socket: UdpSocket) -> io::Result<()> {
+    fn answer_datagrams(&mut self, alloc: Global, mut socket: UdpSocket) -> io::Result<()>
+        ensures { self.new.peers ≡ self.old.peers }
+    {
         let registry = self.system.poll.registry();
         registry.register(&mut socket, Token(DATAGRAMS), Interest::READABLE)?;
         self.discovery = Some(Discovery::new(alloc, socket)?);
@@ -180,7 +190,9 @@ impl<O: Observer + Drop, S: Serving<O::Wire> + Drop> Server<O, S> {
         clock: &C,
         alloc: Global,
         sockets: Sockets,
-    ) -> Result<(), ServeFault> {
+    ) -> Result<(), ServeFault>
+        requires { S.is_ready self.old.peers }
+    {
         self.open(alloc, sockets)?;
         let mut now = 0;
         for _ in 0..u64::MAX {
@@ -202,7 +214,10 @@ impl<O: Observer + Drop, S: Serving<O::Wire> + Drop> Server<O, S> {
     }
 
     /// Waits until a socket may be ready or a time limit is reached. `now` is the time of the last round.
-    fn wait(&mut self, now: u64) -> io::Result<()> {
+    fn wait(&mut self, now: u64) -> io::Result<()>
+        requires ready { S.is_ready self.old.peers }
+        ensures ready { S.is_ready self.new.peers }
+    {
         let timeout = self.timeout(now);
         self.system.poll.poll(&mut self.system.events, timeout)?;
         for event in &self.system.events {
@@ -245,7 +260,10 @@ impl<O: Observer + Drop, S: Serving<O::Wire> + Drop> Server<O, S> {
     }
 
     /// One round: answers a datagram, gives each peer that may be ready a turn, and accepts a connection.
-    fn round(&mut self, now: u64) -> Result<(), ServeFault> {
+    fn round(&mut self, now: u64) -> Result<(), ServeFault>
+        requires ready { S.is_ready self.old.peers }
+        ensures ready { S.is_ready self.new.peers }
+    {
         if let Some(discovery) = &mut self.discovery {
             discovery.answer_one(&self.peers, &self.observer, now);
         }
@@ -261,7 +279,10 @@ impl<O: Observer + Drop, S: Serving<O::Wire> + Drop> Server<O, S> {
     }
 
     /// Accepts the next connection, if there is one. If it cannot become a peer it is closed at once.
-    fn accept_one(&mut self, now: u64) {
+    fn accept_one(&mut self, now: u64)
+        requires ready { S.is_ready self.old.peers }
+        ensures ready { S.is_ready self.new.peers }
+    {
         let is_due = matches!(&self.acceptor, Some(acceptor) if acceptor.readiness().is_due(now));
         if !is_due || self.is_deferred() {
             return;
@@ -286,6 +307,7 @@ impl<O: Observer + Drop, S: Serving<O::Wire> + Drop> Server<O, S> {
     fn is_deferred(&mut self) -> bool
         ensures counted { IsTrue result → self.old.rounds_deferred < self.new.rounds_deferred }
         ensures limit { IsTrue result → self.new.rounds_deferred ≤ 16 }
+        ensures same { self.new.peers ≡ self.old.peers }
     {
         let may_have_ended = self.last_round.ready || self.rounds_deferred == 0;
         if may_have_ended
@@ -300,7 +322,10 @@ impl<O: Observer + Drop, S: Serving<O::Wire> + Drop> Server<O, S> {
     }
 
     /// Makes a connection a peer in the first free slot. Returns whether there is a slot and a session handle for it.
-    fn add_peer(&mut self, now: u64, stream: TcpStream) -> bool {
+    fn add_peer(&mut self, now: u64, stream: TcpStream) -> bool
+        requires ready { S.is_ready self.old.peers }
+        ensures ready { S.is_ready self.new.peers }
+    {
         let mut stream = stream;
         let Some(slot) = self.peers.first_free() else {
             self.observer.turned_away(stream);

@@ -6,12 +6,13 @@ use crate::frame_log::FrameLog;
 use crate::host_port::HostPort;
 use crate::keeping::Keeping;
 use crate::kept_file::KeptFile;
+use crate::kept_values::KeptValues;
 use crate::named_file::NamedFile;
 use crate::observer::{NoObserver, Observer};
 use crate::reason::{CLOCK, CommandError, Reason};
 use crate::serve::{Sockets, serve_connections};
 use crate::serving::{ServeFault, Serving};
-use crate::{ARGUMENTS_REFUSED, ERRORS};
+use crate::{ARGUMENTS_REFUSED, ERRORS, OUTPUT};
 use clap::ArgMatches;
 use enip_adapter::{Adapter, Limits, Listen};
 use enip_cli::OsArg;
@@ -19,6 +20,7 @@ use enip_config::Configuration;
 use enip_keep::{KeepError, Server};
 use enip_server::{NO_IDLE_TIMEOUT, Peers};
 use kept_adapter::{AdapterStart, LedgerStart};
+use kept_server::KeptDevice;
 use mio::net::UdpSocket;
 use std::io;
 use std::net::TcpListener;
@@ -93,9 +95,30 @@ fn serve_config<'a, O: Observer + Drop>(
         return listen_and_serve(rt, options, peers, observer);
     };
     let start = adapter_start(rt, config, file.accepts_older(), options.idle_timeout)?;
-    let keeper = file.open(rt, args)?;
+    let mut keeper = file.open(rt, args)?;
+    let values = KeptValues::read(rt.alloc(), file, &mut keeper, &start)?;
     let server = Server::start(rt.alloc(), keeper, &start).map_err(|error| file.refused(error))?;
+    values.report_unused(rt, file);
     listen_and_serve(rt, options, Keeping::new(server), observer)
+}
+
+/// `enip check --keep`: prints what is kept in FILE of the device of a configuration.
+pub(crate) fn print_kept_values<'a>(
+    rt: &HostRuntime,
+    args: &[OsArg],
+    config: &NamedFile<'a>,
+    name: &'a str,
+) -> Result<(), CommandError<'a>> {
+    let file = KeptFile::to_read(name);
+    let start = adapter_start(rt, config, false, NO_IDLE_TIMEOUT)?;
+    let mut keeper = file.open(rt, args)?;
+    let values = KeptValues::read(rt.alloc(), file, &mut keeper, &start)?;
+    start
+        .start(rt.alloc(), values.entries())
+        .map_err(|error| file.refused(error))?;
+    values
+        .print(rt.alloc(), rt.stdout())
+        .map_err(|error| CommandError::of_system(OUTPUT, error))
 }
 
 /// Binds the sockets of a device, and serves its peers.
@@ -104,7 +127,9 @@ fn listen_and_serve<'a, O: Observer + Drop, S: Serving<O::Wire> + Drop>(
     options: ServeOptions<'a>,
     peers: S,
     observer: O,
-) -> Result<u8, CommandError<'a>> {
+) -> Result<u8, CommandError<'a>>
+    requires { S.is_ready peers }
+{
     let address = HostPort::parse(options.address)?;
     let sockets = bind(rt, address, options.discovery)?;
     print_listening(rt, &sockets).map_err(|error| CommandError::of_system(ERRORS, error))?;

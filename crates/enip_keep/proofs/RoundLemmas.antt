@@ -1,51 +1,21 @@
 -- The entry of the round beside those of the device.
-use Rattle.std.proofs.Common.{ℕ, ◌≡◌, ◌<◌, ◌≤◌, ◌≢◌, List, [], ◌∷◌, ◌++◌, Bool, true, false, not, eqb, refl, sym, ap, ◌∙◌, subst, arith}
-use Rattle.std.proofs.Common.{if◌then◌else◌, filter, zero, suc, ◌&&◌, ◌⊎◌, inl, inr, nat_lt, map, ltb, ltb-true, ltb-false}
-use Rattle.std.proofs.lemmas.List.{map-append}
-use Rattle.byteorder.specs.Endian.{little_bytes, little_number}
-use Rattle.byteorder.specs.Numbers.{little_number-reads_back}
-use Rattle.std.specs.Prelude.{OnOk, Result, Ok, Err, ◌^◌}
+use Rattle.std.proofs.Common.{ℕ, ◌≡◌, ◌<◌, List, [], ◌∷◌, ◌++◌, Bool, true, false, not, eqb, refl, sym, ap, ◌∙◌, arith}
+use Rattle.std.proofs.Common.{if◌then◌else◌, filter, ◌&&◌, ◌⊎◌, inl, inr}
+use Rattle.std.specs.Prelude.{OnOk, Result, Ok, Err}
 use Rattle.enip_keep.specs.declared.entry.Entry.{Entry}
 use Rattle.enip_keep.specs.Rounds.{are_of_device}
 use Rattle.enip_keep.specs.Kept.{pair_of, pairs_of}
-use Rattle.std.proofs.lemmas.Bool.{eqb-true, eqb-false, eq-eqb, ne_eqb}
 use Rattle.std.proofs.lemmas.Bool.Decides.{nat_tests}
 use Rattle.enip_keep.specs.Kept.{Kept, set, set_all}
-use Rattle.enip_keep.specs.Rounds.{without_round, round_in, round_of_bytes}
+use Rattle.enip_keep.specs.Rounds.{without_round, round_bytes_in}
+use Rattle.enip_keep.proofs.SetLemmas.{set_here, set_before, set_behind, Compared, compared}
+use Rattle.enip_keep.proofs.SetLemmas.Compared.{Below, Same, Above}
 
--- how the first key compares with 0 and with another key
-set_here : (key : ℕ) (bytes : List ℕ) (p : ℕ × List ℕ) (rest : Kept) → p.0 ≡ key
-    → set key bytes (p ∷ rest) ≡ (key, bytes) ∷ rest
-set_here key bytes p rest is = grind (arith, nat_tests)
-
-set_before : (key : ℕ) (bytes : List ℕ) (p : ℕ × List ℕ) (rest : Kept) → key < p.0
-    → set key bytes (p ∷ rest) ≡ (key, bytes) ∷ (p ∷ rest)
-set_before key bytes p rest less = grind (arith, nat_tests)
-
-set_behind : (key : ℕ) (bytes : List ℕ) (p : ℕ × List ℕ) (rest : Kept) → p.0 < key
-    → set key bytes (p ∷ rest) ≡ p ∷ set key bytes rest
-set_behind key bytes p rest less = grind (arith, nat_tests)
-
-left_out : (p : ℕ × List ℕ) (rest : Kept) → p.0 ≡ 0 → without_round (p ∷ rest) ≡ without_round rest
+pub left_out : (p : ℕ × List ℕ) (rest : Kept) → p.0 ≡ 0 → without_round (p ∷ rest) ≡ without_round rest
 left_out p rest is = grind (arith, nat_tests)
 
-stays_in : (p : ℕ × List ℕ) (rest : Kept) → 0 < p.0 → without_round (p ∷ rest) ≡ p ∷ without_round rest
+pub stays_in : (p : ℕ × List ℕ) (rest : Kept) → 0 < p.0 → without_round (p ∷ rest) ≡ p ∷ without_round rest
 stays_in p rest more = grind (arith, nat_tests)
-
-data Compared (a b : ℕ) : Type 0 where
-  Below : a < b → Compared a b
-  Same : a ≡ b → Compared a b
-  Above : b < a → Compared a b
-
-compared : (a b : ℕ) → Compared a b
-compared a b = by (ltb a b) (eqb a b) refl refl
-  where
-    by : (less same : Bool) → ltb a b ≡ less → eqb a b ≡ same → Compared a b
-    by true same is equal = Below (ltb-true a b is)
-    by false true is equal = Same (eqb-true a b equal)
-    by false false is equal =
-        let differs : a ≢ b = eqb-false a b equal in
-        let least : b ≤ a = ltb-false a b is in Above (omega arith)
 
 -- a key of the device is set beside the entry of the round
 without-set_at : (key : ℕ) (bytes : List ℕ) (p : ℕ × List ℕ) (rest : Kept) → 0 < key → Compared p.0 key → Compared p.0 0
@@ -84,14 +54,14 @@ without-set_round bytes (p ∷ rest) = by (compared p.0 0)
     by (Same is) = ap without_round (set_here 0 bytes p rest is) ∙ left_out (0, bytes) rest refl ∙ sym (left_out p rest is)
     by (Above own) = ap without_round (set_before 0 bytes p rest own) ∙ left_out (0, bytes) (p ∷ rest) refl
 
-round-set : (bytes : List ℕ) (kept : Kept) → round_in (set 0 bytes kept) ≡ round_of_bytes bytes
-round-set bytes [] = refl
-round-set bytes (p ∷ rest) = by (compared p.0 0)
+bytes-set : (bytes : List ℕ) (kept : Kept) → round_bytes_in (set 0 bytes kept) ≡ bytes
+bytes-set bytes [] = refl
+bytes-set bytes (p ∷ rest) = by (compared p.0 0)
   where
-    by : Compared p.0 0 → round_in (set 0 bytes (p ∷ rest)) ≡ round_of_bytes bytes
+    by : Compared p.0 0 → round_bytes_in (set 0 bytes (p ∷ rest)) ≡ bytes
     by (Below never) = absurd (omega (arith, never))
-    by (Same is) = ap round_in (set_here 0 bytes p rest is)
-    by (Above own) = ap round_in (set_before 0 bytes p rest own)
+    by (Same is) = ap round_bytes_in (set_here 0 bytes p rest is)
+    by (Above own) = ap round_bytes_in (set_before 0 bytes p rest own)
 
 set_all-append : (xs ys kept : Kept) → set_all (xs ++ ys) kept ≡ set_all ys (set_all xs kept)
 set_all-append [] ys kept = refl
@@ -121,10 +91,10 @@ without_numbered changes kept bytes own =
     ap without_round (set_all-append changes ((0, bytes) ∷ []) kept) ∙ without-set_round bytes (set_all changes kept)
     ∙ without-set_all changes kept own
 
-pub round_numbered : (changes kept : Kept) (bytes : List ℕ)
-    → round_in (set_all (changes ++ (0, bytes) ∷ []) kept) ≡ round_of_bytes bytes
-round_numbered changes kept bytes =
-    ap round_in (set_all-append changes ((0, bytes) ∷ []) kept) ∙ round-set bytes (set_all changes kept)
+pub bytes_numbered : (changes kept : Kept) (bytes : List ℕ)
+    → round_bytes_in (set_all (changes ++ (0, bytes) ∷ []) kept) ≡ bytes
+bytes_numbered changes kept bytes =
+    ap round_bytes_in (set_all-append changes ((0, bytes) ∷ []) kept) ∙ bytes-set bytes (set_all changes kept)
 
 -- what a crash may leave of the entries of the device
 pub left_without : (new old : Kept → Type 0) (kept numbered changes : Kept)
@@ -150,22 +120,18 @@ pairs-without (e ∷ entries) = by (not (eqb e.key 0)) (pairs-without entries)
     by true later = ap (λ xs. pair_of e ∷ xs) later
     by false later = later
 
-pub round_written : (round : ℕ) → round < 2 ^ 64 → round_of_bytes (little_bytes 8 round) ≡ round
-round_written round fits = little_number-reads_back 8 round [] (omega (arith, fits))
-
 -- what holds at success leads to something else
 pub on_ok : {A B : Type 0} (r : Result A B) (P Q : Type 0) → (P → Q) → OnOk r P → OnOk r Q
 on_ok (Ok x) P Q leads holds = leads holds
 on_ok (Err e) P Q leads holds = holds
 
 -- the calls of a keeper to which these entries are given, in the order of its clauses
-module _ (changes kept new : Kept) (round : ℕ) (items : List Entry) (fits : round < 2 ^ 64)
-    (own : are_of_device changes ≡ true) (is : pairs_of items ≡ changes ++ (0, little_bytes 8 round) ∷ []) where
+module _ (changes kept new : Kept) (bytes : List ℕ) (items : List Entry)
+    (own : are_of_device changes ≡ true) (is : pairs_of items ≡ changes ++ (0, bytes) ∷ []) where
   pub set_without : new ≡ set_all (pairs_of items) kept → without_round new ≡ set_all changes (without_round kept)
   set_without e =
-      ap without_round (e ∙ ap (λ xs. set_all xs kept) is) ∙ without_numbered changes kept (little_bytes 8 round) own
+      ap without_round (e ∙ ap (λ xs. set_all xs kept) is) ∙ without_numbered changes kept bytes own
 
-  pub set_round : new ≡ set_all (pairs_of items) kept → round_in new ≡ round
-  set_round e =
-      ap round_in (e ∙ ap (λ xs. set_all xs kept) is) ∙ round_numbered changes kept (little_bytes 8 round)
-      ∙ round_written round fits
+  pub set_bytes : new ≡ set_all (pairs_of items) kept → round_bytes_in new ≡ bytes
+  set_bytes e =
+      ap round_bytes_in (e ∙ ap (λ xs. set_all xs kept) is) ∙ bytes_numbered changes kept bytes

@@ -23,12 +23,14 @@
 #![tactic(auto)]
 
 mod device;
+mod entries;
 mod entry;
 mod keeper;
 pub mod laws;
 mod lives;
 mod memory;
 mod numbered;
+mod rounds;
 mod server;
 mod tally;
 

@@ -1,10 +1,11 @@
 //! A keeper in memory.
-ghost use Rattle.std.specs.Prelude.{◌≡◌, ◌≤◌, ◌+◌, ◌++◌, ℕ, false, [], IfOk, OnOk, IsTrue, ◌↔◌};
+ghost use Rattle.std.specs.Prelude.{◌≡◌, ◌≤◌, ◌+◌, ℕ, false, [], IsTrue, ◌↔◌};
 ghost use Rattle.enip_keep.specs.Causes.{HasFailed};
-ghost use Rattle.enip_keep.specs.Kept.{pair_of, pairs_of, set, set_all};
+ghost use Rattle.enip_keep.specs.Kept.{pairs_of};
 
+use crate::entries::{copy_all, set_all};
 use crate::{Entry, KeepError, Keeper, Restart};
-use std::alloc::{AllocError, Global};
+use std::alloc::Global;
 
 /// A keeper in memory, for tests and simulations. It can be told to fail.
 ///
@@ -105,7 +106,9 @@ impl Keeper for MemoryKeeper {
     }
 
     fn commit(&mut self, changes: &[Entry]) -> Result<(), KeepError> {
-        let changed = with_changes(self.alloc, &self.entries, changes)?;
+        let mut changed = Vec::new(self.alloc);
+        copy_all(self.alloc, &self.entries, &mut changed)?;
+        set_all(self.alloc, &mut changed, changes)?;
         let fails = self.count_call();
         if !fails || self.keeps_failed {
             self.entries = changed;
@@ -126,68 +129,4 @@ impl Restart for MemoryKeeper {
         self.is_up = true;
         Ok(())
     }
-}
-
-/// Copies of the entries, with these changes, the first of them first.
-fn with_changes(
-    alloc: Global,
-    entries: &[Entry],
-    changes: &[Entry],
-) -> Result<Vec<Entry>, AllocError>
-    ensures { IfOk result (λ all. pairs_of all.items ≡ set_all (pairs_of changes.now) (pairs_of entries.now)) }
-{
-    let mut all = Vec::new(alloc);
-    copy_all(alloc, entries, &mut all)?;
-    for change in changes {
-        let mut next = Vec::new(alloc);
-        copy_changed(alloc, &all, change, &mut next)?;
-        all = next;
-    }
-    Ok(all)
-}
-
-/// Appends copies of the entries, with this change.
-fn copy_changed(
-    alloc: Global,
-    entries: &[Entry],
-    change: &Entry,
-    into: &mut Vec<Entry>,
-) -> Result<(), AllocError>
-    ensures { OnOk result (pairs_of into.new.items
-        ≡ pairs_of into.old.items ++ set change.now.key change.now.bytes.items (pairs_of entries.now)) }
-{
-    let Some((first, others)) = entries.split_first() else {
-        into.push(copy(alloc, change)?)?;
-        return Ok(());
-    };
-    if first.key == change.key {
-        into.push(copy(alloc, change)?)?;
-        return copy_all(alloc, others, into);
-    }
-    if change.key < first.key {
-        into.push(copy(alloc, change)?)?;
-        return copy_all(alloc, entries, into);
-    }
-    into.push(copy(alloc, first)?)?;
-    copy_changed(alloc, others, change, into)
-}
-
-/// Appends copies of the entries.
-fn copy_all(alloc: Global, entries: &[Entry], into: &mut Vec<Entry>) -> Result<(), AllocError>
-    ensures { OnOk result (pairs_of into.new.items ≡ pairs_of into.old.items ++ pairs_of entries.now) }
-{
-    let Some((first, others)) = entries.split_first() else {
-        return Ok(());
-    };
-    into.push(copy(alloc, first)?)?;
-    copy_all(alloc, others, into)
-}
-
-fn copy(alloc: Global, entry: &Entry) -> Result<Entry, AllocError>
-    ensures { IfOk result (λ e. pair_of e ≡ pair_of entry.now) }
-{
-    Ok(Entry {
-        key: entry.key,
-        bytes: Vec::from_slice(alloc, &entry.bytes)?,
-    })
 }

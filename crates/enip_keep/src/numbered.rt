@@ -1,33 +1,34 @@
 //! A keeper that also keeps the number of the last round, and has it noted elsewhere.
-ghost use Rattle.std.specs.Prelude.{◌≡◌, ◌⊎◌, ◌≤◌, ◌+◌, ◌-◌, ◌^◌, ◌++◌, ◌∷◌, [], ℕ, All, min, true, Err, IfOk, IfErr, OnOk};
+ghost use Rattle.std.specs.Prelude.{◌≡◌, ◌⊎◌, ◌≤◌, ◌+◌, ◌-◌, ◌^◌, ℕ, All, min, true, Err};
+ghost use Rattle.std.specs.Prelude.{IsTrue, IfOk, IfErr, OnOk};
 ghost use Rattle.enip_keep.specs.declared.entry.KeepError.TheVariants.{Storage};
-ghost use Rattle.byteorder.specs.Endian.{little_bytes};
 ghost use Rattle.enip_keep.specs.Causes.{IsCause};
 ghost use Rattle.enip_keep.specs.Kept.{Kept, pairs_of, set_all, IsKeepable};
-ghost use Rattle.enip_keep.specs.Rounds.{without_round, round_in, are_of_device};
+ghost use Rattle.enip_keep.specs.Rounds.{without_round, round_in, round_bytes_in, are_of_device, is_whole, IsLoaded};
 
+use crate::entries::set_all;
+use crate::rounds::{ROUND_KEY, are_of_device, is_whole, round_entry, round_in, with_entry};
 use crate::{Entry, KeepError, Keeper, Restart};
-use byteorder::{ByteOrder, LittleEndian};
-use std::alloc::{AllocError, Global};
-
-/// The key of the entry that has the number of the last round, in eight bytes, the least first. No device has an entry
-/// under this key.
-const ROUND_KEY: u64 = 0;
+use std::alloc::Global;
 
 /// Notes the number of the last round, in a file beside that of the keeper for example. If the keeper's storage loses
 /// rounds without an error, as an older copy of it does, the note has the greater number.
 pub trait RoundNote {
+    // The number that was noted last.
+    ghost noted: { Self → ℕ };
+
     /// Notes a number in place of the last one. Returns whether it will survive a crash.
-    fn note(&mut self, round: u64) -> bool;
+    fn note(&mut self, round: u64) -> bool
+        ensures { IsTrue result → noted self.new ≡ round };
 }
 
-/// A keeper that numbers its commits: it keeps the number of the last one with the entries of the device, and has it
-/// noted. It refuses an entry of the device under its own key, as a storage that fails.
+/// A keeper that numbers its commits: it keeps the number of the last one and a checksum with the entries of the device,
+/// and has the number noted. It refuses an entry of the device under its own key, as a storage that fails.
 ///
 /// ```
-/// let mut keeper = Numbered::start(alloc, keeper, note)?;
-/// if keeper.round() < noted {
-///     // the storage is older than it was
+/// let keeper = Numbered::start(alloc, keeper, note)?;
+/// if !keeper.is_whole() || keeper.round() < noted {
+///     // the storage is damaged, or older than it was
 /// }
 /// ```
 #[derive(Drop)]
@@ -35,13 +36,17 @@ pub struct Numbered<K: Keeper + Drop, N: RoundNote + Drop> {
     alloc: Global,
     keeper: K,
     note: N,
+    /// The entries of the device, as they are kept.
+    entries: Vec<Entry>,
     round: u64,
+    is_whole: bool,
     /// How often a number was not noted, or an entry under the key of the round was refused.
     faults: u64,
 }
 
 impl<K: Keeper + Drop, N: RoundNote + Drop> Numbered<K, N> {
-    /// Goes on after the last round that this keeper has kept. Nothing is noted yet.
+    /// Goes on after the last round that this keeper has kept. Nothing is noted yet. What is kept need not be whole:
+    /// see `is_whole`.
     ///
     /// # Errors
     ///
@@ -50,16 +55,20 @@ impl<K: Keeper + Drop, N: RoundNote + Drop> Numbered<K, N> {
         requires up { K.doubt keeper ≡ 0 → K.is_up keeper }
         ensures kept { IfOk result (λ n. K.doubt n.keeper ≡ 0
             → K.is_up n.keeper × (K.kept n.keeper ≡ K.kept keeper)) }
+        ensures loaded { IfOk result (λ n. K.doubt n.keeper ≡ 0
+            → IsLoaded (K.kept n.keeper) (pairs_of n.entries.items) n.round n.is_whole) }
         ensures round { IfOk result (λ n. K.doubt n.keeper ≡ 0 → n.round ≡ round_in (K.kept keeper)) }
+        ensures whole { IfOk result (λ n. K.doubt n.keeper ≡ 0 → n.is_whole ≡ is_whole (K.kept keeper)) }
         ensures doubt { IfOk result (λ n. K.doubt keeper ≤ K.doubt n.keeper) }
     {
-        let all = keeper.load(alloc)?;
-        let round = round_in(&all);
+        let loaded = load_rounds(alloc, &mut keeper)?;
         Ok(Numbered {
             alloc,
             keeper,
             note,
-            round,
+            entries: loaded.entries,
+            round: loaded.round,
+            is_whole: loaded.is_whole,
             faults: 0,
         })
     }
@@ -71,12 +80,23 @@ impl<K: Keeper + Drop, N: RoundNote + Drop> Numbered<K, N> {
         self.round
     }
 
+    /// Whether what is kept has the checksum of its last round. It also is if nothing is kept. Otherwise the storage has
+    /// lost, damaged or added something. The next commit keeps a checksum of what is there.
+    pub fn is_whole(&self) -> bool
+        ensures { result ≡ self.now.is_whole }
+    {
+        self.is_whole
+    }
+
     /// Goes on after the round of this number, if that is greater than the last one.
     pub fn skip_to(&mut self, round: u64)
         ensures same { self.new ≡ record self.old { round = self.new.round } }
         ensures at_least { round ≤ self.new.round }
         ensures only_up { self.old.round ≤ self.new.round }
         ensures one { (self.new.round ≡ self.old.round) ⊎ (self.new.round ≡ round) }
+        ensures loaded { (kept : Kept)
+            → IsLoaded kept (pairs_of self.old.entries.items) self.old.round self.old.is_whole
+            → IsLoaded kept (pairs_of self.new.entries.items) self.new.round self.new.is_whole }
     {
         self.round = self.round.max(round);
     }
@@ -101,16 +121,17 @@ impl<K: Keeper + Drop, N: RoundNote + Drop> Keeper for Numbered<K, N> {
 
     ghost may_leave = { λ n c. (all : Kept) × K.may_leave n.keeper all × (c ≡ without_round all) };
 
-    ghost is_up = { λ n. K.is_up n.keeper };
+    ghost is_up = { λ n. K.is_up n.keeper
+        × IsLoaded (K.kept n.keeper) (pairs_of n.entries.items) n.round n.is_whole };
 
     ghost doubt = { λ n. K.doubt n.keeper };
 
     ghost faults = { λ n. K.faults n.keeper + n.faults };
 
     ghost settled = { λ n c sure up left. settled_without (K.may_leave n.keeper) (K.kept n.keeper)
-        (λ all there. K.settled n.keeper all sure up there) c left };
+        (λ all there. K.settled n.keeper all sure up.0 there) c left };
 
-    ghost stays = { λ n sure up. stays_without (K.may_leave n.keeper) (K.kept n.keeper) (K.stays n.keeper sure up) };
+    ghost stays = { λ n sure up. stays_without (K.may_leave n.keeper) (K.kept n.keeper) (K.stays n.keeper sure up.0) };
 
     fn load(&mut self, alloc: Global) -> Result<Vec<Entry>, KeepError> {
         let mut all = self.keeper.load(alloc)?;
@@ -119,13 +140,21 @@ impl<K: Keeper + Drop, N: RoundNote + Drop> Keeper for Numbered<K, N> {
     }
 
     fn commit(&mut self, changes: &[Entry]) -> Result<(), KeepError>
-        requires up { K.doubt self.old.keeper ≡ 0 → K.is_up self.old.keeper }
+        requires up { K.doubt self.old.keeper ≡ 0 → K.is_up self.old.keeper × IsLoaded (K.kept self.old.keeper)
+            (pairs_of self.old.entries.items) self.old.round self.old.is_whole }
         requires keys { All IsKeepable changes.now }
-        ensures done { K.doubt self.new.keeper ≡ 0 → OnOk result (K.is_up self.new.keeper
+        ensures done { K.doubt self.new.keeper ≡ 0 → OnOk result
+            ((K.is_up self.new.keeper × IsLoaded (K.kept self.new.keeper)
+            (pairs_of self.new.entries.items) self.new.round self.new.is_whole)
             × (without_round (K.kept self.new.keeper)
             ≡ set_all (pairs_of changes.now) (without_round (K.kept self.old.keeper)))) }
+        ensures whole { K.doubt self.new.keeper ≡ 0 → OnOk result (is_whole (K.kept self.new.keeper) ≡ true) }
         ensures numbered { K.doubt self.new.keeper ≡ 0
             → OnOk result (round_in (K.kept self.new.keeper) ≡ self.new.round) }
+        ensures noted { OnOk result (N.noted self.new.note ≡ self.new.round) }
+        // The note changes only once the number is kept.
+        ensures note_last { (self.new.note ≡ self.old.note) ⊎ (K.doubt self.new.keeper ≡ 0
+            → round_in (K.kept self.new.keeper) ≡ self.new.round) }
         ensures next { OnOk result (self.new.round ≡ min (self.old.round + 1) (2 ^ 64 - 1)) }
         ensures cause { K.doubt self.new.keeper ≡ 0 → IfErr result (IsCause
             (K.faults self.old.keeper + self.old.faults) (K.faults self.new.keeper + self.new.faults)) }
@@ -141,8 +170,11 @@ impl<K: Keeper + Drop, N: RoundNote + Drop> Keeper for Numbered<K, N> {
             return self.fail();
         }
         let round = self.round.saturating_add(1);
-        commit_with_round(self.alloc, &mut self.keeper, changes, round)?;
+        set_all(self.alloc, &mut self.entries, changes)?;
+        let own = round_entry(self.alloc, round, &self.entries)?;
+        commit_with(self.alloc, &mut self.keeper, changes, own)?;
         self.round = round;
+        self.is_whole = true;
         if !self.note.note(round) {
             return self.fail();
         }
@@ -153,51 +185,60 @@ impl<K: Keeper + Drop, N: RoundNote + Drop> Keeper for Numbered<K, N> {
 impl<K: Restart + Drop, N: RoundNote + Drop> Restart for Numbered<K, N> {
     fn restart(&mut self) -> Result<(), KeepError> {
         self.keeper.restart()?;
-        let all = self.keeper.load(self.alloc)?;
-        self.round = round_in(&all);
+        let loaded = load_rounds(self.alloc, &mut self.keeper)?;
+        self.entries = loaded.entries;
+        self.round = loaded.round;
+        self.is_whole = loaded.is_whole;
         Ok(())
     }
 }
 
-/// The number of the last round in these entries, 0 if they have none.
-fn round_in(entries: &[Entry]) -> u64
-    ensures { result ≡ round_in (pairs_of entries.now) }
-{
-    let Some((first, others)) = entries.split_first() else {
-        return 0;
-    };
-    if first.key != ROUND_KEY {
-        return round_in(others);
-    }
-    if first.bytes.len() < 8 {
-        return 0;
-    }
-    LittleEndian::read_u64(&first.bytes)
+/// What a start finds.
+#[derive(Drop)]
+struct Loaded {
+    /// The entries of the device.
+    entries: Vec<Entry>,
+    round: u64,
+    is_whole: bool,
 }
 
-/// Whether none of these entries has the key of the round.
-fn are_of_device(entries: &[Entry]) -> bool
-    ensures { result ≡ are_of_device (pairs_of entries.now) }
+/// Loads all entries.
+fn load_rounds<K: Keeper>(alloc: Global, keeper: &mut K) -> Result<Loaded, KeepError>
+    requires { K.doubt keeper.old ≡ 0 → K.is_up keeper.old }
+    ensures loaded { K.doubt keeper.new ≡ 0 → IfOk result (λ l.
+        IsLoaded (K.kept keeper.old) (pairs_of l.entries.items) l.round l.is_whole) }
+    ensures round { K.doubt keeper.new ≡ 0 → IfOk result (λ l. l.round ≡ round_in (K.kept keeper.old)) }
+    ensures same { K.doubt keeper.new ≡ 0 → OnOk result (K.is_up keeper.new × (K.kept keeper.new ≡ K.kept keeper.old)) }
+    ensures crash { K.doubt keeper.new ≡ 0 → (c : Kept) → K.may_leave keeper.new c → K.may_leave keeper.old c }
+    ensures doubt { K.doubt keeper.old ≤ K.doubt keeper.new }
+    ensures faults { K.faults keeper.old ≤ K.faults keeper.new }
 {
-    match entries.split_first() {
-        Some((first, others)) => first.key != ROUND_KEY && are_of_device(others),
-        None => true,
-    }
+    let mut entries = keeper.load(alloc)?;
+    let round = round_in(&entries);
+    let is_whole = is_whole(&entries);
+    entries.retain(|entry| entry.key != ROUND_KEY);
+    Ok(Loaded {
+        entries,
+        round,
+        is_whole,
+    })
 }
 
-/// Commits these changes, and the number of their round with them.
-fn commit_with_round<K: Keeper>(
+/// Commits these changes, and the entry of their round with them.
+fn commit_with<K: Keeper>(
     alloc: Global,
     keeper: &mut K,
     changes: &[Entry],
-    round: u64,
+    own: Entry,
 ) -> Result<(), KeepError>
     requires up { K.doubt keeper.old ≡ 0 → K.is_up keeper.old }
     requires keys { All IsKeepable changes.now }
     requires of_device { are_of_device (pairs_of changes.now) ≡ true }
+    requires own_key { own.key ≡ 0 }
+    requires own_size { IsKeepable own }
     ensures done { K.doubt keeper.new ≡ 0 → OnOk result (K.is_up keeper.new × (without_round (K.kept keeper.new)
         ≡ set_all (pairs_of changes.now) (without_round (K.kept keeper.old)))) }
-    ensures numbered { K.doubt keeper.new ≡ 0 → OnOk result (round_in (K.kept keeper.new) ≡ round) }
+    ensures own { K.doubt keeper.new ≡ 0 → OnOk result (round_bytes_in (K.kept keeper.new) ≡ own.bytes.items) }
     ensures cause { K.doubt keeper.new ≡ 0 → IfErr result (IsCause (K.faults keeper.old) (K.faults keeper.new)) }
     ensures crash { K.doubt keeper.new ≡ 0 → (c : Kept)
         → ((all : Kept) × K.may_leave keeper.new all × (c ≡ without_round all))
@@ -206,27 +247,6 @@ fn commit_with_round<K: Keeper>(
     ensures doubt { K.doubt keeper.old ≤ K.doubt keeper.new }
     ensures faults { K.faults keeper.old ≤ K.faults keeper.new }
 {
-    let numbered = with_round(alloc, changes, round)?;
-    keeper.commit(&numbered)
-}
-
-/// Copies of these changes, and behind them the entry of the round.
-fn with_round(alloc: Global, changes: &[Entry], round: u64) -> Result<Vec<Entry>, AllocError>
-    requires { All IsKeepable changes.now }
-    ensures pairs { IfOk result (λ all. pairs_of all.items
-        ≡ pairs_of changes.now ++ (0, little_bytes 8 round) ∷ []) }
-    ensures keepable { IfOk result (λ all. All IsKeepable all.items) }
-{
-    let mut all = Vec::with_capacity(alloc, changes.len())?;
-    for change in changes {
-        all.push(Entry {
-            key: change.key,
-            bytes: Vec::from_slice(alloc, &change.bytes)?,
-        })?;
-    }
-    all.push(Entry {
-        key: ROUND_KEY,
-        bytes: Vec::from_slice(alloc, &round.to_le_bytes())?,
-    })?;
-    Ok(all)
+    let all = with_entry(alloc, changes, own)?;
+    keeper.commit(&all)
 }

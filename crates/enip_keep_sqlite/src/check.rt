@@ -8,13 +8,13 @@ use enip_keep::KeepError;
 use sqlite_trees::store::{Shape, Store};
 use std::alloc::Global;
 
-/// Whether the first tree is a table without a column of the type REAL.
+/// Whether the first tree is a table without a column of the type REAL, and the only one.
 fn has_table<S: Store>(store: &S) -> bool
     ensures shape { IsTrue result → (S.view store.now).shape 0 ≡ Shape.Table }
     ensures reals { IsTrue result → (S.view store.now).reals 0 ≡ 0 }
 {
-    match store.shape(0) {
-        Shape::Table => store.reals(0) == 0,
+    match (store.shape(0), store.shape(1)) {
+        (Shape::Table, Shape::Absent) => store.reals(0) == 0,
         _ => false,
     }
 }

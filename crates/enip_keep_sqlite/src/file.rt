@@ -1,5 +1,6 @@
 //! The keeper over a file.
-ghost use Rattle.std.specs.Prelude.{◌≡◌, ◌≤◌, IsTrue, IfOk};
+ghost use Rattle.std.specs.Prelude.{◌≡◌, ◌≤◌, IsTrue, IfOk, IfErr};
+ghost use Rattle.enip_keep.specs.declared.entry.KeepError.TheVariants.{Storage};
 ghost use Rattle.sqlite_trees.specs.View.{IsClean};
 ghost use Rattle.sqlite_store.specs.FileStore.{view};
 ghost use Rattle.enip_keep_sqlite.specs.Rows.{IsAtRest};
@@ -9,19 +10,26 @@ use enip_keep::KeepError;
 use sqlite::{Connection, FileFrom, FileStore, Start};
 
 /// The table. The key is the rowid, so a row has no column but the bytes.
-const TABLE: &str =
-    "CREATE TABLE IF NOT EXISTS kept (key INTEGER PRIMARY KEY, value BLOB NOT NULL) STRICT";
+const TABLE: &str = "CREATE TABLE kept (key INTEGER PRIMARY KEY, value BLOB NOT NULL) STRICT";
 
-/// Makes the file, with an empty table, unless there is one already. A file that holds other tables gets another one,
-/// which `open` then refuses.
+/// A query that only a database with such a table accepts.
+const QUERY: &str = "SELECT key, value FROM kept";
+
+/// Makes the file, with an empty table, unless it has a table or a view already.
 ///
 /// # Errors
 ///
 /// `Storage` if the file cannot be opened or written.
-pub fn make_file<S: Start>(rt: &HostRuntime, path: &str, start: S) -> Result<(), KeepError> {
+pub fn make_file<S: Start>(rt: &HostRuntime, path: &str, start: S) -> Result<(), KeepError>
+    ensures { IfErr result (λ e. e ≡ Storage) }
+{
     let Ok(mut connection) = Connection::open_from(rt, path, true, start) else {
         return Err(KeepError::Storage);
     };
+    let schema = connection.schema();
+    if !schema.tables.is_empty() || !schema.views.is_empty() {
+        return Ok(());
+    }
     match connection.execute(TABLE, &[]) {
         Ok(_) => Ok(()),
         Err(_) => Err(KeepError::Storage),
@@ -43,8 +51,11 @@ pub fn open<S: Start>(
 ) -> Result<Rows<FileStore<FileFrom<S>>>, KeepError>
     ensures { IfOk result (λ k. IsClean (view k.store) → IsAtRest (view k.store)) }
 {
-    let Ok(connection) = Connection::open_from(rt, path, true, start) else {
+    let Ok(mut connection) = Connection::open_from(rt, path, true, start) else {
         return Err(KeepError::Storage);
     };
+    if connection.prepare(QUERY).is_err() {
+        return Err(KeepError::Foreign);
+    }
     Rows::over(rt.alloc(), connection.into_store())
 }

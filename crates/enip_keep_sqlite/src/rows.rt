@@ -26,7 +26,8 @@ impl<S: Store + Drop> Rows<S> {
     ///
     /// # Errors
     ///
-    /// `Foreign` if the first table has a row that is not an entry, or if there is no table. `Storage` if the storage
+    /// `Foreign` if the first table has a row that is not an entry, or if there is no table or another one.
+    /// `Storage` if the storage
     /// fails. `Memory` if memory is refused.
     pub fn over(alloc: Global, store: S) -> Result<Rows<S>, KeepError>
         requires same { IsClean (S.Store.view store) → IsTrue (S.Store.view store).is_open

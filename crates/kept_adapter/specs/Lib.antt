@@ -3,3 +3,4 @@ pub mod Keys
 pub mod Saved
 pub mod Started
 pub mod SameKeys
+pub mod Names

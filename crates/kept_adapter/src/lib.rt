@@ -10,9 +10,11 @@
 #![tactic(auto)]
 
 mod adapter_start;
+mod entry_name;
 mod keys;
 mod progress;
 mod saving;
 mod starting;
 
 pub use adapter_start::{AdapterStart, LedgerStart};
+pub use entry_name::EntryName;

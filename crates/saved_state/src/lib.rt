@@ -9,9 +9,9 @@
 //! Text: docs/STATE.md.
 #![tactic(auto)]
 
-mod checksum;
 mod entry;
 mod fault;
+mod fnv;
 pub mod laws;
 mod numbers;
 mod state;
@@ -19,5 +19,6 @@ mod writing;
 
 pub use entry::{Entries, EntryView};
 pub use fault::{StateFault, WriteFault};
+pub use fnv::{checksum, checksum_more};
 pub use state::SavedState;
 pub use writing::{EntryHead, EntryList, EntrySource, saved_size, write};

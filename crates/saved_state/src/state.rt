@@ -13,9 +13,9 @@ ghost use Rattle.saved_state.specs.declared.fault.StateFault.{StateFault};
 ghost use Rattle.saved_state.specs.States.{State, IsState, spelled, kept_under};
 ghost use Rattle.saved_state.specs.Reading.{state_of, fault_of, head_fault};
 
-use crate::checksum::checksum;
 use crate::entry::{Entries, entries_fault};
 use crate::fault::StateFault;
+use crate::fnv::checksum;
 use crate::numbers::{udint_at, ulint_at};
 use std::marker::Model;
 

@@ -7,9 +7,9 @@ ghost use Rattle.std.specs.Prelude.{Some, None};
 ghost use Rattle.saved_state.specs.States.{Entry, entry, entries as entry_bytes, size, rise_from, spelled};
 ghost use Rattle.saved_state.specs.Writing.{entry_number, head_of, entries_refusal, write_refusal};
 
-use crate::checksum::checksum;
 use crate::entry::{ENTRY_HEAD, EntryView, KEY_END};
 use crate::fault::WriteFault;
+use crate::fnv::checksum;
 use crate::numbers::{put_udint, put_ulint};
 use crate::state::{CHECKSUM, HEAD, MARK, VERSION};
 

@@ -1,6 +1,6 @@
 use Rattle.std.proofs.Common.{◌≡◌, All, take}
 use Rattle.enip_keep.specs.Kept.{pairs_of, IsKeepable}
-use Rattle.enip_keep.proofs.numbered.with_round.Given as goal
+use Rattle.enip_keep.proofs.rounds.with_entry.Given as goal
 
 -- copies of the changes so far
 abbrev pub invariant-loop-change : goal.invariant-loop-change

@@ -1,0 +1,73 @@
+//! What FILE of `--keep` has, and what of it a device does not use.
+
+ghost use Rattle.std.specs.Prelude.{◌≡◌, OnOk};
+
+use crate::kept_file::{FileKeeper, KeptFile};
+use crate::reason::{CommandError, Reason, print_reason};
+use enip_commands::Digits;
+use enip_keep::{Entry, Keeper};
+use kept_adapter::{AdapterStart, EntryName};
+use std::alloc::Global;
+use std::io::{self, BufWriter, Write};
+
+/// The entries in FILE, and the keys of those from which a device takes nothing.
+#[derive(Drop)]
+pub(crate) struct KeptValues {
+    entries: Vec<Entry>,
+    unused: Vec<u64>,
+}
+
+impl KeptValues {
+    /// Reads all entries.
+    pub(crate) fn read<'a, 'r>(
+        alloc: Global,
+        file: KeptFile<'a>,
+        keeper: &mut FileKeeper<'r>,
+        start: &AdapterStart,
+    ) -> Result<KeptValues, CommandError<'a>>
+        requires { ⟦<FileKeeper<'r> as Keeper>⟧.doubt keeper.old ≡ 0 → ⟦<FileKeeper<'r> as Keeper>⟧.is_up keeper.old }
+        ensures { ⟦<FileKeeper<'r> as Keeper>⟧.doubt keeper.new ≡ 0
+            → OnOk result (⟦<FileKeeper<'r> as Keeper>⟧.is_up keeper.new) }
+    {
+        let entries = keeper.load(alloc).map_err(|error| file.refused(error))?;
+        let unused = start
+            .unused(alloc, entries.as_slice())
+            .map_err(|error| file.refused(error))?;
+        Ok(KeptValues { entries, unused })
+    }
+
+    /// The entries.
+    pub(crate) fn entries(&self) -> &[Entry] {
+        self.entries.as_slice()
+    }
+
+    /// Prints a line on standard error for each value that is not used. They stay in FILE.
+    pub(crate) fn report_unused(&self, rt: &HostRuntime, file: KeptFile<'_>) {
+        let mut has_lost = false;
+        for key in &self.unused {
+            let name = EntryName::of_key(*key);
+            has_lost |= name.is_of_ledger();
+            print_reason(rt, &Reason::NotUsed(file.name(), name));
+        }
+        if has_lost {
+            print_reason(rt, &Reason::NewLife(file.name()));
+        }
+    }
+
+    /// Prints each entry in hexadecimal. A slot of the command ledger that is free has no line.
+    pub(crate) fn print<W: Write + Drop>(&self, alloc: Global, output: W) -> io::Result<()> {
+        let mut output = BufWriter::new(alloc, output)?;
+        for entry in &self.entries {
+            let name = EntryName::of_key(entry.key);
+            if entry.bytes.is_empty() && name.is_of_ledger() {
+                continue;
+            }
+            write!(output, "kept: {name}, {}", Digits(entry.bytes.as_slice()))?;
+            if self.unused.contains(&entry.key) {
+                write!(output, ", not used")?;
+            }
+            writeln!(output)?;
+        }
+        output.flush()
+    }
+}

@@ -1,0 +1,83 @@
+//! What is kept under a key.
+ghost use Rattle.std.specs.Prelude.{◌≡◌};
+ghost use Rattle.kept_adapter.specs.Names.{entry_name, is_of_ledger, ledger_entry_name};
+
+use crate::keys::{device_key, is_ledger_key};
+use device_state::identity_key;
+use std::fmt;
+
+/// What is kept under a key. As text, it is what a message calls the entry.
+///
+/// ```
+/// assert_eq!(EntryName::of_key(0x64_0001_0001), EntryName::Attribute(100, 1, 1));
+/// ```
+#[derive(Clone, Copy, Debug, PartialEq, Eq)]
+pub enum EntryName {
+    /// Which device it is: its vendor, its product code and its serial number.
+    Identity,
+    /// An attribute: its class, its instance and its number.
+    Attribute(u16, u16, u16),
+    /// The life of the command ledger.
+    Life,
+    /// A slot of the command ledger, from 1.
+    Slot(u16),
+    /// Nothing that this adapter keeps.
+    Unknown,
+}
+
+impl EntryName {
+    /// What is kept under a key.
+    pub fn of_key(key: u64) -> EntryName
+        ensures { result ≡ entry_name key }
+    {
+        if is_ledger_key(key) {
+            return ledger_entry_name((key / 0x1_0000 % 0x1_0000) as u16);
+        }
+        if device_key(key).is_none() {
+            return EntryName::Unknown;
+        }
+        if key == identity_key() {
+            return EntryName::Identity;
+        }
+        let instance = (key / 0x1_0000 % 0x1_0000) as u16;
+        EntryName::Attribute(
+            (key / 0x1_0000_0000) as u16,
+            instance,
+            (key % 0x1_0000) as u16,
+        )
+    }
+
+    /// Whether it is a part of the command ledger.
+    pub fn is_of_ledger(self) -> bool
+        ensures { result ≡ is_of_ledger self }
+    {
+        matches!(self, EntryName::Life | EntryName::Slot(_))
+    }
+}
+
+/// The entry of the ledger with this number.
+fn ledger_entry_name(number: u16) -> EntryName
+    ensures { result ≡ ledger_entry_name number }
+{
+    match number {
+        0 => EntryName::Life,
+        slot => EntryName::Slot(slot),
+    }
+}
+
+impl fmt::Display for EntryName {
+    fn fmt<W: fmt::Write>(&self, f: &mut fmt::Formatter<W>) -> fmt::Result {
+        match *self {
+            EntryName::Identity => f.write_str("the identity"),
+            EntryName::Attribute(class, instance, attribute) => {
+                write!(
+                    f,
+                    "attribute {attribute} of class {class}, instance {instance}"
+                )
+            }
+            EntryName::Life => f.write_str("the life of the command ledger"),
+            EntryName::Slot(number) => write!(f, "slot {number} of the command ledger"),
+            EntryName::Unknown => f.write_str("an entry of another version"),
+        }
+    }
+}
