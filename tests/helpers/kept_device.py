@@ -67,7 +67,8 @@ def expect(name, got, want):
 
 def run(*arguments, timeout=LONGEST, **options):
     """The exit status of the program, its output and its errors."""
-    done = subprocess.run([PROGRAM, *map(str, arguments)], capture_output=True, text=True, timeout=timeout, **options)
+    words = [it if isinstance(it, bytes) else str(it) for it in arguments]
+    done = subprocess.run([PROGRAM, *words], capture_output=True, text=True, timeout=timeout, **options)
     return done.returncode, done.stdout, done.stderr
 
 
