@@ -1,8 +1,8 @@
 //! Whether a name still leads to the file that it led to.
 
 use std::fs::metadata;
-use std::io;
 use std::os::unix::fs::MetadataExt;
+use std::io;
 
 /// A name, and the file that it leads to.
 #[derive(Drop)]
