@@ -1,5 +1,5 @@
 -- The entries of an adapter by their index.
-use Rattle.std.proofs.Common.{◌≡◌, ℕ, zero, suc, ◌+◌, ◌-◌, ◌<◌, ◌≤◌, ◌==◌, ◌&&◌, Bool, true, false, if◌then◌else◌, List, [], ◌∷◌, ◌++◌, length, map, drop, Option, Some, None, option_map, is_some, refl, sym, ap, ◌∙◌, arith}
+use Rattle.std.proofs.Common.{◌≡◌, ◌⊎◌, inl, inr, ℕ, zero, suc, ◌+◌, ◌-◌, ◌<◌, ◌≤◌, ◌^◌, ◌==◌, ◌&&◌, Bool, true, false, if◌then◌else◌, List, [], ◌∷◌, ◌++◌, length, map, drop, Option, Some, None, option_map, is_some, refl, sym, ap, ◌∙◌, arith}
 use Rattle.std.specs.Prelude.{slice_get, bytes_eq}
 use Rattle.std.proofs.lemmas.Option.{slice_get-map, slice_get_past}
 use Rattle.std.proofs.lemmas.Bool.{eqb-true, eqb-false, and_parts}
@@ -13,7 +13,7 @@ use Rattle.kept_adapter.specs.Saved.{pair_of, saved_objects, saved_ledger, saved
 use Rattle.saved_state.specs.States.{Entry}
 use Rattle.saved_state.specs.Writing.{entry_number, head_of}
 use Rattle.saved_state.specs.declared.writing.EntryHead.{EntryHead}
-use Rattle.saved_adapter.specs.Entries.{entry_of, entry_in, entries_of, pair_in, kept_in, are_same}
+use Rattle.saved_adapter.specs.Entries.{entry_of, entry_in, entries_of, IsCounted}
 
 -- ---- lists
 
@@ -50,6 +50,13 @@ value_past None bytes (x ∷ es) (suc i) e is =
 
 abbrev values : Contents → List device.Entry
 values objects = device.saved (device.state_of objects None)
+
+pub counted : (objects : Contents) (r : Option ℕ) (bytes : List ℕ) (count index : ℕ) → IsCounted objects count
+    → index < 2 ^ 64 → device.entry_in r bytes ≡ slice_get (values objects) index → is_some r ≡ false
+    → count ≡ length (saved_objects objects)
+counted objects r bytes count index (within, inl e) fits at is = e
+counted objects r bytes count index (within, inr big) fits at is =
+    let h = value_past r bytes (values objects) index at is in omega (arith, within, big, fits, h)
 
 pub one_more : (objects : Contents) (r : Option ℕ) (bytes : List ℕ) (count next : ℕ) → next ≡ count + 1
     → device.entry_in r bytes ≡ slice_get (values objects) count → is_some r ≡ true
@@ -112,23 +119,24 @@ first_length ledger (suc count) =
 first_at : (ledger : LedgerState) (count number : ℕ) → number < count
     → slice_get (first_entries ledger count) number ≡ Some (ledger_key number, ledger_bytes ledger number)
 first_at ledger zero number h = absurd (omega (arith, h))
-first_at ledger (suc count) number h = go (number == count) refl
+first_at ledger (suc count) number h = go (number == count) (λ below. first_at ledger count number below) refl
   where
-    go : (is : Bool) → (number == count) ≡ is
-        → slice_get (first_entries ledger count ++ (ledger_key count, ledger_bytes ledger count) ∷ []) number
+    go : (is : Bool)
+        → (number < count → slice_get (first_entries ledger count) number ≡ Some (ledger_key number, ledger_bytes ledger number))
+        → (number == count) ≡ is → slice_get (first_entries ledger count ++ (ledger_key count, ledger_bytes ledger count) ∷ []) number
         ≡ Some (ledger_key number, ledger_bytes ledger number)
-    go true e =
+    go true earlier e =
         let same : number ≡ count + 0 = omega (arith, eqb-true number count e) in
         let back : count ≡ number = sym (eqb-true number count e) in
         ap (slice_get (first_entries ledger count ++ (ledger_key count, ledger_bytes ledger count) ∷ [])) same
         ∙ get_rest (first_entries ledger count) ((ledger_key count, ledger_bytes ledger count) ∷ []) 0 count
         (sym (first_length ledger count))
         ∙ ap (λ n. Some (ledger_key n, ledger_bytes ledger n)) back
-    go false e =
+    go false earlier e =
         let below : number < count = omega (arith, h, eqb-false number count e) in
         get_front (first_entries ledger count) ((ledger_key count, ledger_bytes ledger count) ∷ []) number
         (omega (arith, below, first_length ledger count))
-        ∙ first_at ledger count number below
+        ∙ earlier below
 
 -- The entry behind the values.
 behind : (objects : Contents) (ledger : Option LedgerState) (i n count : ℕ) → count ≡ length (saved_objects objects)

@@ -2,3 +2,4 @@ pub mod EntryLemmas
 pub mod SameLemmas
 pub mod MarkLemmas
 pub mod ReadLemmas
+pub mod DoubtLemmas

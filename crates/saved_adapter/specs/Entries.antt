@@ -1,13 +1,13 @@
 -- What is kept of an adapter, as the entries of a saved state.
-use Rattle.std.specs.Prelude.{◌≡◌, ℕ, ◌+◌, ◌==◌, ◌&&◌, ◌%◌, ◌^◌, Bool, true, false, if◌then◌else◌, bytes_eq}
-use Rattle.std.specs.Prelude.{List, [], ◌∷◌, map, Option, Some, None, option_map, Result, Ok, Err}
+use Rattle.std.specs.Prelude.{◌≡◌, ◌⊎◌, ℕ, ◌≤◌, ◌+◌, ◌==◌, ◌&&◌, ◌%◌, ◌^◌, Bool, true, false, if◌then◌else◌, bytes_eq}
+use Rattle.std.specs.Prelude.{List, [], ◌∷◌, length, map, Option, Some, None, option_map, Result, Ok, Err}
 use Rattle.cip_ledger.specs.declared.doubt.DoubtfulCommand.{DoubtfulCommand}
 use Rattle.cip_ledger.specs.Executing.{doubted_by, IsDoubtedAt}
 use Rattle.cip_ledger.specs.Ledger.{LedgerState}
 use Rattle.cip_objects.specs.Contents.{Contents}
 use Rattle.enip_adapter.specs.Calls.{AdapterState}
 use Rattle.enip_keep.specs.Kept.{Kept}
-use Rattle.kept_adapter.specs.Saved.{saved_device, saved_adapter}
+use Rattle.kept_adapter.specs.Saved.{saved_device, saved_objects}
 use Rattle.saved_state.specs.declared.fault.StateFault.{StateFault}
 use Rattle.saved_state.specs.Reading.{state_of}
 use Rattle.saved_state.specs.States.{Entry, State}
@@ -37,6 +37,12 @@ entries_in_doubt doubt a =
 abbrev pub entry_in : Option ℕ → List ℕ → Option Entry
 entry_in None bytes = None
 entry_in (Some key) bytes = Some (record { key = key; bytes = bytes })
+
+-- How many values the objects have that are kept, as far as a number of 64 bits can count them.
+abbrev pub IsCounted : Contents → ℕ → Type 0
+IsCounted objects count =
+    (count ≤ length (saved_objects objects))
+    × ((count ≡ length (saved_objects objects)) ⊎ (2 ^ 64 ≤ count + 1))
 
 -- Where a command would be in doubt in a ledger. Without a command there is no such index.
 abbrev pub IsMarkedAt : LedgerState → Option DoubtfulCommand → Option ℕ → Type 0

@@ -1,8 +1,7 @@
 //! The entries of an adapter.
 
-ghost use Rattle.std.specs.Prelude.{◌≡◌, length, slice_get};
-ghost use Rattle.kept_adapter.specs.Saved.{saved_objects};
-ghost use Rattle.saved_adapter.specs.Entries.{entries_in_doubt, entry_in};
+ghost use Rattle.std.specs.Prelude.{◌≡◌, slice_get};
+ghost use Rattle.saved_adapter.specs.Entries.{entries_in_doubt, entry_in, IsCounted};
 
 use crate::marked::MarkedLedger;
 use cip_ledger::{DoubtfulCommand, MOST_ORIGINATORS};
@@ -27,11 +26,11 @@ pub struct AdapterEntries<'a> {
 }
 
 impl<'a> Model for AdapterEntries<'a> {
-    ghost use Rattle.std.specs.Prelude.{◌≡◌, List, length};
+    ghost use Rattle.std.specs.Prelude.{List};
     ghost use Rattle.std.specs.Coded.{coded_list};
-    ghost use Rattle.kept_adapter.specs.Saved.{saved_objects, saved_device};
+    ghost use Rattle.kept_adapter.specs.Saved.{saved_device};
     ghost use Rattle.saved_state.specs.States.{Entry, entry_code};
-    ghost use Rattle.saved_adapter.specs.Entries.{entries_of};
+    ghost use Rattle.saved_adapter.specs.Entries.{entries_of, IsCounted};
 
     ghost Value = { List Entry };
 
@@ -39,7 +38,7 @@ impl<'a> Model for AdapterEntries<'a> {
 
     ghost view = { λ s. entries_of (saved_device s.objects.now s.ledger) };
 
-    ghost invariant = { λ s. s.values ≡ length (saved_objects s.objects.now) };
+    ghost invariant = { λ s. IsCounted s.objects.now s.values };
 }
 
 impl<'a> AdapterEntries<'a> {
@@ -65,8 +64,11 @@ impl<'a> AdapterEntries<'a> {
     pub(crate) fn entry(&self, index: usize, bytes: &mut ReplyBuf) -> Option<u64>
         ensures { entry_in result bytes.new.items ≡ slice_get self.now index }
     {
+        if let Some(key) = saved_entry(self.objects, None, index, bytes) {
+            return Some(key);
+        }
         if index < self.values {
-            return saved_entry(self.objects, None, index, bytes);
+            return None;
         }
         let number = index - self.values;
         if number > usize::from(MOST_ORIGINATORS) {
@@ -102,12 +104,13 @@ impl EntrySource for AdapterEntries<'_> {
 
 /// How many entries the objects have.
 fn value_count(objects: &Objects) -> usize
-    ensures { result ≡ length (saved_objects objects.now) }
+    ensures { IsCounted objects.now result }
 {
     let mut bytes = ReplyBuf::new();
-    let mut count = 0;
-    while saved_entry(objects, None, count, &mut bytes).is_some() {
-        count += 1;
+    for count in 0..usize::MAX {
+        if saved_entry(objects, None, count, &mut bytes).is_none() {
+            return count;
+        }
     }
-    count
+    usize::MAX
 }

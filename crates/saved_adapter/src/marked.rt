@@ -53,7 +53,7 @@ impl<'a> MarkedLedger<'a> {
         ensures { bytes.new.items ≡ ledger_bytes self.now number }
     {
         match (self.doubt, self.index) {
-            (Some(command), Some(index)) if usize::from(number) == index + 1 => {
+            (Some(command), Some(index)) if number > 0 && usize::from(number - 1) == index => {
                 write_doubtful(command, bytes);
             }
             _ => write_ledger_bytes(objects, self.ledger, number, bytes),

@@ -6,3 +6,4 @@ pub mod SpelledLemmas
 pub mod WriteLemmas
 pub mod LawLemmas
 pub mod ChangeLemmas
+pub mod FewLemmas

@@ -5,7 +5,7 @@
 //!            8     4
 //! ```
 
-ghost use Rattle.std.specs.Prelude.{◌≡◌, ◌≤◌, ◌<◌, drop, length, MatchOption};
+ghost use Rattle.std.specs.Prelude.{◌≡◌, ◌≤◌, ◌<◌, ◌^◌, drop, length, MatchOption};
 ghost use Rattle.std.specs.Iterator.{YieldsFirstBy, item_count};
 ghost use Rattle.saved_state.specs.States.{entry_of};
 ghost use Rattle.saved_state.specs.Reading.{entry_at, size_at, entries_fault};
@@ -60,7 +60,8 @@ impl<'a> Entries<'a> {
 
     /// The entries at the front of these bytes.
     pub(crate) fn of(count: u32, text: &'a [u8]) -> Entries<'a>
-        ensures { result ≡ first_entries count text.now }
+        ensures entries { result ≡ first_entries count text.now }
+        ensures few { length (first_entries count text.now) < 2 ^ 32 }
     {
         Entries { left: count, text }
     }

@@ -7,7 +7,7 @@
 //!
 //! Text: docs/STATE.md.
 
-ghost use Rattle.std.specs.Prelude.{◌≡◌, ◌≤◌, ◌↔◌, length, List, Ok, Err, Some, None, IfNone};
+ghost use Rattle.std.specs.Prelude.{◌≡◌, ◌≤◌, ◌<◌, ◌^◌, ◌↔◌, length, List, Ok, Err, Some, None, IfNone};
 ghost use Rattle.std.specs.Option.{option_copied};
 ghost use Rattle.saved_state.specs.declared.fault.StateFault.{StateFault};
 ghost use Rattle.saved_state.specs.States.{State, IsState, spelled, kept_under};
@@ -78,7 +78,8 @@ impl<'a> SavedState<'a> {
 
     /// The entries, in the order of their keys.
     pub fn entries(&self) -> Entries<'a>
-        ensures { result ≡ self.now.entries }
+        ensures entries { result ≡ self.now.entries }
+        ensures few { length self.now.entries < 2 ^ 32 }
     {
         Entries::of(self.count, self.text)
     }
