@@ -20,20 +20,20 @@ use std::io::{self, ErrorKind};
 const HEADER: u64 = 100;
 
 /// The keeper of a file.
-pub(crate) type FileKeeper<'r> = Numbered<Rows<FileStore<FileFrom<Wary>>>, FileNote<'r>>;
+pub(crate) type FileKeeper = Numbered<Rows<FileStore<FileFrom<Wary>>>, FileNote>;
 
 /// Notes the numbers of rounds in `FILE.round`.
 #[derive(Drop)]
-pub(crate) struct FileNote<'r> {
+pub(crate) struct FileNote {
     alloc: Global,
     file: RoundFile,
-    database: FileIdentity<'r>,
-    log: FileIdentity<'r>,
+    database: FileIdentity,
+    log: FileIdentity,
     /// The number that was noted last.
     noted: u64,
 }
 
-impl RoundNote for FileNote<'_> {
+impl RoundNote for FileNote {
     ghost noted = { λ n. n.noted };
 
     fn note(&mut self, round: u64) -> bool {
@@ -99,12 +99,12 @@ impl<'a> KeptFile<'a> {
     ///
     /// If another process uses it, if it is no state, or if it is damaged or older than `FILE.round` says. It is left as
     /// it is.
-    pub(crate) fn open<'r>(
+    pub(crate) fn open(
         self,
-        rt: &'r HostRuntime,
+        rt: &HostRuntime,
         args: &[OsArg],
-    ) -> Result<FileKeeper<'r>, CommandError<'a>>
-        ensures up { IfOk result (λ k. ⟦<FileKeeper<'r> as Keeper>⟧.doubt k ≡ 0 → ⟦<FileKeeper<'r> as Keeper>⟧.is_up k) }
+    ) -> Result<FileKeeper, CommandError<'a>>
+        ensures up { IfOk result (λ k. ⟦<FileKeeper as Keeper>⟧.doubt k ≡ 0 → ⟦<FileKeeper as Keeper>⟧.is_up k) }
     {
         let alloc = rt.alloc();
         let bytes = option_file_name(args, "--keep", self.name);
@@ -129,13 +129,13 @@ impl<'a> KeptFile<'a> {
     }
 
     /// What notes the numbers of rounds, the last of which is this one.
-    fn note<'r>(
+    fn note(
         self,
-        rt: &'r HostRuntime,
+        rt: &HostRuntime,
         path: &str,
         file: RoundFile,
         noted: u64,
-    ) -> io::Result<FileNote<'r>> {
+    ) -> io::Result<FileNote> {
         let alloc = rt.alloc();
         Ok(FileNote {
             alloc,
@@ -193,13 +193,9 @@ impl<'a> KeptFile<'a> {
     }
 
     /// Tests the checksum of what is kept, and compares the number of its last round with that of `FILE.round`.
-    fn compare<'r>(
-        self,
-        keeper: FileKeeper<'r>,
-        last: u64,
-    ) -> Result<FileKeeper<'r>, CommandError<'a>>
-        requires { ⟦<FileKeeper<'r> as Keeper>⟧.doubt keeper ≡ 0 → ⟦<FileKeeper<'r> as Keeper>⟧.is_up keeper }
-        ensures { IfOk result (λ k. ⟦<FileKeeper<'r> as Keeper>⟧.doubt k ≡ 0 → ⟦<FileKeeper<'r> as Keeper>⟧.is_up k) }
+    fn compare(self, keeper: FileKeeper, last: u64) -> Result<FileKeeper, CommandError<'a>>
+        requires { ⟦<FileKeeper as Keeper>⟧.doubt keeper ≡ 0 → ⟦<FileKeeper as Keeper>⟧.is_up keeper }
+        ensures { IfOk result (λ k. ⟦<FileKeeper as Keeper>⟧.doubt k ≡ 0 → ⟦<FileKeeper as Keeper>⟧.is_up k) }
     {
         let mut keeper = keeper;
         if !self.accepts_older {
