@@ -92,18 +92,18 @@ pub record GoOn (device : Device) (steps : List LifeStep) : Type 0 where
   pub on : AllByRecursion (IsGoingOn (slots_of device.ledger)) steps
 
 -- No number of an originator is executed twice over all restarts, unless its slot is freed in between.
-abbrev pub once_law : Type 0
-once_law = (device : Device) (steps : List LifeStep) → GoOn device steps →
+abbrev pub once_over_restarts_law : Type 0
+once_over_restarts_law = (device : Device) (steps : List LifeStep) → GoOn device steps →
     HasNoDoubles (journal_over_restarts device steps)
 
 -- The numbers that are executed for one originator rise over all restarts, unless its slot is freed in between.
-abbrev pub rising_law : Type 0
-rising_law = (device : Device) (steps : List LifeStep) → GoOn device steps → Rises (journal_over_restarts device steps)
+abbrev pub rising_over_restarts_law : Type 0
+rising_over_restarts_law = (device : Device) (steps : List LifeStep) → GoOn device steps → Rises (journal_over_restarts device steps)
 
 -- Every two success answers to a number have the same bytes, whatever restarts came between them, if the originator's
 -- slot was not freed and none of its commands settled in between.
-abbrev pub same_bytes_law : Type 0
-same_bytes_law = (device : Device) (first again : Request) (between : List LifeStep) (originator number : ℕ) →
+abbrev pub same_bytes_over_restarts_law : Type 0
+same_bytes_over_restarts_law = (device : Device) (first again : Request) (between : List LifeStep) (originator number : ℕ) →
     GoOn device (Does (Requested first) ∷ between) → AllByRecursion (SettlesNothingOf originator) between →
     Succeeds objects_after objects_answer device first originator number →
     Succeeds objects_after objects_answer (after_life_steps device (Does (Requested first) ∷ between)) again originator
@@ -114,6 +114,6 @@ same_bytes_law = (device : Device) (first again : Request) (between : List LifeS
 
 -- Whichever restarts go on and whichever begin a life: no number of an originator is executed twice in one life, unless
 -- its slot is freed in between. The premise is that no life has the number of an earlier one.
-abbrev pub lives_law : Type 0
-lives_law = (device : Device) (steps : List LifeStep) → IsDevice device → AllByRecursion IsStep steps →
+abbrev pub each_life_once_law : Type 0
+each_life_once_law = (device : Device) (steps : List LifeStep) → IsDevice device → AllByRecursion IsStep steps →
     BeginNewLives device steps → IsOnceInEachLife (journal_over_restarts device steps)
