@@ -1,5 +1,5 @@
 -- What holds of a device over restarts.
-use Rattle.std.specs.Prelude.{◌≡◌, ◌≢◌, ℕ, List, [], ◌∷◌, map, Option}
+use Rattle.std.specs.Prelude.{◌≡◌, ◌≢◌, ℕ, List, [], ◌∷◌, map, Option, Bool}
 use Rattle.std.specs.List.{AllByRecursion}
 use Rattle.cip_ledger.specs.Device.{Device}
 use Rattle.cip_ledger.specs.Laws.{HasNoDoubles, Rises, IsNotFreed, Succeeds}
@@ -11,11 +11,15 @@ use Rattle.device_state.specs.Laws.{IsKept}
 use Rattle.enip_adapter.specs.Adapter.{new_adapter}
 use Rattle.enip_adapter.specs.Calls.{AdapterState}
 use Rattle.enip_adapter.specs.DeviceRuns.{Requested, objects_after, objects_answer}
-use Rattle.enip_keep.specs.Lives.{Step}
+use Rattle.enip_keep.specs.declared.lives.Event.{Event}
+use Rattle.enip_keep.specs.Kept.{Kept}
+use Rattle.enip_keep.specs.Lives.{Step, AreStepsOf}
+use Rattle.kept_server.specs.declared.round.RoundInput.{RoundInput}
 use Rattle.kept_server.specs.Rounds.{DeviceContents, RoundRequests, kept_of}
 use Rattle.kept_adapter.specs.declared.adapter_start.AdapterStart.{AdapterStart}
 use Rattle.kept_adapter.specs.Restarts.{LifeStep, Does, restarted, after_life_step, after_life_steps, journal_over_restarts}
 use Rattle.kept_adapter.specs.Restarts.{AdapterStep, adapter_after, steps_over_restarts, contents_after, adapter_step}
+use Rattle.kept_adapter.specs.Restarts.{RestartsTables, brings_input, IsLeft}
 use Rattle.kept_adapter.specs.Restarts.{IsServed, KeepsTables, HasObjects, IsDevice, IsConfiguration, IsStep, GoesOn, IsGoingOn}
 use Rattle.kept_adapter.specs.Restarts.{slots_of, IsLedgerAfter, SettlesNothingOf, IsOnceInEachLife, BeginNewLives}
 use Rattle.kept_adapter.specs.Saved.{saved_adapter, saved_objects}
@@ -84,6 +88,14 @@ abbrev pub server_kept_law : Type 0 → Type 0
 server_kept_law W = (c : DeviceContents) (steps : List (Step (RoundRequests W) AdapterStart)) → IsServed c →
     AllByRecursion (KeepsTables c.adapter.state.shared.objects) steps →
     kept_of (contents_after steps c) ≡ saved_adapter (adapter_after (map adapter_step steps) c.adapter)
+
+-- Whatever rounds, crashes and starts may leave is what is kept of the adapter after steps of these events: the calls of
+-- each round whose answers left, and each restart, are among them.
+abbrev pub crash_law : Type 0 → Type 0
+crash_law W = (c : DeviceContents) (events : List (Event (RoundInput W) AdapterStart)) (went : List Bool) (left : Kept) →
+    IsServed c → AllByRecursion (RestartsTables c.adapter.state.shared.objects) events → IsLeft c events went left →
+    (steps : List (Step (RoundRequests W) AdapterStart)) × AreStepsOf brings_input events went steps
+    × (left ≡ saved_adapter (adapter_after (map adapter_step steps) c.adapter))
 
 -- Each restart goes on with the ledger of the device.
 pub record GoOn (device : Device) (steps : List LifeStep) : Type 0 where

@@ -7,7 +7,7 @@
 
 ghost use Rattle.kept_adapter.specs.RestartLaws.{new_adapter_law, ledger_goes_on_law, ledger_or_new_law, values_go_on_law};
 ghost use Rattle.kept_adapter.specs.RestartLaws.{others_begin_again_law, first_device_law, device_stays_law};
-ghost use Rattle.kept_adapter.specs.RestartLaws.{device_over_restarts_law, server_law, server_kept_law};
+ghost use Rattle.kept_adapter.specs.RestartLaws.{device_over_restarts_law, server_law, server_kept_law, crash_law};
 ghost use Rattle.kept_adapter.specs.RestartLaws.{once_over_restarts_law, rising_over_restarts_law};
 ghost use Rattle.kept_adapter.specs.RestartLaws.{same_bytes_over_restarts_law, each_life_once_law};
 
@@ -41,11 +41,12 @@ pub fn restarts_are_steps()
 {}
 
 /// The adapter of a server that keeps its state is the adapter after the calls of its rounds and the restarts, in order,
-/// if each configuration has the same tables. What is kept is what is kept of that adapter. So the laws hold of the steps
-/// of which `live_peers` of `kept_server` speaks.
+/// if each configuration has the same tables. What is kept is what is kept of that adapter, and so is what a crash may
+/// leave, as `live_peers` of `kept_server` states it: the adapter is that after steps of the events.
 pub fn servers_restart<W: Wire + Drop>()
     ensures adapter { server_law W }
     ensures kept { server_kept_law W }
+    ensures left { crash_law W }
 {}
 
 /// Over restarts that go on with the ledger, no number of an originator is executed twice, and the numbers rise, unless
