@@ -1,5 +1,6 @@
 -- A device over restarts: its steps, and starts from what is kept of it.
-use Rattle.std.specs.Prelude.{◌≡◌, ◌≢◌, ◌⊎◌, ⊤, length, is_some, map, ℕ, ◌<◌, ◌≤◌, ◌^◌, Bool, true, false, Option, Some, None, option_map, IfSome, List, [], ◌∷◌, ◌++◌}
+use Rattle.std.specs.Prelude.{◌≡◌, ◌≢◌, ◌⊎◌, ⊤, length, is_some, map, ℕ, ◌<◌, ◌≤◌, ◌^◌, Bool, true, false, Option, Some}
+use Rattle.std.specs.Prelude.{option_map, IfSome, List, [], ◌∷◌, ◌++◌}
 use Rattle.std.specs.List.{AllByRecursion}
 use Rattle.cip_application.specs.declared.object.AttributeName.{AttributeName}
 use Rattle.cip_bytes.specs.Numbers.{AreBytes}
