@@ -1,33 +1,29 @@
 -- The ledger of a device that starts from what was kept of a device.
-use Rattle.std.proofs.Common.{◌≡◌, ℕ, zero, suc, ◌+◌, ◌-◌, ◌*◌, ◌/◌, ◌%◌, ◌<◌, ◌≤◌, ◌^◌, ◌==◌, ◌&&◌, ◌||◌, nat_lt, nat_le, not, Bool, true, false, if◌then◌else◌, Option, Some, None, List, [], ◌∷◌, ◌++◌, length, take, drop, refl, ap, sym, ◌∙◌, subst, arith, ◌⊎◌, inl, inr}
-use Rattle.std.specs.Prelude.{⊤, option_map, IfSome, is_some, slice_get}
-use Rattle.std.specs.List.{AllByRecursion}
-use Rattle.std.proofs.lemmas.Bool.{eqb-true, eq-eqb, ne_eqb, ltb-true}
+use Rattle.std.proofs.Common.{◌≡◌, ℕ, zero, suc, ◌+◌, ◌-◌, ◌/◌, ◌<◌, ◌≤◌, ◌^◌, ◌==◌, ◌&&◌, ◌||◌, nat_lt, nat_le, not}
+use Rattle.std.proofs.Common.{Bool, true, false, if◌then◌else◌, Option, Some, None, List, [], ◌∷◌, ◌++◌, length, take}
+use Rattle.std.proofs.Common.{drop, refl, ap, sym, ◌∙◌, subst, arith, ◌⊎◌, inl, inr}
+use Rattle.std.specs.Prelude.{slice_get}
+use Rattle.std.proofs.lemmas.Bool.{eq-eqb, ne_eqb, ltb-true}
 use Rattle.std.proofs.lemmas.List.{append-nil, length-append}
 use Rattle.byteorder.specs.Numbers.{little_number-reads_back}
 use Rattle.cip_bytes.specs.Numbers.{le, number_at}
 use Rattle.cip_ledger.specs.declared.request.TheConstants.{LEDGER}
 use Rattle.cip_ledger.specs.Kept.{IsLedger, can_restore, restored as slot_restored}
-use Rattle.cip_ledger.specs.Ledger.{SlotState, LedgerState, IsSlot, AreSlots, empty_ledger}
+use Rattle.cip_ledger.specs.Ledger.{SlotState, LedgerState, IsSlot, AreSlots}
 use Rattle.cip_ledger.proofs.KeptLemmas.{next_restored, slot_behind}
 use Rattle.cip_objects.specs.Contents.{Contents}
-use Rattle.cip_objects.specs.Kept.{name_of, kept_names}
-use Rattle.device_state.specs.declared.restoring.Outcome.TheVariants.{Used, Unknown, Unfit}
-use Rattle.device_state.specs.Keys.{key_of, name_in}
-use Rattle.device_state.specs.Restored.{Done, done, slot_in, if_restored, slot_done, ledger_done, with_ledger, by_name, restored_entry}
-use Rattle.device_state.specs.Saved.{State, state_of, entry_of, slot_bytes, state_bytes}
+use Rattle.cip_objects.specs.Kept.{name_of}
+use Rattle.device_state.specs.declared.restoring.Outcome.TheVariants.{Used, Unfit}
+use Rattle.device_state.specs.Keys.{key_of}
+use Rattle.device_state.specs.Restored.{Done, done, slot_in, if_restored, slot_done, ledger_done, with_ledger, by_name}
+use Rattle.device_state.specs.Saved.{State, state_of, slot_bytes, state_bytes}
 use Rattle.device_state.proofs.KeyLemmas.{name_back}
 use Rattle.device_state.proofs.LedgerPuts.{slot_back}
-use Rattle.enip_keep.specs.Kept.{Kept}
-use Rattle.kept_adapter.specs.declared.adapter_start.AdapterStart.{AdapterStart}
-use Rattle.kept_adapter.specs.declared.adapter_start.LedgerStart.{LedgerStart}
 use Rattle.kept_adapter.specs.declared.progress.Progress.{Progress}
 use Rattle.kept_adapter.specs.Keys.{ledger_key, is_ledger_key, device_key}
-use Rattle.kept_adapter.specs.Restarts.{IsNarrow}
-use Rattle.kept_adapter.specs.Saved.{saved_objects, saved_ledger, saved_device, bytes_of_slot, ledger_bytes, first_entries, ENTRIES}
-use Rattle.kept_adapter.specs.Started.{is_free_slot, by_device_key, after_entry, is_used, beginning, progressed, put_back, put_all_back}
-use Rattle.kept_adapter.specs.Started.{new_ledger, configured, put_back_in, trusted_ledger}
-use Rattle.kept_adapter.proofs.PutBack.{put_two, IsLeft, objects_leave}
+use Rattle.kept_adapter.specs.Saved.{bytes_of_slot, ledger_bytes, first_entries}
+use Rattle.kept_adapter.specs.Started.{is_free_slot, by_device_key, after_entry, progressed, put_back, put_all_back}
+use Rattle.kept_adapter.proofs.PutBack.{put_two}
 
 -- ---- the key of an entry of the ledger
 
@@ -110,7 +106,8 @@ at_life : (l : LedgerState) (slots old : ℕ) (p : Progress) → l.life < 2 ^ 64
 at_life l slots old p h own lost =
     let d = done (state_of p.objects (Some (part slots l.life []))) Used in
     let after : after_entry (state_of p.objects p.ledger) (ledger_key 0) (le 8 l.life) ≡ d
-    = ap (λ o. after_entry (state_of p.objects o) (ledger_key 0) (le 8 l.life)) own ∙ life_used p.objects slots old l.life h in
+    = ap (λ o. after_entry (state_of p.objects o) (ledger_key 0) (le 8 l.life)) own
+    ∙ life_used p.objects slots old l.life h in
     subst (IsAt l slots 0) (sym (put_done p 0 (le 8 l.life) d after)) (record {
       ledger = refl;
       within = omega arith;
@@ -265,7 +262,8 @@ first_at l old (suc n) p is h own lost =
     let front = first_entries l (suc n) in
     let entry : ℕ × List ℕ = (ledger_key (suc n), ledger_bytes l (suc n)) in
     subst (IsAt l l.slots (suc n)) (sym (put_two p front (entry ∷ [])))
-    (next_at l n (put_all_back p front) (slice_get l.taken n) is h refl (first_at l old n p is (omega (arith, h)) own lost))
+    (next_at l n (put_all_back p front) (slice_get l.taken n) is h refl
+    (first_at l old n p is (omega (arith, h)) own lost))
 
 -- With any number of slots, each is put back, or one is lost.
 abbrev pub IsAtOrLost : LedgerState → ℕ → ℕ → Progress → Type 0

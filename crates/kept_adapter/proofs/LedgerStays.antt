@@ -1,6 +1,8 @@
 -- What holds of every ledger still holds after every step of a device whose requests consist of bytes.
-use Rattle.std.proofs.Common.{◌≡◌, ℕ, zero, suc, ◌+◌, ◌*◌, ◌<◌, ◌≤◌, ◌^◌, ◌==◌, ◌&&◌, nat_lt, nat_le, not, Bool, true, false, cond, if◌then◌else◌, Option, Some, None, List, [], ◌∷◌, length, take, drop, refl, ap, sym, ◌∙◌, subst, arith, Result, Ok, Err}
-use Rattle.std.specs.Prelude.{⊤, option_map, IfSome, slice_index}
+use Rattle.std.proofs.Common.{◌≡◌, ℕ, zero, suc, ◌+◌, ◌*◌, ◌<◌, ◌≤◌, ◌^◌, ◌==◌, nat_lt, not, Bool, true, false, cond}
+use Rattle.std.proofs.Common.{if◌then◌else◌, Option, Some, None, List, [], ◌∷◌, length, take, drop, refl, ap, sym, ◌∙◌}
+use Rattle.std.proofs.Common.{subst, arith, Result, Ok, Err}
+use Rattle.std.specs.Prelude.{⊤, option_map, IfSome}
 use Rattle.std.proofs.lemmas.Bool.{eqb-true, ltb-true, and_parts}
 use Rattle.std.proofs.lemmas.Bool.Decides.{nat_tests}
 use Rattle.std.proofs.lemmas.List.{get_or-drop}
@@ -15,22 +17,28 @@ use Rattle.cip_message.specs.Request.{Request as RouterRequest, request_of}
 use Rattle.cip_ledger.specs.declared.request.TheConstants.{LEDGER}
 use Rattle.cip_ledger.specs.declared.service.TheConstants as services
 use Rattle.cip_ledger.specs.Device.{Device}
-use Rattle.cip_ledger.specs.Doubt.{is_doubtful, is_in_doubt_at, is_in_doubt, is_kept_reply, can_settle, with_last, settled}
+use Rattle.cip_ledger.specs.Doubt.{is_doubtful, is_in_doubt_at, is_in_doubt, is_kept_reply, can_settle, with_last}
+use Rattle.cip_ledger.specs.Doubt.{settled}
 use Rattle.cip_ledger.specs.Kept.{IsLedger}
 use Rattle.cip_ledger.specs.Ledger.{LedgerState, SlotState, slot_of, with_slot, without_slot, AreSlots, IsSlot}
-use Rattle.cip_ledger.specs.Requests.{LedgerRequest, Command, command_of, ledger_request, request_by_parts, request_by_path, is_barred}
+use Rattle.cip_ledger.specs.Requests.{LedgerRequest, Command, command_of, ledger_request, request_by_parts}
+use Rattle.cip_ledger.specs.Requests.{request_by_path, is_barred}
 use Rattle.cip_ledger.specs.Runs.{Request, command_given}
-use Rattle.cip_ledger.specs.Services.{Action, Replies, Executes, Frees, refuses, size_fault, unless, do_new, do_by_slot, do_command, do_once, forget, forget_in, action_of, reply_to, refusal, KEPT_LIMIT, HEAD_SIZE}
-use Rattle.cip_ledger.specs.Turn.{Fate, Passed, Served, fate, fate_of, turn_by, with_executed, with_freed, embedded_reply}
+use Rattle.cip_ledger.specs.Services.{Action, Replies, Executes, Frees, refuses, size_fault, unless, do_new, do_by_slot}
+use Rattle.cip_ledger.specs.Services.{forget, forget_in, action_of, KEPT_LIMIT, HEAD_SIZE}
+use Rattle.cip_ledger.specs.Turn.{Fate, Passed, Served, fate, fate_of, turn_by, with_executed, with_freed}
+use Rattle.cip_ledger.specs.Turn.{embedded_reply}
 use Rattle.cip_ledger.proofs.Answered.{gives}
 use Rattle.cip_ledger.proofs.Fates.{Means, fate-means}
 use Rattle.cip_ledger.proofs.KeptLemmas.{apart-with_slot, apart-without_slot, slots-with_slot, slots-without_slot}
 use Rattle.cip_ledger.proofs.SlotLemmas.{slot_of-originator}
 use Rattle.cip_owner.specs.Owned.{OwnedState}
 use Rattle.cip_owner.specs.OwnedLaws.{exec_owned_within}
-use Rattle.enip_adapter.specs.DeviceRuns.{DeviceStep, Requested, WrittenBy, device_after, device_after_step, objects_after, objects_answer}
+use Rattle.enip_adapter.specs.DeviceRuns.{DeviceStep, Requested, WrittenBy, device_after_step, objects_after}
+use Rattle.enip_adapter.specs.DeviceRuns.{objects_answer}
 use Rattle.kept_adapter.specs.Restarts.{IsOfBytes}
-use Rattle.enip_adapter.specs.OwnWrites.{OwnWrite, WritesData, WritesAttribute, SetsStatus, SetsState, Prepares, Settles, ledger_written, device_written}
+use Rattle.enip_adapter.specs.OwnWrites.{OwnWrite, WritesData, WritesAttribute, SetsStatus, SetsState, Prepares}
+use Rattle.enip_adapter.specs.OwnWrites.{Settles, ledger_written}
 
 -- ---- the numbers of a command fit their types
 
@@ -45,7 +53,8 @@ in_data : (short : Bool) (s w : ℕ) (rest : List ℕ) (q : RouterRequest) → A
     (Ok (record { service = s; path = take (2 * w) rest; «data» = drop (2 * w) rest }))) (Ok q) → AreBytes q.data
 in_data true s w rest q h e = absurd (cc)
 in_data false s w rest q h e =
-    let same : ◌≡◌ {A = RouterRequest} (record { service = s; path = take (2 * w) rest; «data» = drop (2 * w) rest }) q = cc in
+    let same : ◌≡◌ {A = RouterRequest} (record { service = s; path = take (2 * w) rest; «data» = drop (2 * w) rest }) q
+    = cc in
     subst AreBytes (ap (λ r. r.data) same) (λ i. rw (get_or-drop (2 * w) rest i 0) (h (suc (suc (2 * w + i)))))
 
 router_data : (text : List ℕ) (q : RouterRequest) → AreBytes text → request_of text ≡ Ok q → AreBytes q.data
@@ -110,10 +119,12 @@ room_by_slot : (ledger : LedgerState) (max_size : ℕ) (command : Command) (foun
     → slot_of command.originator ledger.taken ≡ found → HasRoom ledger (do_by_slot ledger max_size command found)
 room_by_slot ledger max_size command None is = by_free (nat_lt (length ledger.taken) ledger.slots) _ tt refl
   where
-    by_free : (free : Bool) (refused : Action) → HasRoom ledger refused → nat_lt (length ledger.taken) ledger.slots ≡ free
+    by_free : (free : Bool) (refused : Action) → HasRoom ledger refused
+        → nat_lt (length ledger.taken) ledger.slots ≡ free
         → HasRoom ledger (if free then do_new max_size command else refused)
     by_free true refused none e =
-        room_if ledger (nat_lt max_size (HEAD_SIZE + 1 + KEPT_LIMIT)) _ _ tt (λ none. ltb-true (length ledger.taken) ledger.slots e)
+        room_if ledger (nat_lt max_size (HEAD_SIZE + 1 + KEPT_LIMIT)) _ _ tt
+        (λ none. ltb-true (length ledger.taken) ledger.slots e)
     by_free false refused none e = none
 room_by_slot ledger max_size command (Some slot) is =
     room_if ledger (nat_lt command.number slot.number) _ _ tt
@@ -200,7 +211,7 @@ freed_stays : (ledger : LedgerState) (freed : ℕ) → IsLedger ledger → IsLed
 freed_stays ledger freed is = record {
   life = is.life;
   few = is.few;
-  within = (let shorter = length_without ledger.taken freed in let within = is.within in omega (arith, shorter, within));
+  within = (let shorter = length_without ledger.taken freed in let all = is.within in omega (arith, shorter, all));
   apart = apart-without_slot ledger.taken freed is.apart;
   sized = slots-without_slot ledger.taken freed is.sized;
 }
@@ -270,7 +281,8 @@ turn_stays (Served service (Executes command)) device request fits means room is
     let narrow = command_fits request command fits means.means.given_is in
     let reply = embedded_reply objects_after objects_answer device.router command.request in
     mapped_stays device.ledger (with_executed command reply)
-    (λ l own holds. last_stays l (record { originator = command.originator; number = command.number; reply = Some reply })
+    (λ l own holds. last_stays l
+    (record { originator = command.originator; number = command.number; reply = Some reply })
     holds (record {
       originator = narrow.originator;
       number = narrow.number;
@@ -292,7 +304,8 @@ written_stays (SetsStatus status) ledger is = is
 written_stays (SetsState state) ledger is = is
 written_stays (Prepares reply) ledger is = is
 written_stays (Settles originator number reply) ledger is =
-    mapped_stays ledger (λ l. settled l originator number reply) (λ l own holds. settled_stays l originator number reply holds) is
+    mapped_stays ledger (λ l. settled l originator number reply)
+    (λ l own holds. settled_stays l originator number reply holds) is
 
 pub step_stays : (device : Device) (step : DeviceStep) → IsOfBytes step → IfSome device.ledger IsLedger
     → IfSome (device_after_step device step).ledger IsLedger

@@ -1,30 +1,32 @@
 -- What a device executes over restarts that go on with its ledger.
-use Rattle.std.proofs.Common.{◌≡◌, ◌≢◌, ℕ, ◌+◌, ◌<◌, ◌==◌, Bool, true, false, if◌then◌else◌, Option, Some, None, List, [], ◌∷◌, ◌++◌, refl, ap, sym, ◌∙◌, subst, arith, ◌⊎◌, inl, inr, unwrap_or}
-use Rattle.std.specs.Prelude.{⊤, option_map, IfSome}
+use Rattle.std.proofs.Common.{◌≡◌, ◌≢◌, ℕ, ◌<◌, true, false, if◌then◌else◌, Option, Some, None, List, [], ◌∷◌, ◌++◌}
+use Rattle.std.proofs.Common.{refl, ap, sym, ◌∙◌, subst, arith, inl, inr}
+use Rattle.std.specs.Prelude.{option_map}
 use Rattle.std.specs.List.{AllByRecursion}
-use Rattle.std.proofs.lemmas.Bool.{eqb-false}
 use Rattle.cip_objects.specs.Router.{general_status}
-use Rattle.cip_ledger.specs.declared.router.LedgerRouter.{LedgerRouter}
 use Rattle.cip_ledger.specs.declared.service.TheConstants as services
 use Rattle.cip_ledger.specs.Device.{Device}
 use Rattle.cip_ledger.specs.Doubt.{can_settle, with_last, settled}
 use Rattle.cip_ledger.specs.Ledger.{LedgerState, SlotState, slot_of}
-use Rattle.cip_ledger.specs.Laws.{UntilFreed, Rises, HasNoDoubles, IsNotFreed, Succeeds}
+use Rattle.cip_ledger.specs.Laws.{UntilFreed, Rises, IsNotFreed, Succeeds}
 use Rattle.cip_ledger.specs.Requests.{Command, ledger_request}
-use Rattle.cip_ledger.specs.Runs.{Request, slot_in, command_given, Executed, Freed, Event, answer_to, journal, events_by}
+use Rattle.cip_ledger.specs.Runs.{Request, slot_in, command_given, Executed, Freed, Event, answer_to, journal}
+use Rattle.cip_ledger.specs.Runs.{events_by}
 use Rattle.cip_ledger.specs.Services.{Replies, Executes, Frees, success, reply_to, last_content}
 use Rattle.cip_ledger.specs.Turn.{Fate, Passed, Served, fate, turn_by, with_executed, with_freed, embedded_reply}
-use Rattle.cip_ledger.proofs.Answered.{gives-unique, spelled, once_service, passed_none, none_some, rises-apart, settles}
+use Rattle.cip_ledger.proofs.Answered.{gives-unique, spelled, once_service, passed_none, none_some, settles}
 use Rattle.cip_ledger.proofs.Fates.{Means, fate-means}
 use Rattle.cip_ledger.proofs.Settled.{Settled, newer_than, next_by, settled-run, settled-command, journal-above}
 use Rattle.cip_ledger.proofs.SlotLemmas.{slot_of-with_other}
 use Rattle.cip_ledger.specs.Status.{status_number}
-use Rattle.enip_adapter.specs.DeviceRuns.{DeviceStep, Requested, WrittenBy, device_after_step, journal_by_step, objects_after, objects_answer}
-use Rattle.enip_adapter.specs.OwnWrites.{OwnWrite, WritesData, WritesAttribute, SetsStatus, SetsState, Prepares, Settles, ledger_written, device_written}
+use Rattle.enip_adapter.specs.DeviceRuns.{Requested, WrittenBy, objects_after, objects_answer}
+use Rattle.enip_adapter.specs.OwnWrites.{OwnWrite, WritesData, WritesAttribute, SetsStatus, SetsState, Prepares}
+use Rattle.enip_adapter.specs.OwnWrites.{Settles, ledger_written, device_written}
 use Rattle.enip_adapter.proofs.DeviceLemmas.{above-append}
 use Rattle.enip_adapter.proofs.SettleLemmas.{written-settled}
 use Rattle.kept_adapter.specs.declared.adapter_start.AdapterStart.{AdapterStart}
-use Rattle.kept_adapter.specs.Restarts.{LifeStep, Does, Restarts, restarted, after_life_step, after_life_steps, journal_by_life_step, journal_over_restarts}
+use Rattle.kept_adapter.specs.Restarts.{LifeStep, Does, Restarts, restarted, after_life_step, after_life_steps}
+use Rattle.kept_adapter.specs.Restarts.{journal_over_restarts}
 use Rattle.kept_adapter.specs.Restarts.{IsDevice, IsStep, GoesOn, IsGoingOn, slots_of, SettlesOthers, SettlesNothingOf}
 use Rattle.kept_adapter.specs.RestartLaws.{GoOn}
 use Rattle.kept_adapter.proofs.Restarted.{goes_on, device_stays}
@@ -123,7 +125,8 @@ above count device (Does (WrittenBy write) ∷ steps) originator number reply ar
     (later count device (Does (WrittenBy write)) steps are) after.1
 above count device (Restarts start ∷ steps) originator number reply are settled =
     above count (restarted start device) steps originator number reply (later count device (Restarts start) steps are)
-    (subst (λ l. Settled number reply (slot_in originator l)) (sym (going_on count device start are.runs are.on.0)) settled)
+    (subst (λ l. Settled number reply (slot_in originator l))
+    (sym (going_on count device start are.runs are.on.0)) settled)
 
 rises_by : (f : Fate) (device : Device) (request : Request) (events : List Event) → Means device.ledger request f
     → ((originator number : ℕ) (reply : Option (List ℕ))
@@ -228,7 +231,8 @@ written_slot (SetsStatus status) ledger originator other = refl
 written_slot (SetsState state) ledger originator other = refl
 written_slot (Prepares reply) ledger originator other = refl
 written_slot (Settles by number reply) None originator other = refl
-written_slot (Settles by number reply) (Some ledger) originator other = other_slot ledger by number originator reply other
+written_slot (Settles by number reply) (Some ledger) originator other =
+    other_slot ledger by number originator reply other
 
 pub stays_settled : (count : Option ℕ) (device : Device) (steps : List LifeStep) (originator number : ℕ)
     (reply : Option (List ℕ)) → AreGoingOn count device steps → AllByRecursion (SettlesNothingOf originator) steps
@@ -251,7 +255,8 @@ stays_settled count device (Does (WrittenBy write) ∷ steps) originator number 
 stays_settled count device (Restarts start ∷ steps) originator number reply are others kept settled =
     stays_settled count (restarted start device) steps originator number reply
     (later count device (Restarts start) steps are) others.1 kept
-    (subst (λ l. Settled number reply (slot_in originator l)) (sym (going_on count device start are.runs are.on.0)) settled)
+    (subst (λ l. Settled number reply (slot_in originator l))
+    (sym (going_on count device start are.runs are.on.0)) settled)
 
 pub same_answer : (count : Option ℕ) (device : Device) (first again : Request) (between : List LifeStep)
     (originator number : ℕ) → AreGoingOn count device (Does (Requested first) ∷ between)

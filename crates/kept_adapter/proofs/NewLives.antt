@@ -1,11 +1,12 @@
 -- What a device executes over restarts, each of which goes on with its ledger or begins a new life.
-use Rattle.std.proofs.Common.{◌≡◌, ◌≢◌, ℕ, ◌<◌, Bool, true, false, if◌then◌else◌, Option, Some, None, List, [], ◌∷◌, ◌++◌, refl, ap, sym, ◌∙◌, subst, arith, ◌⊎◌, inl, inr, unwrap_or}
+use Rattle.std.proofs.Common.{◌≡◌, ◌≢◌, ℕ, ◌<◌, true, false, if◌then◌else◌, Option, Some, None, List, [], ◌∷◌, ◌++◌}
+use Rattle.std.proofs.Common.{refl, ap, sym, ◌∙◌, subst, arith, ◌⊎◌, inl, inr, unwrap_or}
 use Rattle.std.specs.Prelude.{⊤, option_map, IfSome}
 use Rattle.std.specs.List.{AllByRecursion}
 use Rattle.cip_ledger.specs.Device.{Device}
 use Rattle.cip_ledger.specs.Doubt.{can_settle, with_last, settled}
-use Rattle.cip_ledger.specs.Ledger.{LedgerState, SlotState, slot_of}
-use Rattle.cip_ledger.specs.Laws.{UntilFreed, IsNotFreed, AreOfLife}
+use Rattle.cip_ledger.specs.Ledger.{LedgerState, slot_of}
+use Rattle.cip_ledger.specs.Laws.{UntilFreed, AreOfLife}
 use Rattle.cip_ledger.specs.Requests.{Command}
 use Rattle.cip_ledger.specs.Runs.{Request, slot_in, Executed, Freed, Event, journal, events_by}
 use Rattle.cip_ledger.specs.Services.{Replies, Executes, Frees}
@@ -13,13 +14,15 @@ use Rattle.cip_ledger.specs.Turn.{Fate, Passed, Served, fate, turn_by, with_exec
 use Rattle.cip_ledger.proofs.Doubts.{settled-stays}
 use Rattle.cip_ledger.proofs.Fates.{Means, fate-means}
 use Rattle.cip_ledger.proofs.Settled.{Settled, next_by, settled-run, settled-command, journal-above, journal-life}
-use Rattle.enip_adapter.specs.DeviceRuns.{DeviceStep, Requested, WrittenBy, objects_after, objects_answer}
-use Rattle.enip_adapter.specs.OwnWrites.{OwnWrite, WritesData, WritesAttribute, SetsStatus, SetsState, Prepares, Settles, ledger_written, device_written}
+use Rattle.enip_adapter.specs.DeviceRuns.{Requested, WrittenBy, objects_after, objects_answer}
+use Rattle.enip_adapter.specs.OwnWrites.{OwnWrite, WritesData, WritesAttribute, SetsStatus, SetsState, Prepares}
+use Rattle.enip_adapter.specs.OwnWrites.{Settles, ledger_written, device_written}
 use Rattle.enip_adapter.proofs.DeviceLemmas.{above-append}
 use Rattle.kept_adapter.specs.declared.adapter_start.AdapterStart.{AdapterStart}
 use Rattle.kept_adapter.specs.declared.adapter_start.LedgerStart.{LedgerStart}
 use Rattle.kept_adapter.specs.Restarts.{LifeStep, Does, Restarts, restarted, after_life_step, journal_over_restarts}
-use Rattle.kept_adapter.specs.Restarts.{IsDevice, IsStep, IsConfiguration, IsLedgerAfter, life_of, IsNotAgain, IsOnceInEachLife, BeginsOther, HaveOwnLives, BeginNewLives}
+use Rattle.kept_adapter.specs.Restarts.{IsDevice, IsStep, IsLedgerAfter, life_of, IsNotAgain, IsOnceInEachLife}
+use Rattle.kept_adapter.specs.Restarts.{BeginsOther, BeginNewLives}
 use Rattle.kept_adapter.specs.Started.{new_ledger}
 use Rattle.kept_adapter.proofs.Restarted.{ledger_after, device_stays}
 
@@ -84,8 +87,10 @@ by_slot (Some l) life originator number reply is = inr (reply, is)
 of_other_life : (own life originator number : ℕ) (events : List Event) → own ≢ life → AreOfLife own events
     → UntilFreed originator (IsAbove life number) events
 of_other_life own life originator number [] other all = tt
-of_other_life own life originator number (Executed command reply ∷ events) other all =
-    ((λ same of_life. absurd (other (sym all.0 ∙ of_life))), of_other_life own life originator number events other all.1)
+of_other_life own life originator number (Executed command reply ∷ events) other all = (
+  (λ same of_life. absurd (other (sym all.0 ∙ of_life))),
+  of_other_life own life originator number events other all.1,
+)
 of_other_life own life originator number (Freed freed ∷ events) other all =
     λ differs. of_other_life own life originator number events other all
 

@@ -1,37 +1,25 @@
 -- The ledger that is put back from what is kept of a device.
-use Rattle.std.proofs.Common.{◌≡◌, ℕ, zero, suc, ◌+◌, ◌-◌, ◌*◌, ◌/◌, ◌%◌, ◌<◌, ◌≤◌, ◌^◌, ◌==◌, ◌&&◌, ◌||◌, nat_lt, nat_le, not, Bool, true, false, cond, if◌then◌else◌, Option, Some, None, List, [], ◌∷◌, ◌++◌, map, length, take, drop, refl, ap, sym, ◌∙◌, subst, arith, append_assoc, ◌⊎◌, inl, inr}
-use Rattle.std.specs.Prelude.{⊤, option_map, IfSome, is_some, slice_get}
+use Rattle.std.proofs.Common.{◌≡◌, ℕ, ◌+◌, ◌-◌, ◌/◌, ◌%◌, ◌<◌, ◌^◌, ◌==◌, ◌&&◌, ◌||◌, nat_lt, nat_le, not, Bool, true}
+use Rattle.std.proofs.Common.{false, if◌then◌else◌, Option, Some, None, List, [], ◌∷◌, ◌++◌, map, refl, ap, ◌∙◌, arith}
 use Rattle.std.specs.List.{AllByRecursion}
-use Rattle.std.proofs.lemmas.Bool.{eqb-true, eq-eqb, and_parts}
-use Rattle.std.proofs.lemmas.Bool.Decides.{nat_tests}
-use Rattle.std.proofs.lemmas.List.{append-nil, length-append}
-use Rattle.byteorder.specs.Numbers.{little_number-reads_back}
+use Rattle.std.proofs.lemmas.Bool.{eqb-true}
 use Rattle.cip_application.specs.declared.kind.AttributeKind.{AttributeKind}
 use Rattle.cip_application.specs.declared.object.AttributeName.{AttributeName}
 use Rattle.cip_application.specs.Values.{is_whole}
-use Rattle.cip_bytes.specs.Numbers.{le, number_at}
 use Rattle.cip_bytes.specs.declared.protocol.TheConstants.{IDENTITY}
 use Rattle.cip_ledger.specs.declared.request.TheConstants.{LEDGER}
-use Rattle.cip_ledger.specs.Kept.{IsLedger, can_restore, restored as slot_restored}
-use Rattle.cip_ledger.specs.Ledger.{SlotState, LedgerState, IsSlot, empty_ledger}
-use Rattle.cip_ledger.proofs.KeptLemmas.{next_restored, slot_behind}
+use Rattle.cip_ledger.specs.Ledger.{LedgerState}
 use Rattle.cip_objects.specs.Contents.{Contents, with_value}
 use Rattle.cip_objects.specs.Kept.{name_of, kept_names, kept_kind, with_kept, restored as value_restored}
-use Rattle.device_state.specs.declared.restoring.Outcome.TheVariants.{Used, Unknown, Unfit}
-use Rattle.device_state.specs.Keys.{key_of, name_in}
-use Rattle.device_state.specs.Restored.{Done, done, slot_in, if_restored, slot_done, ledger_done, with_ledger, with_objects, to_ledger, if_value, value_done, by_name, restored_entry, identity_outcome}
-use Rattle.device_state.specs.Saved.{State, Entry, state_of, entry_of, slot_bytes, value_entry, identity_bytes}
-use Rattle.device_state.proofs.KeyLemmas.{name_back}
-use Rattle.device_state.proofs.LedgerPuts.{slot_back}
+use Rattle.device_state.specs.Keys.{name_in}
+use Rattle.device_state.specs.Restored.{Done, with_objects, to_ledger, if_value, value_done, by_name}
+use Rattle.device_state.specs.Saved.{State, state_of, value_entry}
 use Rattle.enip_keep.specs.Kept.{Kept}
-use Rattle.kept_adapter.specs.declared.adapter_start.AdapterStart.{AdapterStart}
-use Rattle.kept_adapter.specs.declared.adapter_start.LedgerStart.{LedgerStart}
 use Rattle.kept_adapter.specs.declared.progress.Progress.{Progress}
 use Rattle.kept_adapter.specs.Keys.{ledger_key, is_ledger_key, device_key}
 use Rattle.kept_adapter.specs.Restarts.{IsNarrow}
-use Rattle.kept_adapter.specs.Saved.{pair_of, saved_objects, saved_ledger, saved_device, bytes_of_slot, ledger_bytes, first_entries, ENTRIES}
-use Rattle.kept_adapter.specs.Started.{is_free_slot, by_device_key, after_entry, is_used, beginning, progressed, put_back, put_all_back}
-use Rattle.kept_adapter.specs.Started.{new_ledger, configured, put_back_in, trusted_ledger}
+use Rattle.kept_adapter.specs.Saved.{pair_of, saved_objects}
+use Rattle.kept_adapter.specs.Started.{is_free_slot, by_device_key, after_entry, is_used, put_back, put_all_back}
 
 pub put_two : (p : Progress) (first second : Kept)
     → put_all_back p (first ++ second) ≡ put_all_back (put_all_back p first) second
@@ -118,8 +106,8 @@ key_leaves : (s : State) (content : List ℕ) (key : ℕ) → (key / 2 ^ 32 == L
     → (by_device_key s content (Some key)).after.ledger ≡ s.ledger
 key_leaves s content key other = by (nat_lt key (2 ^ 48))
   where
-    by : (is : Bool) → (by_name s content (if is then Some (name_of (key / 2 ^ 32) (key / 2 ^ 16 % 2 ^ 16) (key % 2 ^ 16))
-        else None)).after.ledger ≡ s.ledger
+    by : (is : Bool) → (by_name s content (if is then
+        Some (name_of (key / 2 ^ 32) (key / 2 ^ 16 % 2 ^ 16) (key % 2 ^ 16)) else None)).after.ledger ≡ s.ledger
     by false = refl
     by true = named_leaves s content (name_of (key / 2 ^ 32) (key / 2 ^ 16 % 2 ^ 16) (key % 2 ^ 16)) other
 
@@ -131,7 +119,8 @@ device_leaves : (s : State) (content : List ℕ) (key : ℕ) → key < 2 ^ 48
     → (by_device_key s content (device_key key)).after.ledger ≡ s.ledger
 device_leaves s content key h =
     ap (λ t. (by_device_key s content (if t then Some (key - 2 ^ 48)
-    else (if nat_le (2 ^ 48) key || (key / 2 ^ 32 == LEDGER) then None else Some key))).after.ledger) (not_of_ledger key h)
+    else (if nat_le (2 ^ 48) key || (key / 2 ^ 32 == LEDGER) then None else Some key))).after.ledger)
+    (not_of_ledger key h)
     ∙ by (nat_le (2 ^ 48) key || (key / 2 ^ 32 == LEDGER)) refl
   where
     by : (none : Bool) → nat_le (2 ^ 48) key || (key / 2 ^ 32 == LEDGER) ≡ none

@@ -1,29 +1,28 @@
 -- A device after a restart.
-use Rattle.std.proofs.Common.{◌≡◌, ℕ, zero, suc, ◌<◌, ◌≤◌, ◌^◌, ◌==◌, ◌&&◌, not, Bool, true, false, if◌then◌else◌, Option, Some, None, List, [], ◌∷◌, ◌++◌, length, take, refl, ap, sym, ◌∙◌, subst, arith, ◌⊎◌, inl, inr}
-use Rattle.std.specs.Prelude.{⊤, option_map, IfSome}
+use Rattle.std.proofs.Common.{◌≡◌, ℕ, suc, ◌<◌, ◌≤◌, ◌^◌, ◌==◌, ◌&&◌, not, Bool, true, false, if◌then◌else◌, Option}
+use Rattle.std.proofs.Common.{Some, None, List, [], ◌∷◌, length, refl, ap, sym, ◌∙◌, subst, arith, inl, inr}
+use Rattle.std.specs.Prelude.{option_map, IfSome}
 use Rattle.std.specs.List.{AllByRecursion}
-use Rattle.std.proofs.lemmas.List.{append-nil}
 use Rattle.cip_application.specs.declared.object.AttributeName.{AttributeName}
 use Rattle.cip_bytes.specs.declared.protocol.TheConstants.{IDENTITY}
 use Rattle.cip_ledger.specs.declared.request.TheConstants.{LEDGER}
 use Rattle.cip_ledger.specs.Device.{Device}
 use Rattle.cip_ledger.specs.Kept.{IsLedger}
-use Rattle.cip_ledger.specs.Ledger.{LedgerState, empty_ledger}
+use Rattle.cip_ledger.specs.Ledger.{LedgerState}
 use Rattle.cip_objects.specs.Contents.{Contents}
 use Rattle.cip_objects.specs.Kept.{kept_names}
-use Rattle.device_state.specs.declared.restoring.Outcome.TheVariants.{Used, Unknown}
 use Rattle.device_state.specs.Keys.{name_in}
-use Rattle.device_state.specs.Restored.{Done, done, to_ledger, with_objects, value_done, by_name}
+use Rattle.device_state.specs.Restored.{Done, by_name}
 use Rattle.device_state.specs.Saved.{State, state_of}
 use Rattle.enip_keep.specs.Kept.{Kept}
-use Rattle.enip_adapter.specs.DeviceRuns.{DeviceStep, device_after_step}
 use Rattle.kept_adapter.specs.declared.adapter_start.AdapterStart.{AdapterStart}
 use Rattle.kept_adapter.specs.declared.adapter_start.LedgerStart.{LedgerStart}
 use Rattle.kept_adapter.specs.declared.progress.Progress.{Progress}
 use Rattle.kept_adapter.specs.Keys.{device_key}
-use Rattle.kept_adapter.specs.Restarts.{LifeStep, Does, Restarts, restarted, after_life_step, IsNarrow, IsDevice, IsConfiguration, IsOfBytes, IsStep, GoesOn, slots_of, IsLedgerAfter}
+use Rattle.kept_adapter.specs.Restarts.{LifeStep, Does, Restarts, restarted, after_life_step, IsNarrow, IsDevice}
+use Rattle.kept_adapter.specs.Restarts.{IsConfiguration, IsStep, GoesOn, slots_of, IsLedgerAfter}
 use Rattle.kept_adapter.specs.SameKeys.{step_alike}
-use Rattle.kept_adapter.specs.Saved.{saved_objects, saved_ledger, saved_device, first_entries, ENTRIES}
+use Rattle.kept_adapter.specs.Saved.{saved_objects, saved_device, first_entries, ENTRIES}
 use Rattle.kept_adapter.specs.Started.{is_free_slot, by_device_key, after_entry, beginning, put_back, put_all_back}
 use Rattle.kept_adapter.specs.Started.{new_ledger, configured, put_back_in, trusted_ledger, started}
 use Rattle.kept_adapter.proofs.LedgerStays.{step_stays}
@@ -191,7 +190,8 @@ ledger_after_by start m (Some l) names is configuration =
     let left : IsLeft (beginning (configured start)) p = objects_leave (beginning (configured start)) m names in
     subst (λ q. IsLedgerAfter start (Some l) (trusted_ledger start q))
     (sym (put_two (beginning (configured start)) (saved_objects m) (first_entries l ENTRIES)))
-    (after_by start start.ledger l p ENTRIES 64 refl configuration.few refl (omega arith) (few_taken l is) is left.ledger left.lost)
+    (after_by start start.ledger l p ENTRIES 64 refl configuration.few refl (omega arith)
+    (few_taken l is) is left.ledger left.lost)
 
 pub ledger_after : (start : AdapterStart) (device : Device) → IsDevice device → IsConfiguration start
     → IsLedgerAfter start device.ledger (restarted start device).ledger

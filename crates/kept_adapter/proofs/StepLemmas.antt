@@ -1,6 +1,7 @@
 -- The device of an adapter over restarts, and the adapter of a server that keeps its state.
-use Rattle.std.proofs.Common.{◌≡◌, ℕ, ◌<◌, ◌≤◌, ◌==◌, ◌&&◌, nat_lt, not, Bool, true, false, if◌then◌else◌, Option, Some, None, List, [], ◌∷◌, ◌++◌, map, refl, ap, sym, ◌∙◌, subst, arith, ◌⊎◌, inl, inr}
-use Rattle.std.specs.Prelude.{⊤, option_map, is_some}
+use Rattle.std.proofs.Common.{◌≡◌, ℕ, ◌<◌, ◌≤◌, ◌==◌, ◌&&◌, nat_lt, not, Bool, true, false, if◌then◌else◌, Option, Some}
+use Rattle.std.proofs.Common.{None, List, [], ◌∷◌, ◌++◌, map, refl, ap, sym, ◌∙◌, subst, arith, ◌⊎◌, inl, inr}
+use Rattle.std.specs.Prelude.{is_some}
 use Rattle.std.specs.List.{AllByRecursion}
 use Rattle.std.proofs.lemmas.Bool.{eq-eqb, ne_eqb, ltb-true, le-ltb, and_parts}
 use Rattle.cip_application.specs.declared.object.AttributeName.{AttributeName}
@@ -8,29 +9,31 @@ use Rattle.cip_bytes.specs.declared.protocol.TheConstants.{IDENTITY}
 use Rattle.cip_ledger.specs.declared.request.TheConstants.{LEDGER}
 use Rattle.cip_ledger.specs.Device.{Device}
 use Rattle.cip_ledger.specs.Ledger.{LedgerState}
-use Rattle.cip_objects.specs.Configuration.{contents_of_config}
 use Rattle.cip_objects.specs.Contents.{Contents}
 use Rattle.device_state.specs.Keys.{name_in}
-use Rattle.device_state.specs.Restored.{Done, done, to_ledger, with_objects, value_done, by_name}
+use Rattle.device_state.specs.Restored.{Done, to_ledger, by_name}
 use Rattle.device_state.specs.Saved.{State, state_of}
 use Rattle.enip_adapter.specs.Calls.{AdapterState, Call}
 use Rattle.enip_adapter.specs.DeviceRuns.{DeviceStep, device_after, device_after_step, steps_of_calls}
 use Rattle.enip_adapter.specs.Runs.{after_calls}
 use Rattle.enip_adapter.proofs.DeviceLemmas.{calls-end}
 use Rattle.enip_keep.specs.Kept.{Kept, set, set_all}
-use Rattle.enip_keep.specs.Lives.{Step, Executed, Restarted, after}
+use Rattle.enip_keep.specs.declared.lives.Event.{Event}
+use Rattle.enip_keep.specs.declared.lives.Event.TheVariants.{Round, Restart}
+use Rattle.enip_keep.specs.Lives.{Step, Executed, Restarted, IsStepOf, AreStepsOf}
 use Rattle.kept_server.specs.Changes.{keys_of, rise, rise_above}
+use Rattle.kept_server.specs.declared.round.RoundInput.{RoundInput}
 use Rattle.kept_server.specs.Rounds.{DeviceContents, RoundRequests, after_round, contents_with, kept_of}
 use Rattle.kept_adapter.specs.declared.adapter_start.AdapterStart.{AdapterStart}
 use Rattle.kept_adapter.specs.declared.adapter_start.LedgerStart.{LedgerStart}
 use Rattle.kept_adapter.specs.declared.progress.Progress.{Progress}
 use Rattle.kept_adapter.specs.Keys.{device_key}
-use Rattle.kept_adapter.specs.Restarts.{LifeStep, Does, Restarts, after_life_step, after_life_steps}
+use Rattle.kept_adapter.specs.Restarts.{LifeStep, Does, after_life_steps}
 use Rattle.kept_adapter.specs.Restarts.{AdapterStep, adapter_after, steps_over_restarts, contents_after, adapter_step}
-use Rattle.kept_adapter.specs.Restarts.{IsServed, HasTables, KeepsTables}
+use Rattle.kept_adapter.specs.Restarts.{IsServed, HasTables, KeepsTables, RestartsTables, brings_input, IsLeft}
 use Rattle.kept_adapter.specs.SameKeys.{device_keys, keys_stay, steps_alike}
 use Rattle.kept_adapter.specs.Saved.{saved_adapter, adapter_keys}
-use Rattle.kept_adapter.specs.Started.{is_free_slot, by_device_key, after_entry, beginning, put_back, put_all_back}
+use Rattle.kept_adapter.specs.Started.{is_free_slot, by_device_key, beginning, put_back, put_all_back}
 use Rattle.kept_adapter.specs.Started.{new_ledger, configured, put_back_in, trusted_ledger, started}
 use Rattle.kept_adapter.proofs.PutBack.{shapes_back}
 
@@ -201,7 +204,8 @@ after_a_round device c calls of =
       is = record {
         saved = refl;
         rising = ap rise keys ∙ of.is.rising;
-        found = same_found c.found (adapter_keys c.adapter) (adapter_keys (after_calls c.adapter calls)) (sym keys) of.is.found;
+        found = same_found c.found (adapter_keys c.adapter) (adapter_keys (after_calls c.adapter calls)) (sym keys)
+            of.is.found;
       };
       same = (alike.0 ∙ of.same.0, alike.1 ∙ of.same.1);
     }
@@ -261,3 +265,35 @@ kept_end c steps is keep =
     kept_is_saved (contents_after steps c)
     (served_by c.adapter.state.shared.objects c steps (record { is = is; same = (refl, refl) }) keep)
     ∙ ap saved_adapter (adapter_end c steps is keep)
+
+-- ---- the steps of events
+
+tables_of : {W : Type 0} (device : Device) (event : Event (RoundInput W) AdapterStart)
+    (step : Step (RoundRequests W) AdapterStart) → RestartsTables device event → IsStepOf brings_input event step
+    → KeepsTables device step
+tables_of device (Round input) (Executed requests) keeps is = tt
+tables_of device (Round input) (Restarted start) keeps is = absurd is
+tables_of device (Restart start) (Executed requests) keeps is = absurd is
+tables_of device (Restart start) (Restarted with) keeps is = subst (HasTables device) (sym is) keeps
+
+all_tables : {W : Type 0} (device : Device) (events : List (Event (RoundInput W) AdapterStart)) (went : List Bool)
+    (steps : List (Step (RoundRequests W) AdapterStart)) → AllByRecursion (RestartsTables device) events
+    → AreStepsOf brings_input events went steps → AllByRecursion (KeepsTables device) steps
+all_tables device [] went steps keep none = subst (AllByRecursion (KeepsTables device)) (sym none) tt
+all_tables device (event ∷ events) [] steps keep none = subst (AllByRecursion (KeepsTables device)) (sym none) tt
+all_tables device (event ∷ events) (true ∷ went) steps keep (step, others, same, is, rest) =
+    subst (AllByRecursion (KeepsTables device)) (sym same)
+    (tables_of device event step keep.0 is, all_tables device events went others keep.1 rest)
+all_tables device (event ∷ events) (false ∷ went) steps keep (inl rest) =
+    all_tables device events went steps keep.1 rest
+all_tables device (event ∷ events) (false ∷ went) steps keep (inr (step, others, same, is, rest)) =
+    subst (AllByRecursion (KeepsTables device)) (sym same)
+    (tables_of device event step keep.0 is, all_tables device events went others keep.1 rest)
+
+pub left_end : {W : Type 0} (c : DeviceContents) (events : List (Event (RoundInput W) AdapterStart)) (went : List Bool)
+    (left : Kept) → IsServed c → AllByRecursion (RestartsTables c.adapter.state.shared.objects) events
+    → IsLeft c events went left
+    → (steps : List (Step (RoundRequests W) AdapterStart)) × AreStepsOf brings_input events went steps
+    × (left ≡ saved_adapter (adapter_after (map adapter_step steps) c.adapter))
+left_end c events went left is keep (steps, of, same) =
+    (steps, of, same ∙ kept_end c steps is (all_tables c.adapter.state.shared.objects events went steps keep of))

@@ -1,5 +1,7 @@
 -- The objects of a device that starts from what was kept of a device.
-use Rattle.std.proofs.Common.{◌≡◌, ◌≢◌, ℕ, zero, suc, ◌+◌, ◌-◌, ◌/◌, ◌<◌, ◌≤◌, ◌^◌, ◌==◌, ◌&&◌, ◌||◌, nat_le, not, Bool, true, false, if◌then◌else◌, Option, Some, None, List, [], ◌∷◌, ◌++◌, length, map, refl, ap, sym, ◌∙◌, subst, arith}
+use Rattle.std.proofs.Common.{◌≡◌, ◌≢◌, ℕ, zero, suc, ◌-◌, ◌/◌, ◌<◌, ◌≤◌, ◌^◌, ◌==◌, ◌&&◌, ◌||◌, nat_le, not, Bool}
+use Rattle.std.proofs.Common.{true, false, if◌then◌else◌, Option, Some, None, List, [], ◌∷◌, length, map, refl, ap, sym}
+use Rattle.std.proofs.Common.{◌∙◌, arith}
 use Rattle.std.specs.List.{AllByRecursion}
 use Rattle.std.proofs.lemmas.Bool.{eqb-true, and_parts}
 use Rattle.std.proofs.lemmas.Bool.Decides.{nat_tests}
@@ -13,18 +15,19 @@ use Rattle.cip_objects.specs.Contents.{Contents, value_at}
 use Rattle.cip_objects.specs.Kept.{name_of, kept_names}
 use Rattle.cip_objects.proofs.ReadAfterSet.{value_at-other}
 use Rattle.device_state.specs.declared.restoring.Outcome.TheVariants.{Used}
-use Rattle.device_state.specs.Keys.{key_of, name_in}
+use Rattle.device_state.specs.Keys.{key_of}
 use Rattle.device_state.specs.Laws.{IsName, IsKept}
-use Rattle.device_state.specs.Restored.{Done, done, to_ledger, by_name, restored_entry}
-use Rattle.device_state.specs.Saved.{State, Entry, state_of, entry_of, value_entry, identity_bytes}
+use Rattle.device_state.specs.Restored.{Done, done, to_ledger, restored_entry}
+use Rattle.device_state.specs.Saved.{State, state_of, entry_of, value_entry, identity_bytes}
 use Rattle.device_state.proofs.Puts.{put, put_all, entry_put, shapes_stay, entries_same, identity_stays, reads}
-use Rattle.enip_keep.specs.Kept.{Kept}
 use Rattle.kept_adapter.specs.declared.adapter_start.AdapterStart.{AdapterStart}
 use Rattle.kept_adapter.specs.declared.progress.Progress.{Progress}
-use Rattle.kept_adapter.specs.Keys.{ledger_key, is_ledger_key, device_key}
+use Rattle.kept_adapter.specs.Keys.{ledger_key, device_key}
 use Rattle.kept_adapter.specs.Restarts.{restarted, HasObjects}
-use Rattle.kept_adapter.specs.Saved.{pair_of, saved_objects, saved_ledger, saved_device, ledger_bytes, first_entries, ENTRIES}
-use Rattle.kept_adapter.specs.Started.{is_free_slot, by_device_key, after_entry, beginning, put_back, put_all_back, configured, put_back_in}
+use Rattle.kept_adapter.specs.Saved.{pair_of, saved_objects, saved_ledger, saved_device, ledger_bytes, first_entries}
+use Rattle.kept_adapter.specs.Saved.{ENTRIES}
+use Rattle.kept_adapter.specs.Started.{is_free_slot, by_device_key, after_entry, beginning, put_back, put_all_back}
+use Rattle.kept_adapter.specs.Started.{configured, put_back_in}
 use Rattle.kept_adapter.proofs.LedgerBack.{ledger_goes}
 use Rattle.kept_adapter.proofs.PutBack.{put_two, not_of_ledger}
 
@@ -117,9 +120,11 @@ values_back p m (name ∷ names) same are =
 identity_leaves : (p : Progress) (content : List ℕ) → (put_back p (key_of IDENTITY 1 0, content)).objects ≡ p.objects
 identity_leaves p content = refl
 
-objects_back : (start : AdapterStart) (m : Contents) (l : Option LedgerState) → (contents_of_config start.objects).shapes ≡ m.shapes
+objects_back : (start : AdapterStart) (m : Contents) (l : Option LedgerState)
+    → (contents_of_config start.objects).shapes ≡ m.shapes
     → AllByRecursion (IsKept m) (kept_names m.shapes)
-    → (put_back_in start (saved_device m l)).objects ≡ put_all m (contents_of_config start.objects) (kept_names m.shapes)
+    → (put_back_in start (saved_device m l)).objects
+    ≡ put_all m (contents_of_config start.objects) (kept_names m.shapes)
 objects_back start m l same are =
     let p = beginning (configured start) in
     let q = put_back p (key_of IDENTITY 1 0, identity_bytes m) in

@@ -1,5 +1,5 @@
 -- What holds of a device over restarts.
-use Rattle.std.specs.Prelude.{◌≡◌, ◌≢◌, ℕ, List, [], ◌∷◌, map, Option}
+use Rattle.std.specs.Prelude.{◌≡◌, ◌≢◌, ℕ, List, [], ◌∷◌, map, Bool}
 use Rattle.std.specs.List.{AllByRecursion}
 use Rattle.cip_ledger.specs.Device.{Device}
 use Rattle.cip_ledger.specs.Laws.{HasNoDoubles, Rises, IsNotFreed, Succeeds}
@@ -11,12 +11,18 @@ use Rattle.device_state.specs.Laws.{IsKept}
 use Rattle.enip_adapter.specs.Adapter.{new_adapter}
 use Rattle.enip_adapter.specs.Calls.{AdapterState}
 use Rattle.enip_adapter.specs.DeviceRuns.{Requested, objects_after, objects_answer}
-use Rattle.enip_keep.specs.Lives.{Step}
+use Rattle.enip_keep.specs.declared.lives.Event.{Event}
+use Rattle.enip_keep.specs.Kept.{Kept}
+use Rattle.enip_keep.specs.Lives.{Step, AreStepsOf}
+use Rattle.kept_server.specs.declared.round.RoundInput.{RoundInput}
 use Rattle.kept_server.specs.Rounds.{DeviceContents, RoundRequests, kept_of}
 use Rattle.kept_adapter.specs.declared.adapter_start.AdapterStart.{AdapterStart}
-use Rattle.kept_adapter.specs.Restarts.{LifeStep, Does, restarted, after_life_step, after_life_steps, journal_over_restarts}
+use Rattle.kept_adapter.specs.Restarts.{LifeStep, Does, restarted, after_life_step, after_life_steps}
+use Rattle.kept_adapter.specs.Restarts.{journal_over_restarts}
 use Rattle.kept_adapter.specs.Restarts.{AdapterStep, adapter_after, steps_over_restarts, contents_after, adapter_step}
-use Rattle.kept_adapter.specs.Restarts.{IsServed, KeepsTables, HasObjects, IsDevice, IsConfiguration, IsStep, GoesOn, IsGoingOn}
+use Rattle.kept_adapter.specs.Restarts.{RestartsTables, brings_input, IsLeft}
+use Rattle.kept_adapter.specs.Restarts.{IsServed, KeepsTables, HasObjects, IsDevice, IsConfiguration, IsStep, GoesOn}
+use Rattle.kept_adapter.specs.Restarts.{IsGoingOn}
 use Rattle.kept_adapter.specs.Restarts.{slots_of, IsLedgerAfter, SettlesNothingOf, IsOnceInEachLife, BeginNewLives}
 use Rattle.kept_adapter.specs.Saved.{saved_adapter, saved_objects}
 use Rattle.kept_adapter.specs.Started.{started}
@@ -31,7 +37,8 @@ new_adapter_law = (start : AdapterStart) (a : AdapterState) →
 -- With as many slots, and if no new life is wanted, the ledger goes on: it is in the same life, and each slot has its
 -- originator, number and reply, or is in doubt.
 abbrev pub ledger_goes_on_law : Type 0
-ledger_goes_on_law = (start : AdapterStart) (device : Device) → IsDevice device → GoesOn (slots_of device.ledger) start →
+ledger_goes_on_law =
+    (start : AdapterStart) (device : Device) → IsDevice device → GoesOn (slots_of device.ledger) start →
     (restarted start device).ledger ≡ device.ledger
 
 -- With any configuration the ledger goes on, with as many slots as are configured, or it is new.
@@ -62,18 +69,19 @@ first_device_law = (start : AdapterStart) → IsConfiguration start → IsDevice
 
 -- It still holds after each step.
 abbrev pub device_stays_law : Type 0
-device_stays_law = (device : Device) (step : LifeStep) → IsStep step → IsDevice device → IsDevice (after_life_step device step)
+device_stays_law = (device : Device) (step : LifeStep) → IsStep step → IsDevice device →
+    IsDevice (after_life_step device step)
 
 -- ---- many restarts
 
--- The objects and the ledger of an adapter are those after the requests that reach them, the device's own writes and the
--- restarts, in order.
+-- The objects and the ledger of an adapter are those after the requests that reach them, the device's own writes and
+-- the restarts, in order.
 abbrev pub device_over_restarts_law : Type 0
 device_over_restarts_law = (a : AdapterState) (steps : List AdapterStep) →
     (adapter_after steps a).state.shared.objects ≡ after_life_steps a.state.shared.objects (steps_over_restarts a steps)
 
--- If each configuration has the same tables, the adapter of a server that keeps its state is that after the calls of its
--- rounds and its restarts, in order.
+-- If each configuration has the same tables, the adapter of a server that keeps its state is that after the calls of
+-- its rounds and its restarts, in order.
 abbrev pub server_law : Type 0 → Type 0
 server_law W = (c : DeviceContents) (steps : List (Step (RoundRequests W) AdapterStart)) → IsServed c →
     AllByRecursion (KeepsTables c.adapter.state.shared.objects) steps →
@@ -85,6 +93,15 @@ server_kept_law W = (c : DeviceContents) (steps : List (Step (RoundRequests W) A
     AllByRecursion (KeepsTables c.adapter.state.shared.objects) steps →
     kept_of (contents_after steps c) ≡ saved_adapter (adapter_after (map adapter_step steps) c.adapter)
 
+-- Whatever rounds, crashes and starts may leave is what is kept of the adapter after steps of these events: the calls
+-- of each round whose answers left, and each restart that went well, are among them.
+abbrev pub crash_law : Type 0 → Type 0
+crash_law W =
+    (c : DeviceContents) (events : List (Event (RoundInput W) AdapterStart)) (went : List Bool) (left : Kept) →
+    IsServed c → AllByRecursion (RestartsTables c.adapter.state.shared.objects) events → IsLeft c events went left →
+    (steps : List (Step (RoundRequests W) AdapterStart)) × AreStepsOf brings_input events went steps
+    × (left ≡ saved_adapter (adapter_after (map adapter_step steps) c.adapter))
+
 -- Each restart goes on with the ledger of the device.
 pub record GoOn (device : Device) (steps : List LifeStep) : Type 0 where
   pub is : IsDevice device
@@ -92,18 +109,20 @@ pub record GoOn (device : Device) (steps : List LifeStep) : Type 0 where
   pub on : AllByRecursion (IsGoingOn (slots_of device.ledger)) steps
 
 -- No number of an originator is executed twice over all restarts, unless its slot is freed in between.
-abbrev pub once_law : Type 0
-once_law = (device : Device) (steps : List LifeStep) → GoOn device steps →
+abbrev pub once_over_restarts_law : Type 0
+once_over_restarts_law = (device : Device) (steps : List LifeStep) → GoOn device steps →
     HasNoDoubles (journal_over_restarts device steps)
 
 -- The numbers that are executed for one originator rise over all restarts, unless its slot is freed in between.
-abbrev pub rising_law : Type 0
-rising_law = (device : Device) (steps : List LifeStep) → GoOn device steps → Rises (journal_over_restarts device steps)
+abbrev pub rising_over_restarts_law : Type 0
+rising_over_restarts_law = (device : Device) (steps : List LifeStep) → GoOn device steps →
+    Rises (journal_over_restarts device steps)
 
 -- Every two success answers to a number have the same bytes, whatever restarts came between them, if the originator's
 -- slot was not freed and none of its commands settled in between.
-abbrev pub same_bytes_law : Type 0
-same_bytes_law = (device : Device) (first again : Request) (between : List LifeStep) (originator number : ℕ) →
+abbrev pub same_bytes_over_restarts_law : Type 0
+same_bytes_over_restarts_law =
+    (device : Device) (first again : Request) (between : List LifeStep) (originator number : ℕ) →
     GoOn device (Does (Requested first) ∷ between) → AllByRecursion (SettlesNothingOf originator) between →
     Succeeds objects_after objects_answer device first originator number →
     Succeeds objects_after objects_answer (after_life_steps device (Does (Requested first) ∷ between)) again originator
@@ -114,6 +133,6 @@ same_bytes_law = (device : Device) (first again : Request) (between : List LifeS
 
 -- Whichever restarts go on and whichever begin a life: no number of an originator is executed twice in one life, unless
 -- its slot is freed in between. The premise is that no life has the number of an earlier one.
-abbrev pub lives_law : Type 0
-lives_law = (device : Device) (steps : List LifeStep) → IsDevice device → AllByRecursion IsStep steps →
+abbrev pub each_life_once_law : Type 0
+each_life_once_law = (device : Device) (steps : List LifeStep) → IsDevice device → AllByRecursion IsStep steps →
     BeginNewLives device steps → IsOnceInEachLife (journal_over_restarts device steps)

@@ -1,5 +1,6 @@
 -- A device over restarts: its steps, and starts from what is kept of it.
-use Rattle.std.specs.Prelude.{◌≡◌, ◌≢◌, ◌⊎◌, ⊤, length, is_some, map, ℕ, ◌<◌, ◌≤◌, ◌^◌, true, false, Option, Some, None, option_map, IfSome, List, [], ◌∷◌, ◌++◌}
+use Rattle.std.specs.Prelude.{◌≡◌, ◌≢◌, ◌⊎◌, ⊤, length, is_some, map, ℕ, ◌<◌, ◌≤◌, ◌^◌, Bool, true, false, Option, Some}
+use Rattle.std.specs.Prelude.{option_map, IfSome, List, [], ◌∷◌, ◌++◌}
 use Rattle.std.specs.List.{AllByRecursion}
 use Rattle.cip_application.specs.declared.object.AttributeName.{AttributeName}
 use Rattle.cip_bytes.specs.Numbers.{AreBytes}
@@ -17,8 +18,12 @@ use Rattle.enip_adapter.specs.DeviceRuns.{DeviceStep, Requested, WrittenBy, devi
 use Rattle.enip_adapter.specs.DeviceRuns.{steps_of_calls}
 use Rattle.enip_adapter.specs.OwnWrites.{OwnWrite, Settles}
 use Rattle.enip_adapter.specs.Runs.{after_calls}
-use Rattle.enip_keep.specs.Lives.{Step, Executed, Restarted, after}
+use Rattle.enip_keep.specs.declared.lives.Event.{Event}
+use Rattle.enip_keep.specs.declared.lives.Event.TheVariants.{Round, Restart}
+use Rattle.enip_keep.specs.Kept.{Kept}
+use Rattle.enip_keep.specs.Lives.{Step, Executed, Restarted, after, IsKeptAfter}
 use Rattle.kept_server.specs.Changes.{keys_of, rise}
+use Rattle.kept_server.specs.declared.round.RoundInput.{RoundInput}
 use Rattle.kept_server.specs.Rounds.{DeviceContents, RoundRequests, after_round, contents_with, kept_of}
 use Rattle.kept_adapter.specs.declared.adapter_start.AdapterStart.{AdapterStart}
 use Rattle.kept_adapter.specs.Saved.{saved_device, saved_adapter, adapter_keys}
@@ -104,6 +109,19 @@ pub record HasObjects (device : Device) (start : AdapterStart) : Type 0 where
 abbrev pub KeepsTables : {W : Type 0} → Device → Step (RoundRequests W) AdapterStart → Type 0
 KeepsTables device (Executed requests) = ⊤
 KeepsTables device (Restarted start) = HasTables device start
+
+abbrev pub RestartsTables : {W : Type 0} → Device → Event (RoundInput W) AdapterStart → Type 0
+RestartsTables device (Round input) = ⊤
+RestartsTables device (Restart start) = HasTables device start
+
+abbrev pub brings_input : {W : Type 0} → RoundInput W → RoundRequests W → Type 0
+brings_input input requests = requests.input ≡ input
+
+-- These events may leave these entries: the clause of `live_peers`.
+abbrev pub IsLeft : {W : Type 0} → DeviceContents → List (Event (RoundInput W) AdapterStart) → List Bool → Kept → Type 0
+IsLeft c events went left =
+    IsKeptAfter brings_input (after_round saved_adapter) kept_of
+    (λ start found. contents_with saved_adapter found (started start found)) events went c left
 
 -- ---- what holds of every device, configuration and step
 

@@ -1,27 +1,28 @@
 //! What holds of a device over restarts. The functions do nothing: their clauses are the laws.
 //!
-//! `restarted` in `specs/Restarts.antt` defines the device that starts from what is kept of a device, `after_life_steps` the
-//! device after requests, writes of its own and restarts, in any order, and `journal_over_restarts` the commands that are
-//! executed in them. A crash is a restart: what a crash may leave is what is kept of the device after some round, as
-//! `live_peers` of `kept_server` states.
+//! `restarted` in `specs/Restarts.antt` defines the device that starts from what is kept of a device, `after_life_steps`
+//! the device after requests, its own writes and restarts, in any order, and `journal_over_restarts` the commands that are
+//! executed in them. A crash is a restart: it leaves what is kept of the device after some round, as `live_peers` of
+//! `kept_server` states.
 
 ghost use Rattle.kept_adapter.specs.RestartLaws.{new_adapter_law, ledger_goes_on_law, ledger_or_new_law, values_go_on_law};
 ghost use Rattle.kept_adapter.specs.RestartLaws.{others_begin_again_law, first_device_law, device_stays_law};
-ghost use Rattle.kept_adapter.specs.RestartLaws.{device_over_restarts_law, once_law, rising_law};
-ghost use Rattle.kept_adapter.specs.RestartLaws.{same_bytes_law, lives_law, server_law, server_kept_law};
+ghost use Rattle.kept_adapter.specs.RestartLaws.{device_over_restarts_law, server_law, server_kept_law, crash_law};
+ghost use Rattle.kept_adapter.specs.RestartLaws.{once_over_restarts_law, rising_over_restarts_law};
+ghost use Rattle.kept_adapter.specs.RestartLaws.{same_bytes_over_restarts_law, each_life_once_law};
 
 use enip_server::Wire;
 
-/// A restart goes on with the ledger: the life, the slots, the kept replies and the doubts are the very ones, if the
-/// configuration has as many slots and wants no new life. With any configuration the ledger goes on or is new, in the
-/// life of the configuration. Sessions and connections are gone.
+/// A restart goes on with the ledger if the configuration has as many slots and wants no new life: the life, the slots,
+/// the kept replies and the doubts are the same. With any other configuration the ledger goes on, with as many slots as
+/// are configured, or it is new, in the configured life. Sessions and connections are gone.
 pub fn ledger_goes_on()
     ensures adapter { new_adapter_law }
     ensures same { ledger_goes_on_law }
     ensures any { ledger_or_new_law }
 {}
 
-/// Each value that is kept is as it was, and each other value is as it is configured.
+/// Each value that is kept is as it was before the restart, and each other value is as it is configured.
 pub fn values_go_on()
     ensures kept { values_go_on_law }
     ensures others { others_begin_again_law }
@@ -39,28 +40,29 @@ pub fn restarts_are_steps()
     ensures { device_over_restarts_law }
 {}
 
-/// The adapter of a server that keeps its state is, over restarts with the same tables, the adapter after the calls of its
-/// rounds and the restarts, in order, and what is kept is what is kept of that adapter. So the laws hold of the steps of
-/// which `live_peers` of `kept_server` speaks.
+/// The adapter of a server that keeps its state is the adapter after the calls of its rounds and the restarts, in order,
+/// if each configuration has the same tables. What is kept is what is kept of that adapter, and so is what a crash may
+/// leave, as `live_peers` of `kept_server` states it: the adapter is that after steps of the events.
 pub fn servers_restart<W: Wire + Drop>()
     ensures adapter { server_law W }
     ensures kept { server_kept_law W }
+    ensures left { crash_law W }
 {}
 
-/// Over restarts that go on, no number of an originator is executed twice, and the numbers rise, unless the originator's
-/// slot is freed in between.
-pub fn each_command_once()
-    ensures once { once_law }
-    ensures rising { rising_law }
-{}
-
-/// Over restarts that go on, every two success answers to a number have the same bytes.
-pub fn same_bytes()
-    ensures { same_bytes_law }
-{}
-
-/// Over restarts of any configurations, no number of an originator is executed twice in one life of the device, unless
+/// Over restarts that go on with the ledger, no number of an originator is executed twice, and the numbers rise, unless
 /// the originator's slot is freed in between.
-pub fn once_over_all_lives()
-    ensures { lives_law }
+pub fn once_over_restarts()
+    ensures once { once_over_restarts_law }
+    ensures rising { rising_over_restarts_law }
+{}
+
+/// Over restarts that go on with the ledger, every two success answers to a number have the same bytes.
+pub fn same_bytes_over_restarts()
+    ensures { same_bytes_over_restarts_law }
+{}
+
+/// Over restarts with any configurations, no number of an originator is executed twice in one life of the device, unless
+/// the originator's slot is freed in between.
+pub fn once_in_each_life()
+    ensures { each_life_once_law }
 {}

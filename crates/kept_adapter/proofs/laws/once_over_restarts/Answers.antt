@@ -1,7 +1,7 @@
 use Rattle.cip_ledger.proofs.Answered.{rises-apart}
 use Rattle.kept_adapter.specs.Restarts.{slots_of, journal_over_restarts}
 use Rattle.kept_adapter.proofs.LifeLemmas.{go_on, all_rise}
-use Rattle.kept_adapter.proofs.laws.each_command_once.Goals as goal
+use Rattle.kept_adapter.proofs.laws.once_over_restarts.Goals as goal
 
 pub returns-clause-once : goal.returns-clause-once
 returns-clause-once c =

@@ -2,7 +2,7 @@ use Rattle.std.proofs.Common.{◌∷◌}
 use Rattle.enip_adapter.specs.DeviceRuns.{Requested}
 use Rattle.kept_adapter.specs.Restarts.{Does, slots_of}
 use Rattle.kept_adapter.proofs.LifeLemmas.{go_on, same_answer}
-use Rattle.kept_adapter.proofs.laws.same_bytes.Goals as goal
+use Rattle.kept_adapter.proofs.laws.same_bytes_over_restarts.Goals as goal
 
 pub returns : goal.returns
 returns c =

@@ -1,5 +1,5 @@
 use Rattle.kept_adapter.proofs.NewLives.{once_in_lives}
-use Rattle.kept_adapter.proofs.laws.once_over_all_lives.Goals as goal
+use Rattle.kept_adapter.proofs.laws.once_in_each_life.Goals as goal
 
 pub returns : goal.returns
 returns c = once_in_lives
