@@ -13,7 +13,8 @@ use Rattle.cip_ledger.specs.Runs.{Event as LedgerEvent, Executed as CommandExecu
 use Rattle.cip_objects.specs.Configuration.{contents_of_config}
 use Rattle.cip_objects.specs.Kept.{kept_names}
 use Rattle.device_state.specs.Saved.{identity_bytes}
-use Rattle.enip_adapter.specs.Calls.{AdapterState, Call}
+use Rattle.enip_adapter.specs.Calls.{AdapterState, Call, Held}
+use Rattle.enip_adapter.specs.Calls.Call.{Begins_peer, Feeds, Ends_peer, Ticks, Writes}
 use Rattle.enip_adapter.specs.DeviceRuns.{DeviceStep, Requested, WrittenBy, device_after_step, journal_by_step}
 use Rattle.enip_adapter.specs.DeviceRuns.{steps_of_calls}
 use Rattle.enip_adapter.specs.OwnWrites.{OwnWrite, Settles}
@@ -148,6 +149,25 @@ IsOfBytes (WrittenBy write) = ⊤
 abbrev pub IsStep : LifeStep → Type 0
 IsStep (Does step) = IsOfBytes step
 IsStep (Restarts start) = IsConfiguration start
+
+-- The pieces of a peer's stream consist of bytes.
+abbrev pub FeedsBytes : Call → Type 0
+FeedsBytes Begins_peer = ⊤
+FeedsBytes (Feeds now peer piece) = AreBytes piece
+FeedsBytes (Ends_peer peer) = ⊤
+FeedsBytes (Ticks now) = ⊤
+FeedsBytes (Writes write) = ⊤
+
+abbrev pub IsAdapterStep : AdapterStep → Type 0
+IsAdapterStep (Executed calls) = AllByRecursion FeedsBytes calls
+IsAdapterStep (Restarted start) = IsConfiguration start
+
+-- What is held of the peers' next frames consists of bytes.
+abbrev pub IsHeldInBytes : Held → Type 0
+IsHeldInBytes held = AreBytes held.bytes
+
+abbrev pub HoldsBytes : AdapterState → Type 0
+HoldsBytes a = AllByRecursion IsHeldInBytes a.held
 
 -- ---- restarts that go on with the ledger
 
