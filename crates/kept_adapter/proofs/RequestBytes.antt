@@ -1,8 +1,9 @@
 -- The requests that reach a device consist of bytes if what its peers send does.
-use Rattle.std.proofs.Common.{◌≡◌, ℕ, zero, suc, ◌+◌, ◌==◌, ◌&&◌, nat_lt, not, Bool, true, false, if◌then◌else◌, Option, Some}
-use Rattle.std.proofs.Common.{None, List, [], ◌∷◌, ◌++◌, map, length, take, drop, Result, Ok, Err, refl, ap, sym, subst}
+use Rattle.std.proofs.Common.{◌≡◌, ℕ, zero, suc, ◌+◌, ◌==◌, ◌&&◌, nat_lt, not, Bool, true, false, if◌then◌else◌, Option}
+use Rattle.std.proofs.Common.{Some}
+use Rattle.std.proofs.Common.{None, List, [], ◌∷◌, ◌++◌, map, length, take, drop, Result, Ok, Err, refl, sym, subst}
 use Rattle.std.proofs.Common.{lit<}
-use Rattle.std.specs.Prelude.{⊤, find}
+use Rattle.std.specs.Prelude.{⊤, find, option_map}
 use Rattle.std.specs.List.{AllByRecursion}
 use Rattle.cip_bytes.specs.Numbers.{number_at, AreBytes}
 use Rattle.cip_bytes.specs.Protocol.{command_of}
@@ -16,17 +17,20 @@ use Rattle.cip_ledger.specs.Runs.{Request}
 use Rattle.cip_manager.specs.declared.connection.Connection.{Connection}
 use Rattle.cip_manager.specs.Connection.{is_named}
 use Rattle.enip_wire.specs.declared.item_list.CpfFault.{CpfFault}
-use Rattle.enip_wire.specs.Bodies.{body_items_of, data_of, rr_items_of, unit_items_of, with_id, rr_body_of, unit_body_of}
+use Rattle.enip_wire.specs.Bodies.{body_items_of, data_of, rr_items_of, unit_items_of, with_id, rr_body_of}
+use Rattle.enip_wire.specs.Bodies.{unit_body_of}
 use Rattle.enip_wire.specs.Frames.{Frame}
 use Rattle.enip_wire.specs.Items.{Item, size_at, first_items, whole, items_of, after as bytes_after}
 use Rattle.enip_wire.specs.Stream.{Parsed, bytes_taken, held_and_taken, parsed, cleared}
 use Rattle.enip_wire.specs.Stream.Parsed.{Incomplete, WholeFrame, TooLongHeader}
 use Rattle.enip_adapter.specs.declared.peer.Session.{Session}
 use Rattle.enip_adapter.specs.declared.shared.Shared.{Shared}
-use Rattle.enip_adapter.specs.Calls.{AdapterState, Call, Held, Meaning, call_meaning, after_call, bytes_found, bytes_held}
+use Rattle.enip_adapter.specs.Calls.{AdapterState, Call, Held, Meaning, call_meaning, after_call, bytes_found}
+use Rattle.enip_adapter.specs.Calls.{bytes_held}
 use Rattle.enip_adapter.specs.Calls.{held_at_beginning, piece_to, piece_meaning, dropped_piece, events_of_parsed}
 use Rattle.enip_adapter.specs.Calls.Call.{Begins_peer, Feeds, Ends_peer, Ticks, Writes}
-use Rattle.enip_adapter.specs.DeviceRuns.{DeviceStep, Requested, WrittenBy, steps_by_event, device_steps, steps_of_calls}
+use Rattle.enip_adapter.specs.DeviceRuns.{DeviceStep, Requested, steps_by_event, device_steps}
+use Rattle.enip_adapter.specs.DeviceRuns.{steps_of_calls}
 use Rattle.enip_adapter.specs.DeviceRuns.{requests_by_route, requests_in_rr, requests_by_target, requests_by_connection}
 use Rattle.enip_adapter.specs.DeviceRuns.{requests_in_unit, requests_by_command, requests_in_frame, requests_by_session}
 use Rattle.enip_adapter.specs.DeviceRuns.{requests_by_event}
@@ -38,10 +42,15 @@ use Rattle.enip_adapter.specs.Turn.{State, Event, Output, turn, session_of}
 use Rattle.enip_adapter.specs.Turn.Event.{Begin, End, At, Framed, Long, Written}
 use Rattle.enip_adapter.specs.Turn.Output.{NoReply, Sends, Begins, Refuses}
 use Rattle.enip_keep.specs.Lives.{Executed, Restarted}
-use Rattle.kept_adapter.specs.Restarts.{LifeStep, Does, Restarts, AdapterStep, steps_over_restarts, IsOfBytes, IsStep}
+use Rattle.kept_adapter.specs.Restarts.{LifeStep, Does, AdapterStep, steps_over_restarts, IsOfBytes, IsStep}
 use Rattle.kept_adapter.specs.Restarts.{FeedsBytes, HoldsBytes, IsHeldInBytes, IsAdapterStep}
+use Rattle.kept_adapter.specs.Restarts.{IsGoingOn, RestartsGoOn, IsConfiguration, slots_of}
+use Rattle.kept_adapter.specs.RestartLaws.{GoOn}
 use Rattle.kept_adapter.specs.Saved.{saved_adapter}
-use Rattle.kept_adapter.specs.Started.{started}
+use Rattle.kept_adapter.specs.Started.{started, new_ledger}
+use Rattle.kept_adapter.specs.declared.adapter_start.AdapterStart.{AdapterStart}
+use Rattle.kept_adapter.specs.declared.adapter_start.LedgerStart.{LedgerStart}
+use Rattle.kept_adapter.proofs.Restarted.{first_device}
 
 -- ---- the data in a body
 
@@ -78,7 +87,8 @@ items_bytes : (text : List ℕ) (made : List Item) → AreBytes text → items_o
 items_bytes text made fits e = by (nat_lt (length text) 2) _ e
   where
     by : (short : Bool) (fault : CpfFault) → (if short then Err fault else
-        whole (first_items (number_at 0 2 text) (drop 2 text)) (bytes_after (number_at 0 2 text) (drop 2 text))) ≡ Ok made
+        whole (first_items (number_at 0 2 text) (drop 2 text)) (bytes_after (number_at 0 2 text) (drop 2 text)))
+        ≡ Ok made
         → AllByRecursion HasBytes made
     by true fault is = absurd (cc)
     by false fault is =
@@ -125,8 +135,8 @@ unit_bytes : (l : List Item) (made : ℕ × List ℕ) → AllByRecursion HasByte
 unit_bytes [] made all e = absurd (cc)
 unit_bytes (a ∷ others) made all e = by ((a.kind == 0xa1) && (length a.bytes == 4)) _ e
   where
-    by : (right : Bool) (fault : CpfFault) → (if right then map_ok (with_id (number_at 0 4 a.bytes)) (data_of 0xb1 others)
-        else Err fault) ≡ Ok made → AreBytes made.1
+    by : (right : Bool) (fault : CpfFault) → (if right then
+        map_ok (with_id (number_at 0 4 a.bytes)) (data_of 0xb1 others) else Err fault) ≡ Ok made → AreBytes made.1
     by true fault is =
         with_id_bytes (number_at 0 4 a.bytes) (data_of 0xb1 others) made
         (λ bytes same. data_bytes 0xb1 others bytes all.1 same) is
@@ -290,8 +300,8 @@ record MeansBytes (m : Meaning) : Type 0 where
 parsed_events : (peer : ℕ) (bytes : List ℕ) → AreBytes bytes
     → AllByRecursion BringsBytes (events_of_parsed peer (parsed bytes))
 parsed_events peer bytes fits =
-    by (nat_lt (length bytes) 24) (nat_lt 65511 (number_at 2 2 bytes)) (length bytes == 24 + number_at 2 2 bytes) _ _ refl
-    (tt, tt)
+    by (nat_lt (length bytes) 24) (nat_lt 65511 (number_at 2 2 bytes)) (length bytes == 24 + number_at 2 2 bytes) _ _
+    refl (tt, tt)
   where
     by : (short long right : Bool) (too_long : Parsed) (f : Frame) → f.body ≡ drop 24 bytes
         → AllByRecursion BringsBytes (events_of_parsed peer too_long)
@@ -372,3 +382,35 @@ steps_fit a (Executed calls ∷ steps) holds fit =
     (steps_fit (after_calls a calls) steps (holds_on a calls holds fit.0) fit.1)
 steps_fit a (Restarted start ∷ steps) holds fit =
     (fit.0, steps_fit (started start (saved_adapter a)) steps tt fit.1)
+
+does_going : (count : Option ℕ) (steps : List DeviceStep) (more : List LifeStep)
+    → AllByRecursion (IsGoingOn count) more → AllByRecursion (IsGoingOn count) (map Does steps ++ more)
+does_going count [] more rest = rest
+does_going count (step ∷ steps) more rest = (tt, does_going count steps more rest)
+
+all_going : (count : Option ℕ) (a : AdapterState) (steps : List AdapterStep)
+    → AllByRecursion (RestartsGoOn count) steps → AllByRecursion (IsGoingOn count) (steps_over_restarts a steps)
+all_going count a [] on = tt
+all_going count a (Executed calls ∷ steps) on =
+    does_going count (steps_of_calls a calls) (steps_over_restarts (after_calls a calls) steps)
+    (all_going count (after_calls a calls) steps on.1)
+all_going count a (Restarted start ∷ steps) on =
+    (on.0, all_going count (started start (saved_adapter a)) steps on.1)
+
+new_slots : (ledger : Option LedgerStart) → slots_of (new_ledger ledger) ≡ option_map (λ l. l.originators) ledger
+new_slots None = refl
+new_slots (Some l) = refl
+
+-- An adapter that starts from nothing, over any calls and restarts.
+pub from_nothing : (start : AdapterStart) (steps : List AdapterStep) → IsConfiguration start
+    → AllByRecursion IsAdapterStep steps
+    → AllByRecursion (RestartsGoOn (option_map (λ l. l.originators) start.ledger)) steps
+    → GoOn (started start []).state.shared.objects (steps_over_restarts (started start []) steps)
+from_nothing start steps configuration fit on =
+    let a = started start [] in
+    record {
+      is = first_device start configuration;
+      fit = steps_fit a steps tt fit;
+      on = all_going (slots_of a.state.shared.objects.ledger) a steps
+          (subst (λ count. AllByRecursion (RestartsGoOn count) steps) (sym (new_slots start.ledger)) on);
+    }

@@ -183,6 +183,10 @@ abbrev pub IsGoingOn : Option ℕ → LifeStep → Type 0
 IsGoingOn slots (Does step) = ⊤
 IsGoingOn slots (Restarts start) = GoesOn slots start
 
+abbrev pub RestartsGoOn : Option ℕ → AdapterStep → Type 0
+RestartsGoOn count (Executed calls) = ⊤
+RestartsGoOn count (Restarted start) = GoesOn count start
+
 -- The ledger after a restart: a new one, or that before, with as many slots as are configured.
 abbrev pub IsLedgerAfter : AdapterStart → Option LedgerState → Option LedgerState → Type 0
 IsLedgerAfter start old new =
