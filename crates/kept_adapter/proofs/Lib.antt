@@ -7,3 +7,4 @@ pub mod LifeLemmas
 pub mod StepLemmas
 pub mod NewLives
 pub mod ValuesBack
+pub mod RequestBytes

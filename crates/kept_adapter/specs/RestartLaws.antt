@@ -1,5 +1,5 @@
 -- What holds of a device over restarts.
-use Rattle.std.specs.Prelude.{◌≡◌, ◌≢◌, ℕ, List, [], ◌∷◌, map, Bool}
+use Rattle.std.specs.Prelude.{option_map, ◌≡◌, ◌≢◌, ℕ, List, [], ◌∷◌, map, Bool}
 use Rattle.std.specs.List.{AllByRecursion}
 use Rattle.cip_ledger.specs.Device.{Device}
 use Rattle.cip_ledger.specs.Laws.{HasNoDoubles, Rises, IsNotFreed, Succeeds}
@@ -20,7 +20,7 @@ use Rattle.kept_adapter.specs.declared.adapter_start.AdapterStart.{AdapterStart}
 use Rattle.kept_adapter.specs.Restarts.{LifeStep, Does, restarted, after_life_step, after_life_steps}
 use Rattle.kept_adapter.specs.Restarts.{journal_over_restarts}
 use Rattle.kept_adapter.specs.Restarts.{AdapterStep, adapter_after, steps_over_restarts, contents_after, adapter_step}
-use Rattle.kept_adapter.specs.Restarts.{RestartsTables, brings_input, IsLeft}
+use Rattle.kept_adapter.specs.Restarts.{RestartsTables, brings_input, IsLeft, HoldsBytes, IsAdapterStep, RestartsGoOn}
 use Rattle.kept_adapter.specs.Restarts.{IsServed, KeepsTables, HasObjects, IsDevice, IsConfiguration, IsStep, GoesOn}
 use Rattle.kept_adapter.specs.Restarts.{IsGoingOn}
 use Rattle.kept_adapter.specs.Restarts.{slots_of, IsLedgerAfter, SettlesNothingOf, IsOnceInEachLife, BeginNewLives}
@@ -72,6 +72,11 @@ abbrev pub device_stays_law : Type 0
 device_stays_law = (device : Device) (step : LifeStep) → IsStep step → IsDevice device →
     IsDevice (after_life_step device step)
 
+-- What is assumed of steps holds of those of an adapter, if what its peers send consists of bytes.
+abbrev pub steps_fit_law : Type 0
+steps_fit_law = (a : AdapterState) (steps : List AdapterStep) → HoldsBytes a → AllByRecursion IsAdapterStep steps →
+    AllByRecursion IsStep (steps_over_restarts a steps)
+
 -- ---- many restarts
 
 -- The objects and the ledger of an adapter are those after the requests that reach them, the device's own writes and
@@ -112,6 +117,14 @@ pub record GoOn (device : Device) (steps : List LifeStep) : Type 0 where
 abbrev pub once_over_restarts_law : Type 0
 once_over_restarts_law = (device : Device) (steps : List LifeStep) → GoOn device steps →
     HasNoDoubles (journal_over_restarts device steps)
+
+-- So it is of an adapter that starts from nothing, over any calls and any restarts with as many slots.
+abbrev pub adapter_once_law : Type 0
+adapter_once_law = (start : AdapterStart) (steps : List AdapterStep) → IsConfiguration start →
+    AllByRecursion IsAdapterStep steps →
+    AllByRecursion (RestartsGoOn (option_map (λ l. l.originators) start.ledger)) steps →
+    HasNoDoubles
+    (journal_over_restarts (started start []).state.shared.objects (steps_over_restarts (started start []) steps))
 
 -- The numbers that are executed for one originator rise over all restarts, unless its slot is freed in between.
 abbrev pub rising_over_restarts_law : Type 0

@@ -13,7 +13,8 @@ use Rattle.cip_ledger.specs.Runs.{Event as LedgerEvent, Executed as CommandExecu
 use Rattle.cip_objects.specs.Configuration.{contents_of_config}
 use Rattle.cip_objects.specs.Kept.{kept_names}
 use Rattle.device_state.specs.Saved.{identity_bytes}
-use Rattle.enip_adapter.specs.Calls.{AdapterState, Call}
+use Rattle.enip_adapter.specs.Calls.{AdapterState, Call, Held}
+use Rattle.enip_adapter.specs.Calls.Call.{Begins_peer, Feeds, Ends_peer, Ticks, Writes}
 use Rattle.enip_adapter.specs.DeviceRuns.{DeviceStep, Requested, WrittenBy, device_after_step, journal_by_step}
 use Rattle.enip_adapter.specs.DeviceRuns.{steps_of_calls}
 use Rattle.enip_adapter.specs.OwnWrites.{OwnWrite, Settles}
@@ -149,6 +150,25 @@ abbrev pub IsStep : LifeStep → Type 0
 IsStep (Does step) = IsOfBytes step
 IsStep (Restarts start) = IsConfiguration start
 
+-- The pieces of a peer's stream consist of bytes.
+abbrev pub FeedsBytes : Call → Type 0
+FeedsBytes Begins_peer = ⊤
+FeedsBytes (Feeds now peer piece) = AreBytes piece
+FeedsBytes (Ends_peer peer) = ⊤
+FeedsBytes (Ticks now) = ⊤
+FeedsBytes (Writes write) = ⊤
+
+abbrev pub IsAdapterStep : AdapterStep → Type 0
+IsAdapterStep (Executed calls) = AllByRecursion FeedsBytes calls
+IsAdapterStep (Restarted start) = IsConfiguration start
+
+-- What is held of the peers' next frames consists of bytes.
+abbrev pub IsHeldInBytes : Held → Type 0
+IsHeldInBytes held = AreBytes held.bytes
+
+abbrev pub HoldsBytes : AdapterState → Type 0
+HoldsBytes a = AllByRecursion IsHeldInBytes a.held
+
 -- ---- restarts that go on with the ledger
 
 abbrev pub slots_of : Option LedgerState → Option ℕ
@@ -162,6 +182,10 @@ pub record GoesOn (count : Option ℕ) (start : AdapterStart) : Type 0 where
 abbrev pub IsGoingOn : Option ℕ → LifeStep → Type 0
 IsGoingOn slots (Does step) = ⊤
 IsGoingOn slots (Restarts start) = GoesOn slots start
+
+abbrev pub RestartsGoOn : Option ℕ → AdapterStep → Type 0
+RestartsGoOn count (Executed calls) = ⊤
+RestartsGoOn count (Restarted start) = GoesOn count start
 
 -- The ledger after a restart: a new one, or that before, with as many slots as are configured.
 abbrev pub IsLedgerAfter : AdapterStart → Option LedgerState → Option LedgerState → Type 0

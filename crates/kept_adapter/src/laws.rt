@@ -9,6 +9,7 @@ ghost use Rattle.kept_adapter.specs.RestartLaws.{new_adapter_law, ledger_goes_on
 ghost use Rattle.kept_adapter.specs.RestartLaws.{others_begin_again_law, first_device_law, device_stays_law};
 ghost use Rattle.kept_adapter.specs.RestartLaws.{device_over_restarts_law, server_law, server_kept_law, crash_law};
 ghost use Rattle.kept_adapter.specs.RestartLaws.{once_over_restarts_law, rising_over_restarts_law};
+ghost use Rattle.kept_adapter.specs.RestartLaws.{steps_fit_law, adapter_once_law};
 ghost use Rattle.kept_adapter.specs.RestartLaws.{same_bytes_over_restarts_law, each_life_once_law};
 
 use enip_server::Wire;
@@ -28,10 +29,12 @@ pub fn values_go_on()
     ensures others { others_begin_again_law }
 {}
 
-/// What the laws assume of a device holds of one that starts from nothing, and still holds after each step.
+/// What the laws assume of a device holds of one that starts from nothing, and still holds after each step. What they
+/// assume of a step holds of those of an adapter, if what its peers send consists of bytes.
 pub fn devices_stay()
     ensures first { first_device_law }
     ensures step { device_stays_law }
+    ensures bytes { steps_fit_law }
 {}
 
 /// The device of an adapter over restarts is the device after the requests that reach it, its own writes and the
@@ -54,6 +57,7 @@ pub fn servers_restart<W: Wire + Drop>()
 pub fn once_over_restarts()
     ensures once { once_over_restarts_law }
     ensures rising { rising_over_restarts_law }
+    ensures adapter { adapter_once_law }
 {}
 
 /// Over restarts that go on with the ledger, every two success answers to a number have the same bytes.
