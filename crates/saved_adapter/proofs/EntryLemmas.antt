@@ -1,6 +1,6 @@
 -- The entries of an adapter by their index.
-use Rattle.std.proofs.Common.{◌≡◌, ◌⊎◌, inl, inr, ℕ, zero, suc, ◌+◌, ◌-◌, ◌<◌, ◌≤◌, ◌^◌, ◌==◌, ◌&&◌, Bool, true, false, if◌then◌else◌, List, [], ◌∷◌, ◌++◌, length, map, drop, Option, Some, None, option_map, is_some, refl, sym, ap, ◌∙◌, arith}
-use Rattle.std.specs.Prelude.{slice_get, bytes_eq}
+use Rattle.std.proofs.Common.{◌≡◌, ◌⊎◌, inl, inr, ℕ, zero, suc, ◌+◌, ◌-◌, ◌<◌, ◌≤◌, ◌^◌, ◌==◌, ◌&&◌, Bool, true, false, if◌then◌else◌, List, [], ◌∷◌, ◌++◌, length, map, drop, Option, Some, None, option_map, refl, sym, ap, ◌∙◌, arith}
+use Rattle.std.specs.Prelude.{slice_get, is_some}
 use Rattle.std.proofs.lemmas.Option.{slice_get-map, slice_get_past}
 use Rattle.std.proofs.lemmas.Bool.{eqb-true, eqb-false, and_parts}
 use Rattle.std.proofs.lemmas.List.{length-append}
@@ -32,42 +32,44 @@ get_rest (x ∷ xs) ys i (suc n) e =
 
 -- ---- how many values there are
 
-value_within : (r : Option ℕ) (bytes : List ℕ) (es : List device.Entry) (i next : ℕ) → next ≡ i + 1
-    → device.entry_in r bytes ≡ slice_get es i → is_some r ≡ true → next ≤ length (map pair_of es)
-value_within None bytes es i next n e is = absurd (cc)
-value_within (Some key) bytes [] i next n e is = absurd (cc)
-value_within (Some key) bytes (x ∷ es) zero next n e is = omega (arith, n)
-value_within (Some key) bytes (x ∷ es) (suc i) next n e is =
-    let h = value_within (Some key) bytes es i (i + 1) refl e is in omega (arith, n, h)
-
-value_past : (r : Option ℕ) (bytes : List ℕ) (es : List device.Entry) (i : ℕ)
-    → device.entry_in r bytes ≡ slice_get es i → is_some r ≡ false → length (map pair_of es) ≤ i
-value_past (Some key) bytes es i e is = absurd (cc)
-value_past None bytes [] i e is = omega arith
-value_past None bytes (x ∷ es) zero e is = absurd (cc)
-value_past None bytes (x ∷ es) (suc i) e is =
-    let h = value_past None bytes es i e is in omega (arith, h)
-
 abbrev values : Contents → List device.Entry
 values objects = device.saved (device.state_of objects None)
 
-pub counted : (objects : Contents) (r : Option ℕ) (bytes : List ℕ) (count index : ℕ) → IsCounted objects count
-    → index < 2 ^ 64 → device.entry_in r bytes ≡ slice_get (values objects) index → is_some r ≡ false
-    → count ≡ length (saved_objects objects)
-counted objects r bytes count index (within, inl e) fits at is = e
-counted objects r bytes count index (within, inr big) fits at is =
-    let h = value_past r bytes (values objects) index at is in omega (arith, within, big, fits, h)
+value_within : (key : ℕ) (bytes : List ℕ) (es : List device.Entry) (i : ℕ)
+    → device.entry_in (Some key) bytes ≡ slice_get es i → i + 1 ≤ length (map pair_of es)
+value_within key bytes [] i e = absurd (cc)
+value_within key bytes (x ∷ es) zero e = omega arith
+value_within key bytes (x ∷ es) (suc i) e = let h = value_within key bytes es i e in omega (arith, h)
 
-pub one_more : (objects : Contents) (r : Option ℕ) (bytes : List ℕ) (count next : ℕ) → next ≡ count + 1
+value_past : (bytes : List ℕ) (es : List device.Entry) (i : ℕ) → device.entry_in None bytes ≡ slice_get es i
+    → length (map pair_of es) ≤ i
+value_past bytes [] i e = omega arith
+value_past bytes (x ∷ es) zero e = absurd (cc)
+value_past bytes (x ∷ es) (suc i) e = let h = value_past bytes es i e in omega (arith, h)
+
+pub one_more : (objects : Contents) (r : Option ℕ) (bytes : List ℕ) (count : ℕ)
     → device.entry_in r bytes ≡ slice_get (values objects) count → is_some r ≡ true
-    → next ≤ length (saved_objects objects)
-one_more objects r bytes count next n e is = value_within r bytes (values objects) count next n e is
+    → count + 1 ≤ length (saved_objects objects)
+one_more objects None bytes count e is = absurd (cc)
+one_more objects (Some key) bytes count e is = value_within key bytes (values objects) count e
 
 pub all_values : (objects : Contents) (r : Option ℕ) (bytes : List ℕ) (count : ℕ)
     → device.entry_in r bytes ≡ slice_get (values objects) count → is_some r ≡ false
-    → count ≤ length (saved_objects objects) → count ≡ length (saved_objects objects)
-all_values objects r bytes count e is within =
-    let h = value_past r bytes (values objects) count e is in omega (arith, h, within)
+    → count ≤ length (saved_objects objects) → IsCounted objects count
+all_values objects (Some key) bytes count e is within = absurd (cc)
+all_values objects None bytes count e is within =
+    let h = value_past bytes (values objects) count e in (within, inl (omega (arith, h, within)))
+
+pub counted : (objects : Contents) (bytes : List ℕ) (count index : ℕ) → IsCounted objects count → index < 2 ^ 64
+    → device.entry_in None bytes ≡ slice_get (values objects) index → count ≡ length (saved_objects objects)
+counted objects bytes count index (within, inl e) fits at = e
+counted objects bytes count index (within, inr big) fits at =
+    let h = value_past bytes (values objects) index at in omega (arith, within, big, fits, h)
+
+pub not_within : (objects : Contents) (bytes : List ℕ) (count index : ℕ) → IsCounted objects count
+    → device.entry_in None bytes ≡ slice_get (values objects) index → index < count → ⊥
+not_within objects bytes count index counts at below =
+    let h = value_past bytes (values objects) index at in omega (arith, counts.0, below, h)
 
 -- ---- an entry of the objects
 
@@ -98,14 +100,15 @@ map_length : (xs : Kept) → length (entries_of xs) ≡ length xs
 map_length [] = refl
 map_length (x ∷ xs) = ap suc (map_length xs)
 
-pub object_entry : (objects : Contents) (ledger : Option LedgerState) (r : Option ℕ) (bytes : List ℕ) (i count : ℕ)
-    → count ≡ length (saved_objects objects) → i < count → device.entry_in r bytes ≡ slice_get (values objects) i
-    → entry_in r bytes ≡ slice_get (entries_of (saved_device objects ledger)) i
-object_entry objects ledger r bytes i count n h e =
-    value_at r bytes (values objects) i e
+pub object_entry : (objects : Contents) (ledger : Option LedgerState) (key : ℕ) (bytes : List ℕ) (i : ℕ)
+    → device.entry_in (Some key) bytes ≡ slice_get (values objects) i
+    → entry_in (Some key) bytes ≡ slice_get (entries_of (saved_device objects ledger)) i
+object_entry objects ledger key bytes i e =
+    let h = value_within key bytes (values objects) i e in
+    value_at (Some key) bytes (values objects) i e
     ∙ sym (ap (λ es. slice_get es i) (split_map (saved_objects objects) (saved_ledger ledger))
     ∙ get_front (entries_of (saved_objects objects)) (entries_of (saved_ledger ledger)) i
-    (omega (arith, h, n, map_length (saved_objects objects))))
+    (omega (arith, h, map_length (saved_objects objects))))
 
 -- ---- an entry of the ledger
 

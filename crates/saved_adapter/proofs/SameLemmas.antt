@@ -1,6 +1,6 @@
 -- Two lists of entries, compared one by one.
 use Rattle.std.proofs.Common.{◌≡◌, ℕ, zero, suc, ◌+◌, ◌==◌, ◌&&◌, Bool, true, false, List, [], ◌∷◌, ◌++◌, length, map, drop, Option, Some, None, refl, sym, ap, ap₂, ◌∙◌, arith}
-use Rattle.std.specs.Prelude.{slice_get, bytes_eq, ◌↔◌, is_none}
+use Rattle.std.specs.Prelude.{slice_get, bytes_eq, ◌↔◌, is_some, not}
 use Rattle.std.proofs.lemmas.Bool.{eqb-true, eq-eqb, and_parts}
 use Rattle.std.proofs.lemmas.Slice.Eq.{bytes_eq-Decides}
 use Rattle.enip_keep.specs.Kept.{Kept}
@@ -55,14 +55,16 @@ other_bytes (x ∷ es) zero key bytes f fs e b =
     ∙ and_false (key == f.key)
 other_bytes (x ∷ es) (suc i) key bytes f fs e b = other_bytes es i key bytes f fs e b
 
-pub same_end : (es : List Entry) (i : ℕ) (r : Option ℕ) (bytes : List ℕ) → entry_in r bytes ≡ slice_get es i
-    → is_none r ≡ are_same (drop i es) []
-same_end [] zero None bytes e = refl
-same_end [] (suc i) None bytes e = refl
-same_end [] i (Some key) bytes e = absurd (cc)
-same_end (x ∷ es) zero None bytes e = absurd (cc)
-same_end (x ∷ es) zero (Some key) bytes e = refl
-same_end (x ∷ es) (suc i) r bytes e = same_end es i r bytes e
+pub same_end : (es : List Entry) (i : ℕ) (r : Option ℕ) (bytes : List ℕ) (result : Bool)
+    → entry_in r bytes ≡ slice_get es i → is_some r ≡ not result → result ≡ are_same (drop i es) []
+same_end [] zero None bytes true e is = refl
+same_end [] (suc i) None bytes true e is = refl
+same_end es i None bytes false e is = absurd (cc)
+same_end [] i (Some key) bytes result e is = absurd (cc)
+same_end (x ∷ es) zero None bytes true e is = absurd (cc)
+same_end (x ∷ es) zero (Some key) bytes false e is = refl
+same_end es i (Some key) bytes true e is = absurd (cc)
+same_end (x ∷ es) (suc i) r bytes result e is = same_end es i r bytes result e is
 
 -- ---- the same entries
 

@@ -35,6 +35,13 @@ IsFaultWith start kept fault.OtherDevice = (put_back_in start kept).is_other_dev
 IsFaultWith start kept fault.Order =
     ((put_back_in start kept).is_other_device ≡ false) × (rise (adapter_keys (started start kept)) ≡ false)
 
+-- The same by a state, which may be of no device.
+abbrev pub IsStateFault : AdapterStart → State → RestoreFault → Type 0
+IsStateFault start s fault.Memory = ⊤
+IsStateFault start s (fault.Malformed why) = ⊥
+IsStateFault start s fault.OtherDevice = IsOfAnother start s
+IsStateFault start s fault.Order = IsFaultWith start (kept_in s.entries) fault.Order
+
 -- The same by the bytes of a state, or by none: then nothing is kept.
 pub record IsStartedFrom (start : AdapterStart) (bytes : List ℕ) (a : AdapterState) : Type 0 where
   pub state : State

@@ -1,10 +1,11 @@
 //! The entries of an adapter.
 
-ghost use Rattle.std.specs.Prelude.{◌≡◌, slice_get};
+ghost use Rattle.std.specs.Prelude.{◌≡◌, option_map, slice_get};
+ghost use Rattle.cip_ledger.specs.Executing.{doubted_by};
 ghost use Rattle.saved_adapter.specs.Entries.{entries_in_doubt, entry_in, IsCounted};
 
 use crate::marked::MarkedLedger;
-use cip_ledger::{DoubtfulCommand, MOST_ORIGINATORS};
+use cip_ledger::{DoubtfulCommand, Ledger, MOST_ORIGINATORS};
 use cip_objects::{Objects, ReplyBuf};
 use device_state::saved_entry;
 use enip_adapter::Adapter;
@@ -48,13 +49,9 @@ impl<'a> AdapterEntries<'a> {
         ensures { result ≡ entries_in_doubt doubt adapter.now }
     {
         let objects = adapter.objects();
-        let ledger = match adapter.ledger() {
-            Some(ledger) => Some(MarkedLedger::new(ledger, doubt)),
-            None => None,
-        };
         AdapterEntries {
             objects,
-            ledger,
+            ledger: marked(adapter.ledger(), doubt),
             values: value_count(objects),
         }
     }
@@ -85,6 +82,7 @@ impl<'a> AdapterEntries<'a> {
 impl EntrySource for AdapterEntries<'_> {
     ghost entries = { λ s. s };
 
+    #[tactic(auto, using(crate::proofs::EntryLemmas::at, crate::proofs::EntryLemmas::past))]
     fn head(&self, index: usize) -> Option<EntryHead> {
         let mut bytes = ReplyBuf::new();
         let key = self.entry(index, &mut bytes)?;
@@ -94,11 +92,22 @@ impl EntrySource for AdapterEntries<'_> {
         })
     }
 
+    #[tactic(auto, using(crate::proofs::EntryLemmas::at, crate::proofs::EntryLemmas::past))]
     fn copy(&self, index: usize, into: &mut [u8]) {
         let mut bytes = ReplyBuf::new();
         if self.entry(index, &mut bytes).is_some() {
             into.copy_from_slice(&bytes);
         }
+    }
+}
+
+/// The ledger, if there is one, with this command in doubt.
+fn marked<'a>(ledger: Option<&'a Ledger>, doubt: Option<DoubtfulCommand>) -> Option<MarkedLedger<'a>>
+    ensures { result ≡ option_map (doubted_by doubt) (option_map (λ l. l.now) ledger.entry) }
+{
+    match ledger {
+        Some(ledger) => Some(MarkedLedger::new(ledger, doubt)),
+        None => None,
     }
 }
 

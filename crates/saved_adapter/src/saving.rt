@@ -3,7 +3,7 @@
 ghost use Rattle.std.specs.Prelude.{◌≡◌, ◌++◌, length, drop, Some, IfOk, IfErr, OnErr};
 ghost use Rattle.saved_state.specs.States.{size, spelled};
 ghost use Rattle.saved_state.specs.Writing.{write_refusal};
-ghost use Rattle.saved_adapter.specs.Entries.{are_same, entries_in_doubt, generation_of, last_state};
+ghost use Rattle.saved_adapter.specs.Entries.{are_same, entries_in_doubt, generation_after, generation_of, last_state};
 
 use crate::entries::AdapterEntries;
 use cip_ledger::DoubtfulCommand;
@@ -61,11 +61,23 @@ pub fn generation(
     if last.is_empty() {
         return Ok(1);
     }
-    let state = SavedState::read(last)?;
-    if is_same(&AdapterEntries::new(adapter, doubt), &state) {
-        Ok(state.generation())
+    match SavedState::read(last) {
+        Ok(state) => Ok(generation_after(
+            &state,
+            &AdapterEntries::new(adapter, doubt),
+        )),
+        Err(why) => Err(why),
+    }
+}
+
+/// The generation of these entries after a state.
+fn generation_after(last: &SavedState<'_>, entries: &AdapterEntries<'_>) -> u64
+    ensures { result ≡ generation_after last.now entries.now }
+{
+    if is_same(entries, last) {
+        last.generation()
     } else {
-        Ok(state.generation().wrapping_add(1))
+        last.generation().wrapping_add(1)
     }
 }
 

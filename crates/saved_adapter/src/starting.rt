@@ -1,10 +1,9 @@
 //! An adapter that starts from a saved state.
 
-ghost use Rattle.std.specs.Prelude.{◌≡◌, Ok, IfOk, IfErr};
+ghost use Rattle.std.specs.Prelude.{◌≡◌, IfOk, IfErr};
 ghost use Rattle.enip_keep.specs.Kept.{pairs_of};
-ghost use Rattle.saved_state.specs.States.{State};
-ghost use Rattle.saved_adapter.specs.Entries.{kept_in, last_state};
-ghost use Rattle.saved_adapter.specs.Starting.{IsFaultWith, IsRestoreFault, IsStartedFrom, IsStartedWith};
+ghost use Rattle.saved_adapter.specs.Entries.{kept_in};
+ghost use Rattle.saved_adapter.specs.Starting.{IsFaultWith, IsRestoreFault, IsStartedFrom, IsStartedWith, IsStateFault};
 
 use device_state::identity_key;
 use enip_adapter::Adapter;
@@ -55,11 +54,25 @@ pub fn start(
     if bytes.is_empty() {
         return start_from(alloc, configured, &[]);
     }
-    let state = SavedState::read(bytes).map_err(RestoreFault::Malformed)?;
+    match SavedState::read(bytes) {
+        Ok(state) => start_from_state(alloc, configured, &state),
+        Err(why) => Err(RestoreFault::Malformed(why)),
+    }
+}
+
+/// Makes the adapter that starts from a state.
+fn start_from_state(
+    alloc: Global,
+    configured: &AdapterStart,
+    state: &SavedState<'_>,
+) -> Result<Adapter, RestoreFault>
+    ensures started { IfOk result (IsStartedWith configured.now (kept_in state.now.entries)) }
+    ensures cause { IfErr result (IsStateFault configured.now state.now) }
+{
     if state.find(identity_key()).is_none() {
         return Err(RestoreFault::OtherDevice);
     }
-    match entries_of(alloc, &state) {
+    match entries_of(alloc, state) {
         Ok(entries) => start_from(alloc, configured, &entries),
         Err(_) => Err(RestoreFault::Memory),
     }
