@@ -13,23 +13,27 @@ use enip_keep::{KeepError, Keeper, Numbered, RoundNote};
 use enip_keep_sqlite::{Rows, make_file, open};
 use sqlite::{FileFrom, FileStore, Wary};
 use std::alloc::Global;
+use std::fs::metadata;
 use std::io::{self, ErrorKind};
 
+/// The bytes of the header of a database. (SQLite, Database File Format.)
+const HEADER: u64 = 100;
+
 /// The keeper of a file.
-pub(crate) type FileKeeper<'r> = Numbered<Rows<FileStore<FileFrom<Wary>>>, FileNote<'r>>;
+pub(crate) type FileKeeper = Numbered<Rows<FileStore<FileFrom<Wary>>>, FileNote>;
 
 /// Notes the numbers of rounds in `FILE.round`.
 #[derive(Drop)]
-pub(crate) struct FileNote<'r> {
+pub(crate) struct FileNote {
     alloc: Global,
     file: RoundFile,
-    database: FileIdentity<'r>,
-    log: FileIdentity<'r>,
+    database: FileIdentity,
+    log: FileIdentity,
     /// The number that was noted last.
     noted: u64,
 }
 
-impl RoundNote for FileNote<'_> {
+impl RoundNote for FileNote {
     ghost noted = { λ n. n.noted };
 
     fn note(&mut self, round: u64) -> bool {
@@ -43,6 +47,11 @@ impl RoundNote for FileNote<'_> {
         self.noted = round;
         true
     }
+}
+
+/// Whether a file can be a database: it is as long as the header. A shorter one would be opened as a new database.
+fn has_header(rt: &HostRuntime, path: &str) -> bool {
+    metadata(rt, path).is_ok_and(|found| found.len() >= HEADER)
 }
 
 /// FILE, as the arguments name it.
@@ -90,12 +99,12 @@ impl<'a> KeptFile<'a> {
     ///
     /// If another process uses it, if it is no state, or if it is damaged or older than `FILE.round` says. It is left as
     /// it is.
-    pub(crate) fn open<'r>(
+    pub(crate) fn open(
         self,
-        rt: &'r HostRuntime,
+        rt: &HostRuntime,
         args: &[OsArg],
-    ) -> Result<FileKeeper<'r>, CommandError<'a>>
-        ensures up { IfOk result (λ k. ⟦<FileKeeper<'r> as Keeper>⟧.doubt k ≡ 0 → ⟦<FileKeeper<'r> as Keeper>⟧.is_up k) }
+    ) -> Result<FileKeeper, CommandError<'a>>
+        ensures up { IfOk result (λ k. ⟦<FileKeeper as Keeper>⟧.doubt k ≡ 0 → ⟦<FileKeeper as Keeper>⟧.is_up k) }
     {
         let alloc = rt.alloc();
         let bytes = option_file_name(args, "--keep", self.name);
@@ -105,6 +114,9 @@ impl<'a> KeptFile<'a> {
         let exists = self.exists(bytes)?;
         let file = self.lock(alloc, bytes)?;
         let last = self.last_round(alloc, &file, exists)?;
+        if exists && last > 0 && !has_header(rt, path) {
+            return Err(self.state_refused(Reason::NotAState(self.name)));
+        }
         if last == 0 || !exists {
             make_file(rt, path, Wary).map_err(|error| self.refused(error))?;
         }
@@ -117,13 +129,13 @@ impl<'a> KeptFile<'a> {
     }
 
     /// What notes the numbers of rounds, the last of which is this one.
-    fn note<'r>(
+    fn note(
         self,
-        rt: &'r HostRuntime,
+        rt: &HostRuntime,
         path: &str,
         file: RoundFile,
         noted: u64,
-    ) -> io::Result<FileNote<'r>> {
+    ) -> io::Result<FileNote> {
         let alloc = rt.alloc();
         Ok(FileNote {
             alloc,
@@ -181,13 +193,9 @@ impl<'a> KeptFile<'a> {
     }
 
     /// Tests the checksum of what is kept, and compares the number of its last round with that of `FILE.round`.
-    fn compare<'r>(
-        self,
-        keeper: FileKeeper<'r>,
-        last: u64,
-    ) -> Result<FileKeeper<'r>, CommandError<'a>>
-        requires { ⟦<FileKeeper<'r> as Keeper>⟧.doubt keeper ≡ 0 → ⟦<FileKeeper<'r> as Keeper>⟧.is_up keeper }
-        ensures { IfOk result (λ k. ⟦<FileKeeper<'r> as Keeper>⟧.doubt k ≡ 0 → ⟦<FileKeeper<'r> as Keeper>⟧.is_up k) }
+    fn compare(self, keeper: FileKeeper, last: u64) -> Result<FileKeeper, CommandError<'a>>
+        requires { ⟦<FileKeeper as Keeper>⟧.doubt keeper ≡ 0 → ⟦<FileKeeper as Keeper>⟧.is_up keeper }
+        ensures { IfOk result (λ k. ⟦<FileKeeper as Keeper>⟧.doubt k ≡ 0 → ⟦<FileKeeper as Keeper>⟧.is_up k) }
     {
         let mut keeper = keeper;
         if !self.accepts_older {

@@ -19,15 +19,15 @@ pub(crate) struct KeptValues {
 
 impl KeptValues {
     /// Reads all entries.
-    pub(crate) fn read<'a, 'r>(
+    pub(crate) fn read<'a>(
         alloc: Global,
         file: KeptFile<'a>,
-        keeper: &mut FileKeeper<'r>,
+        keeper: &mut FileKeeper,
         start: &AdapterStart,
     ) -> Result<KeptValues, CommandError<'a>>
-        requires { ⟦<FileKeeper<'r> as Keeper>⟧.doubt keeper.old ≡ 0 → ⟦<FileKeeper<'r> as Keeper>⟧.is_up keeper.old }
-        ensures { ⟦<FileKeeper<'r> as Keeper>⟧.doubt keeper.new ≡ 0
-            → OnOk result (⟦<FileKeeper<'r> as Keeper>⟧.is_up keeper.new) }
+        requires { ⟦<FileKeeper as Keeper>⟧.doubt keeper.old ≡ 0 → ⟦<FileKeeper as Keeper>⟧.is_up keeper.old }
+        ensures { ⟦<FileKeeper as Keeper>⟧.doubt keeper.new ≡ 0
+            → OnOk result (⟦<FileKeeper as Keeper>⟧.is_up keeper.new) }
     {
         let entries = keeper.load(alloc).map_err(|error| file.refused(error))?;
         let unused = start

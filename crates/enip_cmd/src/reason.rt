@@ -111,8 +111,8 @@ pub(crate) enum Reason<'a> {
     /// The state is that of another device.
     #[error("{0}: the state of another device (vendor, product code or serial number)")]
     OtherDevice(&'a str),
-    /// The state lacks so many of the last rounds.
-    #[error("{0}: older than it was: it lacks the last {1} rounds of changes (see --accept-older)")]
+    /// The state lacks so many of the rounds that `FILE.round` counts.
+    #[error("{0}: older than {0}.round says, by {1} rounds (see --accept-older)")]
     Older(&'a str, u64),
     /// `FILE.round` is missing or damaged.
     #[error("{0}: {0}.round is missing or damaged, so the state may be older than it was (see --accept-older)")]
