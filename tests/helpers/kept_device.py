@@ -118,8 +118,8 @@ class Peer:
 class Device:
     """`enip serve --keep`, which can be killed and started again at its port."""
 
-    def __init__(self, folder, config=CONFIG, **environment):
-        self.folder, self.environment = Path(folder), environment
+    def __init__(self, folder, config=CONFIG):
+        self.folder, self.environment = Path(folder), {}
         self.config, self.file = self.folder / "device.toml", self.folder / "state"
         self.port, self.process, self.errors, self.listens = 0, None, [], False
         self.configure(config)
@@ -200,16 +200,16 @@ NAMES = [(4, 100, 3), (100, 1, 1), (768, 1, 1), (768, 1, 2), (101, 1, 3), (101, 
 
 
 @contextlib.contextmanager
-def device_in_folder(config=CONFIG, **environment):
+def device_in_folder(config=CONFIG, top=None):
     """A device that has a new folder to itself."""
-    with tempfile.TemporaryDirectory(prefix="restart-") as folder, Device(folder, config, **environment) as device:
+    with tempfile.TemporaryDirectory(prefix="restart-", dir=top) as folder, Device(folder, config) as device:
         yield device
 
 
 @contextlib.contextmanager
-def started(config=CONFIG, **environment):
+def started(config=CONFIG, top=None):
     """The same, started for the first time."""
-    with device_in_folder(config, **environment) as device:
+    with device_in_folder(config, top) as device:
         expect("the first start prints nothing before it listens", device.start(), [])
         yield device
 

@@ -477,13 +477,13 @@ FILE is created if there is none. FILE-wal and FILE.round are files next
 to it: move them together";
 
 pub(crate) const KEPT_FILE_DETAILS: &str = "\
-Print also what a device would start with that keeps its state in FILE.
-FILE is not changed";
+Also print the values that a device would start with from FILE, the file
+of `enip serve --keep`. FILE is not changed";
 
 pub(crate) const ACCEPT_OLDER_DETAILS: &str = "\
-With --keep, start even if FILE is damaged or older than FILE.round says.
-The command ledger then begins a new life, so that no pending command is
-executed twice";
+With --keep, start even if FILE is damaged, or older than FILE.round
+says. The command ledger then begins a new life, so that no pending
+command is executed twice";
 
 pub(crate) const ONCE_DETAILS: &str = "\
 Execute the command once, even if connections are lost. The device
