@@ -27,7 +27,8 @@ use Rattle.enip_adapter.proofs.SettleLemmas.{written-settled}
 use Rattle.kept_adapter.specs.declared.adapter_start.AdapterStart.{AdapterStart}
 use Rattle.kept_adapter.specs.Restarts.{LifeStep, Does, Restarts, restarted, after_life_step, after_life_steps}
 use Rattle.kept_adapter.specs.Restarts.{journal_over_restarts}
-use Rattle.kept_adapter.specs.Restarts.{IsDevice, IsStep, GoesOn, IsGoingOn, slots_of, SettlesOthers, SettlesNothingOf}
+use Rattle.kept_adapter.specs.Restarts.{IsRestartable, IsStep, GoesOn, IsGoingOn, slots_of, SettlesOthers}
+use Rattle.kept_adapter.specs.Restarts.{SettlesNothingOf}
 use Rattle.kept_adapter.specs.RestartLaws.{GoOn}
 use Rattle.kept_adapter.proofs.Restarted.{goes_on, device_stays}
 
@@ -69,7 +70,7 @@ written_slots (Settles originator number reply) ledger =
 
 -- A device between two of the steps.
 pub record IsRunning (count : Option ℕ) (device : Device) : Type 0 where
-  pub is : IsDevice device
+  pub is : IsRestartable device
   pub slots : slots_of device.ledger ≡ count
 
 going_on : (count : Option ℕ) (device : Device) (start : AdapterStart) → IsRunning count device → GoesOn count start

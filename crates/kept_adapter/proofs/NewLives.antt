@@ -21,7 +21,7 @@ use Rattle.enip_adapter.proofs.DeviceLemmas.{above-append}
 use Rattle.kept_adapter.specs.declared.adapter_start.AdapterStart.{AdapterStart}
 use Rattle.kept_adapter.specs.declared.adapter_start.LedgerStart.{LedgerStart}
 use Rattle.kept_adapter.specs.Restarts.{LifeStep, Does, Restarts, restarted, after_life_step, journal_over_restarts}
-use Rattle.kept_adapter.specs.Restarts.{IsDevice, IsStep, IsLedgerAfter, life_of, IsNotAgain, IsOnceInEachLife}
+use Rattle.kept_adapter.specs.Restarts.{IsRestartable, IsStep, IsLedgerAfter, life_of, IsNotAgain, IsOnceInEachLife}
 use Rattle.kept_adapter.specs.Restarts.{BeginsOther, BeginNewLives}
 use Rattle.kept_adapter.specs.Started.{new_ledger}
 use Rattle.kept_adapter.proofs.Restarted.{ledger_after, device_stays}
@@ -166,7 +166,7 @@ restart_blocked start old new life originator number (inr (l, slots, e, within, 
     let before : Blocked life originator number (Some l) = subst (Blocked life originator number) e is in
     subst (Blocked life originator number) (sym same) before
 
-blocked_until : (steps : List LifeStep) (device : Device) (life originator number : ℕ) → IsDevice device
+blocked_until : (steps : List LifeStep) (device : Device) (life originator number : ℕ) → IsRestartable device
     → AllByRecursion IsStep steps → AllByRecursion (BeginsOther life) steps
     → Blocked life originator number device.ledger
     → UntilFreed originator (IsAbove life number) (journal_over_restarts device steps)
@@ -222,7 +222,7 @@ once_by (Served service (Frees freed)) device request events means up once = onc
 
 -- The steps from here on.
 record AreNew (device : Device) (steps : List LifeStep) : Type 0 where
-  is : IsDevice device
+  is : IsRestartable device
   fit : AllByRecursion IsStep steps
   begin : BeginNewLives device steps
 
@@ -288,7 +288,7 @@ begins_other : (own : Option ℕ) (life : ℕ) (steps : List LifeStep) → own �
     → IfSome own (λ n. AllByRecursion (BeginsOther n) steps) → AllByRecursion (BeginsOther life) steps
 begins_other own life steps e first = subst (λ o. IfSome o (λ n. AllByRecursion (BeginsOther n) steps)) e first
 
-pub once_in_lives : (device : Device) (steps : List LifeStep) → IsDevice device → AllByRecursion IsStep steps
+pub once_in_lives : (device : Device) (steps : List LifeStep) → IsRestartable device → AllByRecursion IsStep steps
     → BeginNewLives device steps → IsOnceInEachLife (journal_over_restarts device steps)
 once_in_lives device steps is fit begin = all device steps (record { is = is; fit = fit; begin = begin })
   where

@@ -129,7 +129,7 @@ device_leaves s content key h =
     by false e = key_leaves s content key (or_false (nat_le (2 ^ 48) key) (key / 2 ^ 32 == LEDGER) e)
 
 -- The ledger is as it was, and no entry of it came.
-pub record IsLeft (p q : Progress) : Type 0 where
+pub record LeavesLedger (p q : Progress) : Type 0 where
   pub ledger : q.ledger ≡ p.ledger
   pub life : q.has_life ≡ p.has_life
   pub lost : q.has_lost ≡ p.has_lost
@@ -138,7 +138,7 @@ or_none : (a b : Bool) → b ≡ false → a || b ≡ a
 or_none true b e = refl
 or_none false b e = e
 
-entry_leaves : (p : Progress) (entry : ℕ × List ℕ) → entry.0 < 2 ^ 48 → IsLeft p (put_back p entry)
+entry_leaves : (p : Progress) (entry : ℕ × List ℕ) → entry.0 < 2 ^ 48 → LeavesLedger p (put_back p entry)
 entry_leaves p entry h =
     let s = state_of p.objects p.ledger in
     let used = is_used (after_entry s entry.0 entry.1).outcome in
@@ -149,7 +149,7 @@ entry_leaves p entry h =
     }
 
 entries_leave : (p : Progress) (entries : Kept) → AllByRecursion (λ entry. entry.0 < 2 ^ 48) entries
-    → IsLeft p (put_all_back p entries)
+    → LeavesLedger p (put_all_back p entries)
 entries_leave p [] h = record { ledger = refl; life = refl; lost = refl }
 entries_leave p (entry ∷ entries) h =
     let first = entry_leaves p entry h.0 in
@@ -170,5 +170,5 @@ values_narrow m (name ∷ names) h =
     (omega (arith, c, i, a), values_narrow m names h.1)
 
 pub objects_leave : (p : Progress) (m : Contents) → AllByRecursion IsNarrow (kept_names m.shapes)
-    → IsLeft p (put_all_back p (saved_objects m))
+    → LeavesLedger p (put_all_back p (saved_objects m))
 objects_leave p m h = entries_leave p (saved_objects m) (omega arith, values_narrow m (kept_names m.shapes) h)

@@ -19,7 +19,7 @@ use Rattle.kept_adapter.specs.declared.adapter_start.AdapterStart.{AdapterStart}
 use Rattle.kept_adapter.specs.declared.adapter_start.LedgerStart.{LedgerStart}
 use Rattle.kept_adapter.specs.declared.progress.Progress.{Progress}
 use Rattle.kept_adapter.specs.Keys.{device_key}
-use Rattle.kept_adapter.specs.Restarts.{LifeStep, Does, Restarts, restarted, after_life_step, IsNarrow, IsDevice}
+use Rattle.kept_adapter.specs.Restarts.{LifeStep, Does, Restarts, restarted, after_life_step, IsNarrow, IsRestartable}
 use Rattle.kept_adapter.specs.Restarts.{IsConfiguration, IsStep, GoesOn, slots_of, IsLedgerAfter}
 use Rattle.kept_adapter.specs.SameKeys.{step_alike}
 use Rattle.kept_adapter.specs.Saved.{saved_objects, saved_device, first_entries, ENTRIES}
@@ -27,7 +27,7 @@ use Rattle.kept_adapter.specs.Started.{is_free_slot, by_device_key, after_entry,
 use Rattle.kept_adapter.specs.Started.{new_ledger, configured, put_back_in, trusted_ledger, started}
 use Rattle.kept_adapter.proofs.LedgerStays.{step_stays}
 use Rattle.kept_adapter.proofs.LedgerBack.{part, IsAt, IsAtOrLost, first_at, first_or_lost, take_all}
-use Rattle.kept_adapter.proofs.PutBack.{put_two, shapes_back, IsLeft, objects_leave}
+use Rattle.kept_adapter.proofs.PutBack.{put_two, shapes_back, LeavesLedger, objects_leave}
 
 -- ---- which ledger is trusted
 
@@ -134,16 +134,16 @@ goes_on_by : (start : AdapterStart) (m : Contents) (ledger : Option LedgerState)
     → trusted_ledger start (put_back_in start (saved_device m ledger)) ≡ ledger
 goes_on_by start m None names is on =
     let p = behind_objects start m in
-    let left : IsLeft (beginning (configured start)) p = objects_leave (beginning (configured start)) m names in
+    let left : LeavesLedger (beginning (configured start)) p = objects_leave (beginning (configured start)) m names in
     ap (trusted_ledger start) (put_two (beginning (configured start)) (saved_objects m) [])
     ∙ new_without_life start p left.life ∙ none_by start.ledger on.slots
 goes_on_by start m (Some l) names is on =
     let p = behind_objects start m in
-    let left : IsLeft (beginning (configured start)) p = objects_leave (beginning (configured start)) m names in
+    let left : LeavesLedger (beginning (configured start)) p = objects_leave (beginning (configured start)) m names in
     ap (trusted_ledger start) (put_two (beginning (configured start)) (saved_objects m) (first_entries l ENTRIES))
     ∙ back_by start l p ENTRIES 64 refl (omega arith) (few_taken l is) is on left.ledger left.lost
 
-pub goes_on : (start : AdapterStart) (device : Device) → IsDevice device → GoesOn (slots_of device.ledger) start
+pub goes_on : (start : AdapterStart) (device : Device) → IsRestartable device → GoesOn (slots_of device.ledger) start
     → (restarted start device).ledger ≡ device.ledger
 goes_on start device is on = goes_on_by start device.router.objects device.ledger is.names is.ledger on
 
@@ -182,18 +182,18 @@ ledger_after_by : (start : AdapterStart) (m : Contents) (ledger : Option LedgerS
     → IsLedgerAfter start ledger (trusted_ledger start (put_back_in start (saved_device m ledger)))
 ledger_after_by start m None names is configuration =
     let p = behind_objects start m in
-    let left : IsLeft (beginning (configured start)) p = objects_leave (beginning (configured start)) m names in
+    let left : LeavesLedger (beginning (configured start)) p = objects_leave (beginning (configured start)) m names in
     inl (ap (trusted_ledger start) (put_two (beginning (configured start)) (saved_objects m) [])
     ∙ new_without_life start p left.life)
 ledger_after_by start m (Some l) names is configuration =
     let p = behind_objects start m in
-    let left : IsLeft (beginning (configured start)) p = objects_leave (beginning (configured start)) m names in
+    let left : LeavesLedger (beginning (configured start)) p = objects_leave (beginning (configured start)) m names in
     subst (λ q. IsLedgerAfter start (Some l) (trusted_ledger start q))
     (sym (put_two (beginning (configured start)) (saved_objects m) (first_entries l ENTRIES)))
     (after_by start start.ledger l p ENTRIES 64 refl configuration.few refl (omega arith)
     (few_taken l is) is left.ledger left.lost)
 
-pub ledger_after : (start : AdapterStart) (device : Device) → IsDevice device → IsConfiguration start
+pub ledger_after : (start : AdapterStart) (device : Device) → IsRestartable device → IsConfiguration start
     → IsLedgerAfter start device.ledger (restarted start device).ledger
 ledger_after start device is configuration =
     ledger_after_by start device.router.objects device.ledger is.names is.ledger configuration
@@ -217,8 +217,8 @@ after_is_ledger start old new configuration is (inr (l, slots, e, within, few, s
     subst (λ o. IfSome o IsLedger) (sym same)
     (record { life = all.life; few = few; within = within; apart = all.apart; sized = all.sized })
 
-pub device_stays : (device : Device) (step : LifeStep) → IsStep step → IsDevice device
-    → IsDevice (after_life_step device step)
+pub device_stays : (device : Device) (step : LifeStep) → IsStep step → IsRestartable device
+    → IsRestartable (after_life_step device step)
 device_stays device (Does step) fits is = record {
   names = subst (λ shapes. AllByRecursion IsNarrow (kept_names shapes)) (sym (step_alike device step).shapes) is.names;
   ledger = step_stays device step fits is.ledger;
@@ -230,7 +230,8 @@ device_stays device (Restarts start) fits is = record {
       (ledger_after start device is fits);
 }
 
-pub first_device : (start : AdapterStart) → IsConfiguration start → IsDevice (started start []).state.shared.objects
+pub first_device : (start : AdapterStart) → IsConfiguration start
+    → IsRestartable (started start []).state.shared.objects
 first_device start configuration = record {
   names = configuration.names;
   ledger = new_is_ledger start.ledger configuration.life configuration.few;

@@ -30,7 +30,7 @@ use Rattle.kept_adapter.specs.declared.progress.Progress.{Progress}
 use Rattle.kept_adapter.specs.Keys.{device_key}
 use Rattle.kept_adapter.specs.Restarts.{LifeStep, Does, after_life_steps}
 use Rattle.kept_adapter.specs.Restarts.{AdapterStep, adapter_after, steps_over_restarts, contents_after, adapter_step}
-use Rattle.kept_adapter.specs.Restarts.{IsServed, HasTables, KeepsTables, RestartsTables, brings_input, IsLeft}
+use Rattle.kept_adapter.specs.Restarts.{IsServing, HasTables, KeepsTables, RestartsTables, brings_input, MayBeLeft}
 use Rattle.kept_adapter.specs.SameKeys.{device_keys, keys_stay, steps_alike}
 use Rattle.kept_adapter.specs.Saved.{saved_adapter, adapter_keys}
 use Rattle.kept_adapter.specs.Started.{is_free_slot, by_device_key, beginning, put_back, put_all_back}
@@ -111,7 +111,7 @@ by_found : (entries found : Kept) → rise (keys_of entries) ≡ true
 by_found entries found rises (inl none) = ap (set_all entries) none ∙ over_none entries rises
 by_found entries found rises (inr same) = over_same entries found rises same
 
-kept_is_saved : (c : DeviceContents) → IsServed c → kept_of c ≡ saved_adapter c.adapter
+kept_is_saved : (c : DeviceContents) → IsServing c → kept_of c ≡ saved_adapter c.adapter
 kept_is_saved c is =
     ap (λ entries. set_all entries c.found) is.saved ∙ by_found (saved_adapter c.adapter) c.found is.rising is.found
 
@@ -183,7 +183,7 @@ same_keys a b same =
 
 -- The contents of a server, with an adapter of the device's tables.
 record IsOf (device : Device) (c : DeviceContents) : Type 0 where
-  is : IsServed c
+  is : IsServing c
   same : SameTables device c.adapter.state.shared.objects
 
 calls_alike : (a : AdapterState) (calls : List Call)
@@ -242,7 +242,7 @@ ends_by device c (Restarted start ∷ steps) of keep =
     ∙ ap (λ kept. adapter_after (map adapter_step steps) (started start kept)) (kept_is_saved c of.is)
 
 pub adapter_end : {W : Type 0} (c : DeviceContents) (steps : List (Step (RoundRequests W) AdapterStart))
-    → IsServed c → AllByRecursion (KeepsTables c.adapter.state.shared.objects) steps
+    → IsServing c → AllByRecursion (KeepsTables c.adapter.state.shared.objects) steps
     → (contents_after steps c).adapter ≡ adapter_after (map adapter_step steps) c.adapter
 adapter_end c steps is keep =
     ends_by c.adapter.state.shared.objects c steps (record { is = is; same = (refl, refl) }) keep
@@ -250,7 +250,7 @@ adapter_end c steps is keep =
 -- ---- what such a server keeps
 
 served_by : {W : Type 0} (device : Device) (c : DeviceContents) (steps : List (Step (RoundRequests W) AdapterStart))
-    → IsOf device c → AllByRecursion (KeepsTables device) steps → IsServed (contents_after steps c)
+    → IsOf device c → AllByRecursion (KeepsTables device) steps → IsServing (contents_after steps c)
 served_by device c [] of keep = of.is
 served_by device c (Executed requests ∷ steps) of keep =
     served_by device (after_round saved_adapter c requests) steps (after_a_round device c requests.calls of) keep.1
@@ -258,7 +258,7 @@ served_by device c (Restarted start ∷ steps) of keep =
     served_by device (contents_with saved_adapter (kept_of c) (started start (kept_of c))) steps
     (after_a_start device c start keep.0 of) keep.1
 
-pub kept_end : {W : Type 0} (c : DeviceContents) (steps : List (Step (RoundRequests W) AdapterStart)) → IsServed c
+pub kept_end : {W : Type 0} (c : DeviceContents) (steps : List (Step (RoundRequests W) AdapterStart)) → IsServing c
     → AllByRecursion (KeepsTables c.adapter.state.shared.objects) steps
     → kept_of (contents_after steps c) ≡ saved_adapter (adapter_after (map adapter_step steps) c.adapter)
 kept_end c steps is keep =
@@ -291,8 +291,8 @@ all_tables device (event ∷ events) (false ∷ went) steps keep (inr (step, oth
     (tables_of device event step keep.0 is, all_tables device events went others keep.1 rest)
 
 pub left_end : {W : Type 0} (c : DeviceContents) (events : List (Event (RoundInput W) AdapterStart)) (went : List Bool)
-    (left : Kept) → IsServed c → AllByRecursion (RestartsTables c.adapter.state.shared.objects) events
-    → IsLeft c events went left
+    (left : Kept) → IsServing c → AllByRecursion (RestartsTables c.adapter.state.shared.objects) events
+    → MayBeLeft c events went left
     → (steps : List (Step (RoundRequests W) AdapterStart)) × AreStepsOf brings_input events went steps
     × (left ≡ saved_adapter (adapter_after (map adapter_step steps) c.adapter))
 left_end c events went left is keep (steps, of, same) =

@@ -20,8 +20,10 @@ use Rattle.kept_adapter.specs.declared.adapter_start.AdapterStart.{AdapterStart}
 use Rattle.kept_adapter.specs.Restarts.{LifeStep, Does, restarted, after_life_step, after_life_steps}
 use Rattle.kept_adapter.specs.Restarts.{journal_over_restarts}
 use Rattle.kept_adapter.specs.Restarts.{AdapterStep, adapter_after, steps_over_restarts, contents_after, adapter_step}
-use Rattle.kept_adapter.specs.Restarts.{RestartsTables, brings_input, IsLeft, HoldsBytes, IsAdapterStep, RestartsGoOn}
-use Rattle.kept_adapter.specs.Restarts.{IsServed, KeepsTables, HasObjects, IsDevice, IsConfiguration, IsStep, GoesOn}
+use Rattle.kept_adapter.specs.Restarts.{RestartsTables, brings_input, MayBeLeft, HoldsBytes, IsAdapterStep}
+use Rattle.kept_adapter.specs.Restarts.{RestartsGoOn}
+use Rattle.kept_adapter.specs.Restarts.{IsServing, KeepsTables, HasObjects, IsRestartable, IsConfiguration, IsStep}
+use Rattle.kept_adapter.specs.Restarts.{GoesOn}
 use Rattle.kept_adapter.specs.Restarts.{IsGoingOn}
 use Rattle.kept_adapter.specs.Restarts.{slots_of, IsLedgerAfter, SettlesNothingOf, IsOnceInEachLife, BeginNewLives}
 use Rattle.kept_adapter.specs.Saved.{saved_adapter, saved_objects}
@@ -38,12 +40,12 @@ new_adapter_law = (start : AdapterStart) (a : AdapterState) →
 -- originator, number and reply, or is in doubt.
 abbrev pub ledger_goes_on_law : Type 0
 ledger_goes_on_law =
-    (start : AdapterStart) (device : Device) → IsDevice device → GoesOn (slots_of device.ledger) start →
+    (start : AdapterStart) (device : Device) → IsRestartable device → GoesOn (slots_of device.ledger) start →
     (restarted start device).ledger ≡ device.ledger
 
 -- With any configuration the ledger goes on, with as many slots as are configured, or it is new.
 abbrev pub ledger_or_new_law : Type 0
-ledger_or_new_law = (start : AdapterStart) (device : Device) → IsDevice device → IsConfiguration start →
+ledger_or_new_law = (start : AdapterStart) (device : Device) → IsRestartable device → IsConfiguration start →
     IsLedgerAfter start device.ledger (restarted start device).ledger
 
 -- Each value that is kept is as it was, if it is one that it can have.
@@ -65,12 +67,13 @@ others_begin_again_law =
 
 -- It holds of a device that starts from nothing.
 abbrev pub first_device_law : Type 0
-first_device_law = (start : AdapterStart) → IsConfiguration start → IsDevice (started start []).state.shared.objects
+first_device_law = (start : AdapterStart) → IsConfiguration start →
+    IsRestartable (started start []).state.shared.objects
 
 -- It still holds after each step.
 abbrev pub device_stays_law : Type 0
-device_stays_law = (device : Device) (step : LifeStep) → IsStep step → IsDevice device →
-    IsDevice (after_life_step device step)
+device_stays_law = (device : Device) (step : LifeStep) → IsStep step → IsRestartable device →
+    IsRestartable (after_life_step device step)
 
 -- What is assumed of steps holds of those of an adapter, if what its peers send consists of bytes.
 abbrev pub steps_fit_law : Type 0
@@ -88,13 +91,13 @@ device_over_restarts_law = (a : AdapterState) (steps : List AdapterStep) →
 -- If each configuration has the same tables, the adapter of a server that keeps its state is that after the calls of
 -- its rounds and its restarts, in order.
 abbrev pub server_law : Type 0 → Type 0
-server_law W = (c : DeviceContents) (steps : List (Step (RoundRequests W) AdapterStart)) → IsServed c →
+server_law W = (c : DeviceContents) (steps : List (Step (RoundRequests W) AdapterStart)) → IsServing c →
     AllByRecursion (KeepsTables c.adapter.state.shared.objects) steps →
     (contents_after steps c).adapter ≡ adapter_after (map adapter_step steps) c.adapter
 
 -- And what is kept of the contents is what is kept of that adapter: no more, and no less.
 abbrev pub server_kept_law : Type 0 → Type 0
-server_kept_law W = (c : DeviceContents) (steps : List (Step (RoundRequests W) AdapterStart)) → IsServed c →
+server_kept_law W = (c : DeviceContents) (steps : List (Step (RoundRequests W) AdapterStart)) → IsServing c →
     AllByRecursion (KeepsTables c.adapter.state.shared.objects) steps →
     kept_of (contents_after steps c) ≡ saved_adapter (adapter_after (map adapter_step steps) c.adapter)
 
@@ -103,13 +106,13 @@ server_kept_law W = (c : DeviceContents) (steps : List (Step (RoundRequests W) A
 abbrev pub crash_law : Type 0 → Type 0
 crash_law W =
     (c : DeviceContents) (events : List (Event (RoundInput W) AdapterStart)) (went : List Bool) (left : Kept) →
-    IsServed c → AllByRecursion (RestartsTables c.adapter.state.shared.objects) events → IsLeft c events went left →
+    IsServing c → AllByRecursion (RestartsTables c.adapter.state.shared.objects) events → MayBeLeft c events went left →
     (steps : List (Step (RoundRequests W) AdapterStart)) × AreStepsOf brings_input events went steps
     × (left ≡ saved_adapter (adapter_after (map adapter_step steps) c.adapter))
 
 -- Each restart goes on with the ledger of the device.
 pub record GoOn (device : Device) (steps : List LifeStep) : Type 0 where
-  pub is : IsDevice device
+  pub is : IsRestartable device
   pub fit : AllByRecursion IsStep steps
   pub on : AllByRecursion (IsGoingOn (slots_of device.ledger)) steps
 
@@ -147,5 +150,5 @@ same_bytes_over_restarts_law =
 -- Whichever restarts go on and whichever begin a life: no number of an originator is executed twice in one life, unless
 -- its slot is freed in between. The premise is that no life has the number of an earlier one.
 abbrev pub each_life_once_law : Type 0
-each_life_once_law = (device : Device) (steps : List LifeStep) → IsDevice device → AllByRecursion IsStep steps →
+each_life_once_law = (device : Device) (steps : List LifeStep) → IsRestartable device → AllByRecursion IsStep steps →
     BeginNewLives device steps → IsOnceInEachLife (journal_over_restarts device steps)

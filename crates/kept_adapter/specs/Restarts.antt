@@ -92,7 +92,7 @@ adapter_step (Restarted start) = Restarted start
 
 -- The contents are those of a server once it serves: the entries of its adapter are saved, in rising order, and what it
 -- found has the same keys, or nothing was found.
-pub record IsServed (c : DeviceContents) : Type 0 where
+pub record IsServing (c : DeviceContents) : Type 0 where
   pub saved : c.saved ≡ saved_adapter c.adapter
   pub rising : rise (adapter_keys c.adapter) ≡ true
   pub found : (c.found ≡ []) ⊎ (keys_of c.found ≡ adapter_keys c.adapter)
@@ -119,8 +119,9 @@ abbrev pub brings_input : {W : Type 0} → RoundInput W → RoundRequests W → 
 brings_input input requests = requests.input ≡ input
 
 -- These events may leave these entries: the clause of `live_peers`.
-abbrev pub IsLeft : {W : Type 0} → DeviceContents → List (Event (RoundInput W) AdapterStart) → List Bool → Kept → Type 0
-IsLeft c events went left =
+abbrev pub MayBeLeft : {W : Type 0} → DeviceContents → List (Event (RoundInput W) AdapterStart) → List Bool → Kept
+    → Type 0
+MayBeLeft c events went left =
     IsKeptAfter brings_input (after_round saved_adapter) kept_of
     (λ start found. contents_with saved_adapter found (started start found)) events went c left
 
@@ -132,7 +133,7 @@ pub record IsNarrow (name : AttributeName) : Type 0 where
   pub instance : name.instance < 2 ^ 16
   pub attribute : name.attribute < 2 ^ 16
 
-pub record IsDevice (device : Device) : Type 0 where
+pub record IsRestartable (device : Device) : Type 0 where
   pub names : AllByRecursion IsNarrow (kept_names device.router.objects.shapes)
   pub ledger : IfSome device.ledger IsLedger
 

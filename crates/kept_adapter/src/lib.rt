@@ -6,7 +6,7 @@
 //! has no bytes.
 //!
 //! A start puts back what it can. If not every entry of the ledger can be put back, the ledger starts empty, in another
-//! life of the device: no command is executed twice.
+//! life of the device: no command is executed twice. [`laws`] states what holds over restarts.
 #![tactic(auto)]
 
 mod adapter_start;
