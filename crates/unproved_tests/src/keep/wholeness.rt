@@ -9,7 +9,9 @@ use std::test::Fail;
 const KEPT: [(u64, &[u8]); 3] = [
     (
         0,
-        &[7, 0, 0, 0, 0, 0, 0, 0, 0x7a, 0xd4, 0x75, 0xd8, 0x5f, 0xfd, 0x1a, 0xab],
+        &[
+            7, 0, 0, 0, 0, 0, 0, 0, 0x7a, 0xd4, 0x75, 0xd8, 0x5f, 0xfd, 0x1a, 0xab,
+        ],
     ),
     (1, &[1, 2, 3]),
     (0x1234, &[]),
@@ -47,10 +49,7 @@ fn kept(alloc: Global) -> Result<Vec<Entry>, Fail> {
 }
 
 /// A keeper that numbers its commits, over one that keeps these entries.
-fn over(
-    alloc: Global,
-    entries: &[Entry],
-) -> Result<Numbered<MemoryKeeper, MemoryNote>, Fail> {
+fn over(alloc: Global, entries: &[Entry]) -> Result<Numbered<MemoryKeeper, MemoryNote>, Fail> {
     let mut keeper = MemoryKeeper::new(alloc);
     keeper.commit(entries)?;
     Ok(Numbered::start(alloc, keeper, MemoryNote { noted: 0 })?)
@@ -76,7 +75,10 @@ fn checksum_kept(rt: HostRuntime) -> Result<(), Fail> {
     let found = keeper.into_keeper().load(alloc)?;
     assert!(rt; found.len() == KEPT.len());
     for (at, (key, bytes)) in KEPT.iter().enumerate() {
-        assert!(rt; found[at].key == *key && found[at].bytes.as_slice() == *bytes, "{key}");
+        assert!(rt;
+            found[at].key == *key && found[at].bytes.as_slice() == *bytes,
+            "{key}"
+        );
     }
     Ok(())
 }
