@@ -1,12 +1,11 @@
 -- To set what has changed is to set everything.
-use Rattle.std.proofs.Common.{ℕ, ◌≡◌, ◌≢◌, ◌<◌, ◌≤◌, List, [], ◌∷◌, Bool, true, false, eqb, ltb, refl, sym, ap, ◌∙◌, subst, arith}
+use Rattle.std.proofs.Common.{ℕ, ◌≡◌, ◌<◌, List, [], ◌∷◌, Bool, true, false, eqb, refl, sym, ap, ◌∙◌, subst, arith}
 use Rattle.std.proofs.lemmas.Bool.{lt-ltb}
-use Rattle.std.proofs.Common.{ltb-true, ltb-false, zero, suc, not, ◌+◌, ◌++◌, length, take, get_or, append-nil, add-one}
+use Rattle.std.proofs.Common.{ltb-true, zero, suc, not, ◌+◌, ◌++◌, length, take, get_or, append-nil, add-one}
 use Rattle.std.proofs.Math.Seq.{take-suc}
 use Rattle.std.proofs.lemmas.List.{map-append}
 use lib.Pointwise.{pointwise}
 use Rattle.enip_keep.specs.declared.entry.Entry.{Entry}
-use Rattle.std.proofs.lemmas.Bool.{eqb-true, eqb-false}
 use Rattle.std.proofs.lemmas.Bool.Decides.{nat_tests}
 use Rattle.std.proofs.Common.{Result, Ok, Err}
 use Rattle.enip_keep.specs.Kept.{IsKeepable, Kept, pair_of, pairs_of, set, set_all}

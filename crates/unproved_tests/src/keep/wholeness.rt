@@ -1,5 +1,4 @@
 //! A keeper that numbers its commits: what it keeps is whole until a byte of it changes.
-ghost use Rattle.std.specs.Prelude.{ℕ};
 
 use enip_keep::{Entry, Keeper, MemoryKeeper, Numbered, RoundNote};
 use std::alloc::Global;
