@@ -2,8 +2,8 @@
  * A machine that keeps its state over a restart. Service 50 of class 768 moves it by a number of steps, and attribute 1
  * is its position. A numbered command (enip call --once) moves it once, even if the power fails at any moment.
  *
- * The state is in two banks of flash, here the files FLASH.0 and FLASH.1. Each state is written to the bank of the older
- * one, so that a write that was cut leaves the other bank as it was.
+ * The state is in two banks of flash, here the files FLASH.0 and FLASH.1. Each state is written to the bank of the
+ * older one, so that a write that was cut leaves the other bank as it was.
  *
  *     cc -std=c99 kept.c -lenip -o kept
  *     ./kept 44818 FLASH
@@ -153,8 +153,9 @@ static void serve(int client) {
     while ((count = recv(client, bytes, sizeof bytes, 0)) > 0) {
         enip_fed fed = {0, 0, 0, 0};
         for (size_t done = 0; done < (size_t)count && !fed.close; done += fed.taken) {
-            if (enip_adapter_serve(adapter, now(), peer, bytes + done, (size_t)count - done, answer, sizeof answer, move,
-                                   NULL, &fed) != ENIP_OK || !keep())
+            if (enip_adapter_serve(adapter, now(), peer, bytes + done, (size_t)count - done, answer, sizeof answer,
+                                   move, NULL, &fed) != ENIP_OK
+                || !keep())
                 exit(1);
             if (send(client, answer, fed.answer, MSG_NOSIGNAL) != (ssize_t)fed.answer)
                 fed.close = 1;

@@ -100,7 +100,8 @@ static struct refused core_refused = {9, 2};
 uint32_t enip_core_adapter_new_kept(struct kept *k, const uint8_t *text, size_t length, const uint8_t *state,
                                     size_t state_length, uint64_t life, struct refused *why) {
     *why = core_refused;
-    return make(k, NOTE("adapter_new_kept", WORD(text), length, state_length == 0 ? 0 : WORD(state), state_length, life));
+    return make(k, NOTE("adapter_new_kept", WORD(text), length, state_length == 0 ? 0 : WORD(state), state_length,
+                        life));
 }
 /* The piece that asks, as the calls for the state get it: no bytes if the owner is not asked. */
 static const uint8_t *piece;
@@ -666,7 +667,8 @@ static void commands(int with_freed) {
     uint64_t *originator = (void *)(arena + MIDDLE);
     void *handle = valid[ADAPTER];
     for (int is_asked = 0; is_asked < 2; is_asked++) {
-#define NAMES(it, o, n) (is_asked ? enip_adapter_asked_command((it), (o), (n)) : enip_adapter_in_doubt((it), 2, (o), (n)))
+#define NAMES(it, o, n) \
+    (is_asked ? enip_adapter_asked_command((it), (o), (n)) : enip_adapter_in_doubt((it), 2, (o), (n)))
         const char *what = is_asked ? "asked_command" : "in_doubt";
         uint32_t *number = (void *)(arena + LOW);
         is(what, "NULL", NAMES(NULL, originator, number) == ENIP_MISUSE);

@@ -136,7 +136,8 @@ static size_t ask(const void *request, size_t size, int is_numbered) {
     frame[38] = (unsigned char)size;
     frame[39] = (unsigned char)(size >> 8);
     memcpy(frame + 40, request, size);
-    is("serve", enip_adapter_serve(adapter, 1, peer, frame, 40 + size, buffer, sizeof buffer, owner, &is_numbered, &fed),
+    is("serve",
+       enip_adapter_serve(adapter, 1, peer, frame, 40 + size, buffer, sizeof buffer, owner, &is_numbered, &fed),
        ENIP_OK);
     return fed.answer > 40 ? fed.answer - 40 : 0;
 }
@@ -251,8 +252,8 @@ static void others(void) {
             ENIP_SAVED_STATE, ENIP_SAVED_DEVICE, another);
     refused("a configuration", IDENTITY("4660", "7", "1") "colour = 1\n" REST, state, state_size, ENIP_CONFIGURATION,
             ENIP_CONFIG_KEY, NULL);
-    refused("a falling order", IDENTITY("4660", "7", "1") REST LEDGER DATA "[[assembly]]\ninstance = 99\nmembers = [4]\n",
-            NULL, 0, ENIP_CONFIGURATION, ENIP_CONFIG_ORDER,
+    refused("a falling order",
+            IDENTITY("4660", "7", "1") REST LEDGER DATA "[[assembly]]\ninstance = 99\nmembers = [4]\n", NULL, 0, ENIP_CONFIGURATION, ENIP_CONFIG_ORDER,
             "the assemblies or the objects are not configured in rising order");
 }
 
@@ -315,7 +316,7 @@ static void in_doubt(void) {
     moves = 0;
     sent("a command", first, ENIP_ONCE_DONE, moved, sizeof moved);
     is("it moves", moves, 1);
-    /* the power fails before the state is saved again: what is left is the state that the owner saved before it moved */
+    /* the power fails before the state is saved again: the state that the owner saved before it moved is left */
     memcpy(state, asked_state, asked_size);
     state_size = asked_size;
     restart();

@@ -53,8 +53,8 @@ impl<R: Router> LedgerRouter<R> {
         }
     }
 
-    /// The command that would be executed if a request were executed now. `None` if the request is not Do_Once, or if its
-    /// command would be refused or answered by what its slot keeps.
+    /// The command that would be executed if a request were executed now. `None` if the request is not Do_Once, or if
+    /// its command would be refused or answered by what its slot keeps.
     ///
     /// ```
     /// let command = device.executing(request, 504);

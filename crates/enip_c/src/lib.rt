@@ -1,5 +1,5 @@
-//! The adapter, the client and the commander for C: each exported function is one call of `enip_adapter`, `saved_adapter`,
-//! `enip_client` or `cip_commander`.
+//! The adapter, the client and the commander for C: each exported function is one call of `enip_adapter`,
+//! `saved_adapter`, `enip_client` or `cip_commander`.
 //!
 //! `library/enip.c`, a thin layer in C, is in front of these functions. It refuses what only C can get wrong, such as a
 //! NULL pointer or a handle that was freed. Everything else is here. The contract of a function states that it did what

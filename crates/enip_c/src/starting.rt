@@ -38,8 +38,8 @@ pub(crate) enum KeptFault {
     State(RestoreFault),
 }
 
-/// Makes an adapter from the text of a configuration and a saved state, which is empty if nothing was saved yet. A ledger
-/// that starts empty is in the life `life`. Allocates all the memory that the adapter will ever need.
+/// Makes an adapter from the text of a configuration and a saved state, which is empty if nothing was saved yet. A
+/// ledger that starts empty is in the life `life`. Allocates all the memory that the adapter will ever need.
 #[unsafe(no_mangle)]
 pub extern "C" fn enip_core_adapter_new_kept(
     alloc: Global,
@@ -49,7 +49,8 @@ pub extern "C" fn enip_core_adapter_new_kept(
     life: u64,
     refusal: &mut CRefusal,
 ) -> u32
-    ensures made { result ≡ status_number Status.Done → IsSomeAnd kept.new.value (IsKeptAdapterOf text.now state.now life) }
+    ensures made { result ≡ status_number Status.Done
+        → IsSomeAnd kept.new.value (IsKeptAdapterOf text.now state.now life) }
     ensures outcome { IsKeptOutcome text.now state.now life refusal.new result }
     ensures unchanged { (result ≡ status_number Status.Done → ⊥) → kept.new.value ≡ kept.old.value }
 {

@@ -16,8 +16,8 @@ use saved_adapter::{AdapterEntries, generation};
 use saved_state::{saved_size, write};
 use std::alloc::Global;
 
-/// Writes the state of an adapter to the buffer, and its size to `count`. A command that the piece of a peer would execute
-/// is in doubt in it; an empty piece executes none. If the state does not fit, only `count` changes.
+/// Writes the state of an adapter to the buffer, and its size to `count`. A command that the piece of a peer would
+/// execute is in doubt in it; an empty piece executes none. If the state does not fit, only `count` changes.
 #[unsafe(no_mangle)]
 pub extern "C" fn enip_core_adapter_save(
     alloc: Global,
@@ -61,8 +61,8 @@ fn save(
     }
 }
 
-/// The generation of the adapter's state: that of the last state if it is the same, otherwise the next. A command that the
-/// piece of a peer would execute is in doubt in it; an empty piece executes none.
+/// The generation of the adapter's state: that of the last state if it is the same, otherwise the next. A command that
+/// the piece of a peer would execute is in doubt in it; an empty piece executes none.
 #[unsafe(no_mangle)]
 pub extern "C" fn enip_core_adapter_generation(
     alloc: Global,
@@ -74,7 +74,8 @@ pub extern "C" fn enip_core_adapter_generation(
 ) -> u32
     requires { IsLive kept.old.value }
     ensures kept { kept.new.value ≡ kept.old.value }
-    ensures returned { ReturnsGeneration last.now (entries_kept kept.old.value peer piece.now) next.old next.new result }
+    ensures returned { ReturnsGeneration last.now (entries_kept kept.old.value peer piece.now) next.old next.new
+        result }
 {
     let mut adapter = kept.take(alloc);
     let doubt = adapter.executing(&Peer::of(peer), piece);
@@ -101,8 +102,8 @@ pub extern "C" fn enip_core_adapter_executing(
 ) -> u32
     requires { IsLive kept.old.value }
     ensures kept { kept.new.value ≡ kept.old.value }
-    ensures returned { ReturnsCommand (command_kept kept.old.value peer piece.now) originator.old number.old originator.new
-        number.new result }
+    ensures returned { ReturnsCommand (command_kept kept.old.value peer piece.now) originator.old number.old
+        originator.new number.new result }
 {
     let mut adapter = kept.take(alloc);
     let command = adapter.executing(&Peer::of(peer), piece);

@@ -82,8 +82,8 @@ pub extern "C" fn enip_core_status_text(kind: u32, number: u32, buffer: &mut [u8
     copy_front(words.as_str().as_bytes(), buffer)
 }
 
-/// Writes why a saved state is refused, by the number of the check, and by the version of the state if that is why. Returns
-/// the length of the text, 0 if there is none or it does not fit.
+/// Writes why a saved state is refused, by the number of the check, and by the version of the state if that is why.
+/// Returns the length of the text, 0 if there is none or it does not fit.
 #[unsafe(no_mangle)]
 pub extern "C" fn enip_core_state_text(number: u32, version: u32, buffer: &mut [u8]) -> usize
     ensures { result ≤ length buffer.new }

@@ -15,8 +15,8 @@ pub enum StartFault {
     /// The entries are of another device.
     #[error("what is kept is of another device")]
     OtherDevice,
-    /// The assemblies or the application objects are not configured in rising order, so the keys of the adapter's entries
-    /// do not rise.
+    /// The assemblies or the application objects are not configured in rising order, so the keys of the adapter's
+    /// entries do not rise.
     #[error("the assemblies or the objects are not configured in rising order")]
     Order,
 }

@@ -45,8 +45,8 @@ impl AdapterStart {
     ///
     /// # Errors
     ///
-    /// `Memory` if memory is refused, `OtherDevice` if the entries are of another device, `Order` if the assemblies or the
-    /// application objects are not configured in rising order.
+    /// `Memory` if memory is refused, `OtherDevice` if the entries are of another device, `Order` if the assemblies or
+    /// the application objects are not configured in rising order.
     ///
     /// ```
     /// let adapter = start.start_from(alloc, &entries)?;

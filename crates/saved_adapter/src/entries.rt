@@ -13,7 +13,8 @@ use kept_adapter::ledger_key;
 use saved_state::{EntryHead, EntrySource};
 use std::marker::Model;
 
-/// The entries in which an adapter is kept: those of `kept_adapter`, with a command of its ledger in doubt if there is one.
+/// The entries in which an adapter is kept: those of `kept_adapter`, with a command of its ledger in doubt if there is
+/// one.
 ///
 /// ```
 /// let size = saved_size(&AdapterEntries::new(&adapter, None))?;
@@ -56,8 +57,8 @@ impl<'a> AdapterEntries<'a> {
         }
     }
 
-    /// The key of the entry at an index, and its bytes, which are written to `bytes` in place of the old content. `None`
-    /// past the last entry.
+    /// The key of the entry at an index, and its bytes, which are written to `bytes` in place of the old content.
+    /// `None` past the last entry.
     pub(crate) fn entry(&self, index: usize, bytes: &mut ReplyBuf) -> Option<u64>
         ensures { entry_in result bytes.new.items ≡ slice_get self.now index }
     {
@@ -102,7 +103,10 @@ impl EntrySource for AdapterEntries<'_> {
 }
 
 /// The ledger, if there is one, with this command in doubt.
-fn marked<'a>(ledger: Option<&'a Ledger>, doubt: Option<DoubtfulCommand>) -> Option<MarkedLedger<'a>>
+fn marked<'a>(
+    ledger: Option<&'a Ledger>,
+    doubt: Option<DoubtfulCommand>,
+) -> Option<MarkedLedger<'a>>
     ensures { result ≡ option_map (doubted_by doubt) (option_map (λ l. l.now) ledger.entry) }
 {
     match ledger {

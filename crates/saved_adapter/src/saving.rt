@@ -11,13 +11,13 @@ use cip_objects::ReplyBuf;
 use enip_adapter::Adapter;
 use saved_state::{SavedState, StateFault, WriteFault, write};
 
-/// Writes the state of an adapter to the front of the buffer, with this generation, and with a command in doubt if there
-/// is one. Returns its size in bytes. It allocates nothing.
+/// Writes the state of an adapter to the front of the buffer, with this generation, and with a command in doubt if
+/// there is one. Returns its size in bytes. It allocates nothing.
 ///
 /// # Errors
 ///
-/// `Order` if the assemblies or the application objects are not configured in rising order, `Full` if the state does not
-/// fit. Then nothing is written.
+/// `Order` if the assemblies or the application objects are not configured in rising order, `Full` if the state does
+/// not fit. Then nothing is written.
 ///
 /// ```
 /// let size = save(&adapter, adapter_executes, generation, buffer)?;
@@ -30,7 +30,8 @@ pub fn save(
 ) -> Result<usize, WriteFault>
     ensures size { IfOk result (λ n. n ≡ size (entries_in_doubt doubt adapter.now)) }
     ensures written { IfOk result (λ n. buffer.new
-        ≡ spelled (record { generation = generation; entries = entries_in_doubt doubt adapter.now }) ++ drop n buffer.old) }
+        ≡ spelled (record { generation = generation; entries = entries_in_doubt doubt adapter.now })
+        ++ drop n buffer.old) }
     ensures refused { IfErr result (λ fault.
         write_refusal (length buffer.old) (entries_in_doubt doubt adapter.now) ≡ Some fault) }
     ensures unchanged { OnErr result (buffer.new ≡ buffer.old) }
@@ -38,9 +39,9 @@ pub fn save(
     write(&AdapterEntries::new(adapter, doubt), generation, buffer)
 }
 
-/// The generation of what is kept of an adapter now, with a command in doubt if there is one: that of the last state if it
-/// has the same entries, otherwise the next, modulo 2^64. `last` has the bytes of the last state, or is empty if nothing
-/// was saved yet; then the generation is 1.
+/// The generation of what is kept of an adapter now, with a command in doubt if there is one: that of the last state if
+/// it has the same entries, otherwise the next, modulo 2^64. `last` has the bytes of the last state, or is empty if
+/// nothing was saved yet; then the generation is 1.
 ///
 /// # Errors
 ///
@@ -62,10 +63,7 @@ pub fn generation(
         return Ok(1);
     }
     match SavedState::read(last) {
-        Ok(state) => Ok(generation_after(
-            &state,
-            &AdapterEntries::new(adapter, doubt),
-        )),
+        Ok(state) => Ok(generation_after(&state, &AdapterEntries::new(adapter, doubt))),
         Err(why) => Err(why),
     }
 }

@@ -30,8 +30,8 @@ pub enum RestoreFault {
     Order,
 }
 
-/// Makes the adapter that starts from a state: its ledger goes on in the same life, and each value that is kept is as it
-/// was. `bytes` are those of the state, or there are none: then the device starts for the first time.
+/// Makes the adapter that starts from a state: its ledger goes on in the same life, and each value that is kept is as
+/// it was. `bytes` are those of the state, or there are none: then the device starts for the first time.
 ///
 /// A value that the configuration does not have any more, or has with another size, is left out, as in `kept_adapter`.
 ///

@@ -35,8 +35,8 @@ pub(crate) fn asked<'a>(
     asked_by_request(shared, request, max_size)
 }
 
-/// The command of the ledger that would be executed if a peer's whole frame were served. `None` if there is no frame, or
-/// if it has no command that would be executed now.
+/// The command of the ledger that would be executed if a peer's whole frame were served. `None` if there is no frame,
+/// or if it has no command that would be executed now.
 pub(crate) fn executing(
     shared: &Shared,
     seen: Option<(Session, FrameView<'_>)>,
