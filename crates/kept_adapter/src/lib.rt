@@ -12,8 +12,10 @@
 mod adapter_start;
 mod keys;
 pub mod laws;
+mod lives;
 mod progress;
 mod saving;
 mod starting;
 
 pub use adapter_start::{AdapterStart, LedgerStart};
+pub use lives::live_adapter;
