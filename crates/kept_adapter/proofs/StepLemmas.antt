@@ -1,7 +1,7 @@
 -- The device of an adapter over restarts, and the adapter of a server that keeps its state.
 use Rattle.std.proofs.Common.{◌≡◌, ℕ, ◌<◌, ◌≤◌, ◌==◌, ◌&&◌, nat_lt, not, Bool, true, false, if◌then◌else◌, Option, Some}
 use Rattle.std.proofs.Common.{None, List, [], ◌∷◌, ◌++◌, map, refl, ap, sym, ◌∙◌, subst, arith, ◌⊎◌, inl, inr}
-use Rattle.std.specs.Prelude.{is_some}
+use Rattle.std.specs.Prelude.{is_some, Result, Ok, Err, OnOk}
 use Rattle.std.specs.List.{AllByRecursion}
 use Rattle.std.proofs.lemmas.Bool.{eq-eqb, ne_eqb, ltb-true, le-ltb, and_parts}
 use Rattle.cip_application.specs.declared.object.AttributeName.{AttributeName}
@@ -31,6 +31,7 @@ use Rattle.kept_adapter.specs.Keys.{device_key}
 use Rattle.kept_adapter.specs.Restarts.{LifeStep, Does, after_life_steps}
 use Rattle.kept_adapter.specs.Restarts.{AdapterStep, adapter_after, steps_over_restarts, contents_after, adapter_step}
 use Rattle.kept_adapter.specs.Restarts.{IsServing, HasTables, KeepsTables, RestartsTables, brings_input, MayBeLeft}
+use Rattle.kept_adapter.specs.Restarts.{IsKeptOfAdapter}
 use Rattle.kept_adapter.specs.SameKeys.{device_keys, keys_stay, steps_alike}
 use Rattle.kept_adapter.specs.Saved.{saved_adapter, adapter_keys}
 use Rattle.kept_adapter.specs.Started.{is_free_slot, by_device_key, beginning, put_back, put_all_back}
@@ -297,3 +298,12 @@ pub left_end : {W : Type 0} (c : DeviceContents) (events : List (Event (RoundInp
     × (left ≡ saved_adapter (adapter_after (map adapter_step steps) c.adapter))
 left_end c events went left is keep (steps, of, same) =
     (steps, of, same ∙ kept_end c steps is (all_tables c.adapter.state.shared.objects events went steps keep of))
+
+pub left_if : {W X E : Type 0} (result : Result X E) (may_leave : Kept → Type 0) (c : DeviceContents)
+    (events : List (Event (RoundInput W) AdapterStart)) (went : List Bool) → IsServing c
+    → AllByRecursion (RestartsTables c.adapter.state.shared.objects) events
+    → OnOk result ((left : Kept) → may_leave left → MayBeLeft c events went left)
+    → OnOk result ((left : Kept) → may_leave left → IsKeptOfAdapter c events went left)
+left_if (Ok x) may_leave c events went is keep lives =
+    λ left leaves. left_end c events went left is keep (lives left leaves)
+left_if (Err e) may_leave c events went is keep lives = tt

@@ -13,14 +13,14 @@ use Rattle.enip_adapter.specs.Calls.{AdapterState}
 use Rattle.enip_adapter.specs.DeviceRuns.{Requested, objects_after, objects_answer}
 use Rattle.enip_keep.specs.declared.lives.Event.{Event}
 use Rattle.enip_keep.specs.Kept.{Kept}
-use Rattle.enip_keep.specs.Lives.{Step, AreStepsOf}
+use Rattle.enip_keep.specs.Lives.{Step}
 use Rattle.kept_server.specs.declared.round.RoundInput.{RoundInput}
 use Rattle.kept_server.specs.Rounds.{DeviceContents, RoundRequests, kept_of}
 use Rattle.kept_adapter.specs.declared.adapter_start.AdapterStart.{AdapterStart}
 use Rattle.kept_adapter.specs.Restarts.{LifeStep, Does, restarted, after_life_step, after_life_steps}
 use Rattle.kept_adapter.specs.Restarts.{journal_over_restarts}
 use Rattle.kept_adapter.specs.Restarts.{AdapterStep, adapter_after, steps_over_restarts, contents_after, adapter_step}
-use Rattle.kept_adapter.specs.Restarts.{RestartsTables, brings_input, MayBeLeft, HoldsBytes, IsAdapterStep}
+use Rattle.kept_adapter.specs.Restarts.{RestartsTables, IsKeptOfAdapter, MayBeLeft, HoldsBytes, IsAdapterStep}
 use Rattle.kept_adapter.specs.Restarts.{RestartsGoOn}
 use Rattle.kept_adapter.specs.Restarts.{IsServing, KeepsTables, HasObjects, IsRestartable, IsConfiguration, IsStep}
 use Rattle.kept_adapter.specs.Restarts.{GoesOn}
@@ -107,8 +107,7 @@ abbrev pub crash_law : Type 0 → Type 0
 crash_law W =
     (c : DeviceContents) (events : List (Event (RoundInput W) AdapterStart)) (went : List Bool) (left : Kept) →
     IsServing c → AllByRecursion (RestartsTables c.adapter.state.shared.objects) events → MayBeLeft c events went left →
-    (steps : List (Step (RoundRequests W) AdapterStart)) × AreStepsOf brings_input events went steps
-    × (left ≡ saved_adapter (adapter_after (map adapter_step steps) c.adapter))
+    IsKeptOfAdapter c events went left
 
 -- Each restart goes on with the ledger of the device.
 pub record GoOn (device : Device) (steps : List LifeStep) : Type 0 where

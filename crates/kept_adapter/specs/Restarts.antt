@@ -22,7 +22,7 @@ use Rattle.enip_adapter.specs.Runs.{after_calls}
 use Rattle.enip_keep.specs.declared.lives.Event.{Event}
 use Rattle.enip_keep.specs.declared.lives.Event.TheVariants.{Round, Restart}
 use Rattle.enip_keep.specs.Kept.{Kept}
-use Rattle.enip_keep.specs.Lives.{Step, Executed, Restarted, after, IsKeptAfter}
+use Rattle.enip_keep.specs.Lives.{Step, Executed, Restarted, after, AreStepsOf, IsKeptAfter}
 use Rattle.kept_server.specs.Changes.{keys_of, rise}
 use Rattle.kept_server.specs.declared.round.RoundInput.{RoundInput}
 use Rattle.kept_server.specs.Rounds.{DeviceContents, RoundRequests, after_round, contents_with, kept_of}
@@ -124,6 +124,13 @@ abbrev pub MayBeLeft : {W : Type 0} → DeviceContents → List (Event (RoundInp
 MayBeLeft c events went left =
     IsKeptAfter brings_input (after_round saved_adapter) kept_of
     (λ start found. contents_with saved_adapter found (started start found)) events went c left
+
+-- These entries are what is kept of the adapter after steps of these events.
+abbrev pub IsKeptOfAdapter : {W : Type 0} → DeviceContents → List (Event (RoundInput W) AdapterStart) → List Bool → Kept
+    → Type 0
+IsKeptOfAdapter {W} c events went left =
+    (steps : List (Step (RoundRequests W) AdapterStart)) × AreStepsOf brings_input events went steps
+    × (left ≡ saved_adapter (adapter_after (map adapter_step steps) c.adapter))
 
 -- ---- what holds of every device, configuration and step
 

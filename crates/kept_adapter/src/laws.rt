@@ -2,8 +2,8 @@
 //!
 //! `restarted` in `specs/Restarts.antt` defines the device that starts from what is kept of a device, `after_life_steps`
 //! the device after requests, its own writes and restarts, in any order, and `journal_over_restarts` the commands that are
-//! executed in them. A crash is a restart: it leaves what is kept of the device after some round, as `live_peers` of
-//! `kept_server` states.
+//! executed in them. A crash is a restart: it leaves what is kept of the device after some round, as
+//! `live_adapter` states.
 
 ghost use Rattle.kept_adapter.specs.RestartLaws.{new_adapter_law, ledger_goes_on_law, ledger_or_new_law, values_go_on_law};
 ghost use Rattle.kept_adapter.specs.RestartLaws.{others_begin_again_law, first_device_law, device_stays_law};
@@ -45,7 +45,7 @@ pub fn restarts_are_steps()
 
 /// The adapter of a server that keeps its state is the adapter after the calls of its rounds and the restarts, in order,
 /// if each configuration has the same tables. What is kept is what is kept of that adapter, and so is what a crash may
-/// leave, as `live_peers` of `kept_server` states it: the adapter is that after steps of the events.
+/// leave (`live_adapter`): the adapter is that after steps of the events.
 pub fn servers_restart<W: Wire + Drop>()
     ensures adapter { server_law W }
     ensures kept { server_kept_law W }
