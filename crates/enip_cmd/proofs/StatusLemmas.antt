@@ -12,7 +12,7 @@ use Rattle.enip_replay.specs.declared.replaying.ReplayFailure.{ReplayFailure}
 use Rattle.enip_replay.specs.declared.replaying.ReplayFailure.TheVariants as failures
 use Rattle.enip_replay.specs.Replay.{IsStop}
 use Rattle.enip_cmd.specs.declared.fault.Fault.{Fault}
-use Rattle.enip_cmd.specs.declared.fault.Fault.TheVariants.{Configuration as Refused, Setup, Run, Value, Request, Once, CommandFile}
+use Rattle.enip_cmd.specs.declared.fault.Fault.TheVariants.{Configuration as Refused, Setup, Run, Value, Request, Once, CommandFile, State}
 use Rattle.enip_cmd.specs.Statuses.{exit_status, fault_of_configuration, fault_of_replay, IsStatus, IsReplayStatus}
 use Rattle.enip_cmd.specs.Statuses.{IsFaultOf, IsReplayFaultOf, IsOpeningRefused}
 
@@ -42,6 +42,7 @@ pub status_of_fault : (text : List ℕ) (fault : Fault) → IsFaultOf text fault
 status_of_fault text (Refused check) so = inr (inl refl)
 status_of_fault text Setup so = absurd so
 status_of_fault text Value so = absurd so
+status_of_fault text State so = absurd so
 status_of_fault text (Request failure) so = absurd so
 status_of_fault text (Once refusal) so = absurd so
 status_of_fault text (CommandFile line) so = absurd so
@@ -54,6 +55,7 @@ pub line_refused : (text : List ℕ) (fault : Fault) → IsFaultOf text fault �
 line_refused text (Refused check) so four = absurd (omega (arith, four))
 line_refused text Setup so four = absurd so
 line_refused text Value so four = absurd so
+line_refused text State so four = absurd so
 line_refused text (Request failure) so four = absurd so
 line_refused text (Once refusal) so four = absurd so
 line_refused text (CommandFile line) so four = absurd so
@@ -67,6 +69,7 @@ pub configuration_refused : (text : List ℕ) (fault : Fault) → IsFaultOf text
 configuration_refused text (Refused refusal) so three = (refusal, so)
 configuration_refused text Setup so three = absurd so
 configuration_refused text Value so three = absurd so
+configuration_refused text State so three = absurd so
 configuration_refused text (Request failure) so three = absurd so
 configuration_refused text (Once refusal) so three = absurd so
 configuration_refused text (CommandFile line) so three = absurd so
@@ -79,6 +82,7 @@ of_fault : (text : List ℕ) (fault : Fault) → IsFaultOf text fault → IsRepl
 of_fault text (Refused check) so = so
 of_fault text Setup so = absurd so
 of_fault text Value so = absurd so
+of_fault text State so = absurd so
 of_fault text (Request failure) so = absurd so
 of_fault text (Once refusal) so = absurd so
 of_fault text (CommandFile line) so = absurd so
@@ -105,6 +109,7 @@ pub status_of_replay_fault : (text : List ℕ) (fault : Fault) → IsReplayFault
 status_of_replay_fault text (Refused check) so = inl (status_of_fault text (Refused check) so)
 status_of_replay_fault text Setup so = inr refl
 status_of_replay_fault text Value so = absurd so
+status_of_replay_fault text State so = absurd so
 status_of_replay_fault text (Request failure) so = absurd so
 status_of_replay_fault text (Once refusal) so = absurd so
 status_of_replay_fault text (CommandFile line) so = absurd so
@@ -114,6 +119,7 @@ pub replay_line_refused : (text : List ℕ) (fault : Fault) → IsReplayFaultOf 
 replay_line_refused text (Refused check) so four = line_refused text (Refused check) so four
 replay_line_refused text Setup so four = absurd (omega (arith, four))
 replay_line_refused text Value so four = absurd so
+replay_line_refused text State so four = absurd so
 replay_line_refused text (Request failure) so four = absurd so
 replay_line_refused text (Once refusal) so four = absurd so
 replay_line_refused text (CommandFile line) so four = absurd so
@@ -124,6 +130,7 @@ pub replay_configuration_refused : (text : List ℕ) (fault : Fault) → IsRepla
 replay_configuration_refused text (Refused check) so three = configuration_refused text (Refused check) so three
 replay_configuration_refused text Setup so three = absurd (omega (arith, three))
 replay_configuration_refused text Value so three = absurd so
+replay_configuration_refused text State so three = absurd so
 replay_configuration_refused text (Request failure) so three = absurd so
 replay_configuration_refused text (Once refusal) so three = absurd so
 replay_configuration_refused text (CommandFile line) so three = absurd so
@@ -139,6 +146,7 @@ pub replay_setup : (text : List ℕ) (fault : Fault) → IsReplayFaultOf text fa
 replay_setup text (Refused check) so six = absurd (omega (arith, six))
 replay_setup text Setup so six = so
 replay_setup text Value so six = absurd so
+replay_setup text State so six = absurd so
 replay_setup text (Request failure) so six = absurd so
 replay_setup text (Once refusal) so six = absurd so
 replay_setup text (CommandFile line) so six = absurd so
