@@ -79,15 +79,27 @@ pub extern "C" fn enip_core_adapter_generation(
 {
     let mut adapter = kept.take(alloc);
     let doubt = adapter.executing(&Peer::of(peer), piece);
-    let status = match generation(&adapter, doubt, last) {
+    let status = next_generation(&adapter, doubt, last, next);
+    *kept = KeptAdapter::of(adapter);
+    status
+}
+
+#[tactic(auto, using(crate::proofs::StateLemmas::is_generation, crate::proofs::StateLemmas::no_generation))]
+fn next_generation(
+    adapter: &Adapter,
+    doubt: Option<DoubtfulCommand>,
+    last: &[u8],
+    next: &mut u64,
+) -> u32
+    ensures { ReturnsGeneration last.now (entries_in_doubt doubt adapter.now) next.old next.new result }
+{
+    match generation(adapter, doubt, last) {
         Ok(number) => {
             *next = number;
             Status::Done.number()
         }
         Err(_) => Status::SavedState.number(),
-    };
-    *kept = KeptAdapter::of(adapter);
-    status
+    }
 }
 
 /// The command that the piece of a peer would execute.
