@@ -19,8 +19,11 @@ use std::io::{self, ErrorKind};
 /// The bytes of the header of a database. (SQLite, Database File Format.)
 const HEADER: u64 = 100;
 
+/// The rows of a database.
+type FileRows = Rows<FileStore<FileFrom<Wary>>>;
+
 /// The keeper of a file.
-pub(crate) type FileKeeper = Numbered<Rows<FileStore<FileFrom<Wary>>>, FileNote>;
+pub(crate) type FileKeeper = Numbered<FileRows, FileNote>;
 
 /// Notes the numbers of rounds in `FILE.round`.
 #[derive(Drop)]
@@ -120,12 +123,38 @@ impl<'a> KeptFile<'a> {
         if last == 0 || !exists {
             make_file(rt, path, Wary).map_err(|error| self.refused(error))?;
         }
-        let rows = open(rt, path, Wary).map_err(|error| self.refused(error))?;
+        let rows = self.rows(rt, path)?;
         let note = self
             .note(rt, path, file, last)
             .map_err(|error| CommandError::of_system(self.name, error))?;
-        let keeper = Numbered::start(alloc, rows, note).map_err(|error| self.refused(error))?;
+        let keeper = self.numbered(alloc, rows, note)?;
         self.compare(keeper, last)
+    }
+
+    /// Opens the database.
+    fn rows(self, rt: &HostRuntime, path: &str) -> Result<FileRows, CommandError<'a>>
+        ensures { IfOk result (λ k. ⟦<FileRows as Keeper>⟧.doubt k ≡ 0 → ⟦<FileRows as Keeper>⟧.is_up k) }
+    {
+        match open(rt, path, Wary) {
+            Ok(rows) => Ok(rows),
+            Err(error) => Err(self.refused(error)),
+        }
+    }
+
+    /// Goes on after the last round in the database.
+    fn numbered(
+        self,
+        alloc: Global,
+        rows: FileRows,
+        note: FileNote,
+    ) -> Result<FileKeeper, CommandError<'a>>
+        requires { ⟦<FileRows as Keeper>⟧.doubt rows ≡ 0 → ⟦<FileRows as Keeper>⟧.is_up rows }
+        ensures { IfOk result (λ k. ⟦<FileKeeper as Keeper>⟧.doubt k ≡ 0 → ⟦<FileKeeper as Keeper>⟧.is_up k) }
+    {
+        match Numbered::start(alloc, rows, note) {
+            Ok(keeper) => Ok(keeper),
+            Err(error) => Err(self.refused(error)),
+        }
     }
 
     /// What notes the numbers of rounds, the last of which is this one.
