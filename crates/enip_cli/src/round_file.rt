@@ -110,7 +110,12 @@ fn last_round(bytes: &[u8]) -> LastRound {
 fn is_unfinished(bytes: &[u8]) -> bool {
     let written = bytes.iter().take_while(|byte| **byte != 0).count();
     written < LINE
-        && START.as_bytes().iter().zip(bytes).take(written).all(|(one, other)| one == other)
+        && START
+            .as_bytes()
+            .iter()
+            .zip(bytes)
+            .take(written)
+            .all(|(one, other)| one == other)
         && bytes.iter().skip(written).all(|byte| *byte == 0)
 }
 

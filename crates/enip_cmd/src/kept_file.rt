@@ -8,7 +8,7 @@ ghost use Rattle.std.specs.Prelude.{◌≡◌, IfOk};
 use crate::fault::Fault;
 use crate::file_identity::FileIdentity;
 use crate::reason::{CommandError, Reason};
-use enip_cli::{LastRound, OsArg, RoundFile, can_update, option_file_name};
+use enip_cli::{LastRound, OsArg, RoundFile, can_update, option_file_name, resolved};
 use enip_keep::{KeepError, Keeper, Numbered, RoundNote};
 use enip_keep_sqlite::{Rows, make_file, open};
 use sqlite::{FileFrom, FileStore, Wary};
@@ -110,12 +110,12 @@ impl<'a> KeptFile<'a> {
         ensures up { IfOk result (λ k. ⟦<FileKeeper as Keeper>⟧.doubt k ≡ 0 → ⟦<FileKeeper as Keeper>⟧.is_up k) }
     {
         let alloc = rt.alloc();
-        let bytes = option_file_name(args, "--keep", self.name);
-        let Ok(path) = str::from_utf8(bytes) else {
+        let name = resolved(alloc, option_file_name(args, "--keep", self.name))?;
+        let Ok(path) = str::from_utf8(&name) else {
             return Err(CommandError::of_reason(Reason::NotText(self.name)));
         };
-        let exists = self.exists(bytes)?;
-        let file = self.lock(alloc, bytes)?;
+        let exists = self.exists(&name)?;
+        let file = self.lock(alloc, &name)?;
         let last = self.last_round(alloc, &file, exists)?;
         if exists && last > 0 && !has_header(rt, path) {
             return Err(self.state_refused(Reason::NotAState(self.name)));
