@@ -74,7 +74,7 @@ impl LockedFile {
 }
 
 /// A name with all its symbolic links resolved. If there is no such file, the name itself.
-pub(crate) fn resolved(alloc: Global, name: &[u8]) -> Result<Vec<u8>, AllocError> {
+pub fn resolved(alloc: Global, name: &[u8]) -> Result<Vec<u8>, AllocError> {
     let mut path = [0; libc::PATH_MAX];
     let found = os::realpath(name, &mut path) == 0;
     let mut resolved = Vec::new(alloc);

@@ -8,7 +8,7 @@ ghost use Rattle.std.specs.Prelude.{◌≡◌, IfOk};
 use crate::fault::Fault;
 use crate::file_identity::FileIdentity;
 use crate::reason::{CommandError, Reason};
-use enip_cli::{LastRound, OsArg, RoundFile, can_update, option_file_name};
+use enip_cli::{LastRound, OsArg, RoundFile, can_update, option_file_name, resolved};
 use enip_keep::{KeepError, Keeper, Numbered, RoundNote};
 use enip_keep_sqlite::{Rows, make_file, open};
 use sqlite::{FileFrom, FileStore, Wary};
@@ -19,8 +19,11 @@ use std::io::{self, ErrorKind};
 /// The bytes of the header of a database. (SQLite, Database File Format.)
 const HEADER: u64 = 100;
 
+/// The rows of a database.
+type FileRows = Rows<FileStore<FileFrom<Wary>>>;
+
 /// The keeper of a file.
-pub(crate) type FileKeeper = Numbered<Rows<FileStore<FileFrom<Wary>>>, FileNote>;
+pub(crate) type FileKeeper = Numbered<FileRows, FileNote>;
 
 /// Notes the numbers of rounds in `FILE.round`.
 #[derive(Drop)]
@@ -107,12 +110,12 @@ impl<'a> KeptFile<'a> {
         ensures up { IfOk result (λ k. ⟦<FileKeeper as Keeper>⟧.doubt k ≡ 0 → ⟦<FileKeeper as Keeper>⟧.is_up k) }
     {
         let alloc = rt.alloc();
-        let bytes = option_file_name(args, "--keep", self.name);
-        let Ok(path) = str::from_utf8(bytes) else {
+        let name = resolved(alloc, option_file_name(args, "--keep", self.name))?;
+        let Ok(path) = str::from_utf8(&name) else {
             return Err(CommandError::of_reason(Reason::NotText(self.name)));
         };
-        let exists = self.exists(bytes)?;
-        let file = self.lock(alloc, bytes)?;
+        let exists = self.exists(&name)?;
+        let file = self.lock(alloc, &name)?;
         let last = self.last_round(alloc, &file, exists)?;
         if exists && last > 0 && !has_header(rt, path) {
             return Err(self.state_refused(Reason::NotAState(self.name)));
@@ -120,12 +123,38 @@ impl<'a> KeptFile<'a> {
         if last == 0 || !exists {
             make_file(rt, path, Wary).map_err(|error| self.refused(error))?;
         }
-        let rows = open(rt, path, Wary).map_err(|error| self.refused(error))?;
+        let rows = self.rows(rt, path)?;
         let note = self
             .note(rt, path, file, last)
             .map_err(|error| CommandError::of_system(self.name, error))?;
-        let keeper = Numbered::start(alloc, rows, note).map_err(|error| self.refused(error))?;
+        let keeper = self.numbered(alloc, rows, note)?;
         self.compare(keeper, last)
+    }
+
+    /// Opens the database.
+    fn rows(self, rt: &HostRuntime, path: &str) -> Result<FileRows, CommandError<'a>>
+        ensures { IfOk result (λ k. ⟦<FileRows as Keeper>⟧.doubt k ≡ 0 → ⟦<FileRows as Keeper>⟧.is_up k) }
+    {
+        match open(rt, path, Wary) {
+            Ok(rows) => Ok(rows),
+            Err(error) => Err(self.refused(error)),
+        }
+    }
+
+    /// Goes on after the last round in the database.
+    fn numbered(
+        self,
+        alloc: Global,
+        rows: FileRows,
+        note: FileNote,
+    ) -> Result<FileKeeper, CommandError<'a>>
+        requires { ⟦<FileRows as Keeper>⟧.doubt rows ≡ 0 → ⟦<FileRows as Keeper>⟧.is_up rows }
+        ensures { IfOk result (λ k. ⟦<FileKeeper as Keeper>⟧.doubt k ≡ 0 → ⟦<FileKeeper as Keeper>⟧.is_up k) }
+    {
+        match Numbered::start(alloc, rows, note) {
+            Ok(keeper) => Ok(keeper),
+            Err(error) => Err(self.refused(error)),
+        }
     }
 
     /// What notes the numbers of rounds, the last of which is this one.

@@ -29,10 +29,14 @@ impl KeptValues {
         ensures { ⟦<FileKeeper as Keeper>⟧.doubt keeper.new ≡ 0
             → OnOk result (⟦<FileKeeper as Keeper>⟧.is_up keeper.new) }
     {
-        let entries = keeper.load(alloc).map_err(|error| file.refused(error))?;
-        let unused = start
-            .unused(alloc, entries.as_slice())
-            .map_err(|error| file.refused(error))?;
+        let entries = match keeper.load(alloc) {
+            Ok(entries) => entries,
+            Err(error) => return Err(file.refused(error)),
+        };
+        let unused = match start.unused(alloc, entries.as_slice()) {
+            Ok(unused) => unused,
+            Err(error) => return Err(file.refused(error)),
+        };
         Ok(KeptValues { entries, unused })
     }
 
