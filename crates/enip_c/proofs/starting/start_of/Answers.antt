@@ -7,11 +7,11 @@ invariant_of-result-clause-accepted c = c.requires.accepted
 
 pub invariant_of-result-clause-slots_from : goal.invariant_of-result-clause-slots_from
 invariant_of-result-clause-slots_from c =
-    lemma.slots_from c.args.life c.args.configuration.ledger c.ledger_if_any.result c.requires.ledger c.ledger_if_any.ensures
+    lemma.slots_from c.args.life c.args.configuration.ledger _ c.requires.ledger c.ledger_if_any.ensures
 
 pub invariant_of-result-clause-slots_to : goal.invariant_of-result-clause-slots_to
 invariant_of-result-clause-slots_to c =
-    lemma.slots_to c.args.life c.args.configuration.ledger c.ledger_if_any.result c.requires.ledger c.ledger_if_any.ensures
+    lemma.slots_to c.args.life c.args.configuration.ledger _ c.requires.ledger c.ledger_if_any.ensures
 
 pub invariant_of-result-clause-peers_from : goal.invariant_of-result-clause-peers_from
 invariant_of-result-clause-peers_from c = (c.requires.numbers Peers).0
