@@ -1,5 +1,5 @@
 -- The slots of a ledger that an adapter starts from.
-use Rattle.std.proofs.Common.{◌≡◌, ◌≤◌, ℕ, Option, Some, None, IfSome, subst, sym}
+use Rattle.std.proofs.Common.{◌≡◌, ◌≤◌, ℕ, Option, Some, None, IfSome, subst}
 use Rattle.std.specs.Option.{ForSome, option_map}
 use Rattle.enip_config.specs.declared.ledger.LedgerConfig.{LedgerConfig}
 use Rattle.enip_config.specs.Documents.{HasRanges}

@@ -10,7 +10,7 @@ use Rattle.enip_adapter.specs.Calls.{AdapterState}
 use Rattle.enip_adapter.specs.Executing.{executing}
 use Rattle.saved_adapter.specs.Entries.{entries_in_doubt, generation_of}
 use Rattle.enip_c.specs.declared.status.Status.TheVariants as status
-use Rattle.enip_c.specs.Buffer.{Returned, returned, status_number}
+use Rattle.enip_c.specs.Buffer.{returned, status_number}
 use Rattle.enip_c.specs.StateCalls.{entries_kept, generation_by, returned_state, state_by}
 
 -- no state has these entries

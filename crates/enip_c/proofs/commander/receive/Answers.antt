@@ -1,4 +1,5 @@
 use Rattle.std.proofs.Common.{length, subst, sym}
+use Rattle.cip_commander.specs.Outcome.{outcome_in}
 use Rattle.enip_c.specs.CommanderCalls.{IsWithin}
 use Rattle.enip_c.proofs.CommanderLemmas.{outcome_within}
 use Rattle.enip_c.proofs.commander.receive.Goals as goal
