@@ -1,5 +1,6 @@
 -- What the calls for a state return, by what the calls below return.
-use Rattle.std.proofs.Common.{◌≡◌, ℕ, ◌++◌, ◌^◌, List, drop, length, Bool, true, false, not, nat_lt, if◌then◌else◌, Option, Some, None, Result, Ok, Err, refl, sym, ap, ◌∙◌}
+use Rattle.std.proofs.Common.{◌≡◌, ℕ, ◌++◌, ◌^◌, List, drop, length, Bool, true, false, not, nat_lt, if◌then◌else◌}
+use Rattle.std.proofs.Common.{Option, Some, None, Result, Ok, Err, refl, sym, ap, ◌∙◌}
 use Rattle.saved_state.specs.declared.fault.StateFault.{StateFault}
 use Rattle.saved_state.specs.declared.fault.WriteFault.{WriteFault}
 use Rattle.saved_state.specs.declared.fault.WriteFault.TheVariants.{Order, TooLong, Full}
@@ -23,7 +24,8 @@ not_saved entries generation count buffer fault e =
     go : (rises few short : Bool)
         → (if not rises then Some Order else (if few then None else Some TooLong)) ≡ Some fault
         → returned status.State count buffer
-        ≡ state_by (if not rises then Some Order else (if not few then Some TooLong else (if short then Some Full else None)))
+        ≡ state_by
+        (if not rises then Some Order else (if not few then Some TooLong else (if short then Some Full else None)))
         entries generation count buffer
     go false few short e = refl
     go true false short e = refl
@@ -41,7 +43,8 @@ not_written entries generation count buffer fault can e =
         → (if not rises then Some Order else (if not few then Some TooLong else (if short then Some Full else None)))
         ≡ Some fault
         → returned status.Room (size entries) buffer
-        ≡ state_by (if not rises then Some Order else (if not few then Some TooLong else (if short then Some Full else None)))
+        ≡ state_by
+        (if not rises then Some Order else (if not few then Some TooLong else (if short then Some Full else None)))
         entries generation count buffer
     go false few short can e = absurd (cc)
     go true false short can e = absurd (cc)

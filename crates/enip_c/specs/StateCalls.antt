@@ -1,5 +1,6 @@
 -- What the calls for the state of an adapter return to C.
-use Rattle.std.specs.Prelude.{ℕ, ◌≡◌, ◌⊎◌, ⊤, ◌++◌, List, [], map, drop, length, Bool, false, if◌then◌else◌, Option, Some, None, option_map, Result, Ok, Err}
+use Rattle.std.specs.Prelude.{ℕ, ◌≡◌, ◌⊎◌, ⊤, Bool, false, if◌then◌else◌, Option, Some, None, Result, Ok, Err}
+use Rattle.std.specs.Prelude.{List, [], ◌++◌, map, drop, length, option_map}
 use Rattle.cip_ledger.specs.declared.doubt.DoubtfulCommand.{DoubtfulCommand}
 use Rattle.cip_ledger.specs.Doubt.{command_name, doubtful_in, settled}
 use Rattle.cip_ledger.specs.Ledger.{LedgerState}
