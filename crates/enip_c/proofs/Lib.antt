@@ -4,3 +4,4 @@ pub mod KeptPlaces
 pub mod ClientLemmas
 pub mod CommanderLemmas
 pub mod StateLemmas
+pub mod StartLemmas

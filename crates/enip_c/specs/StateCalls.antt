@@ -1,5 +1,6 @@
 -- What the calls for the state of an adapter return to C.
-use Rattle.std.specs.Prelude.{ℕ, ◌≡◌, ◌⊎◌, ⊤, ◌++◌, List, [], map, drop, length, Bool, false, if◌then◌else◌, Option, Some, None, option_map, Result, Ok, Err}
+use Rattle.std.specs.Prelude.{ℕ, ◌≡◌, ◌⊎◌, ⊤, Bool, false, if◌then◌else◌, Option, Some, None, Result, Ok, Err}
+use Rattle.std.specs.Prelude.{List, [], ◌++◌, map, drop, length, option_map}
 use Rattle.cip_ledger.specs.declared.doubt.DoubtfulCommand.{DoubtfulCommand}
 use Rattle.cip_ledger.specs.Doubt.{command_name, doubtful_in, settled}
 use Rattle.cip_ledger.specs.Ledger.{LedgerState}
@@ -105,20 +106,22 @@ abbrev pub ledger_start : ℕ → LedgerConfig → LedgerStart
 ledger_start life ledger = record { originators = ledger.originators; life = life }
 
 -- What the adapter of a configuration starts from. A ledger that starts empty is in this life.
-abbrev pub start_of : ℕ → Configuration → AdapterStart
-start_of life c = record {
-  objects = c.objects;
-  ledger = option_map (ledger_start life) c.ledger;
-  begins_life = false;
-  listen = listen_of c;
-  limits = limits_of c;
-  idle_timeout = 0;
-}
+pub record IsStartOf (life : ℕ) (c : Configuration) (start : AdapterStart) : Type 0 where
+  pub objects : start.objects ≡ c.objects
+  pub ledger : start.ledger ≡ option_map (ledger_start life) c.ledger
+  pub goes_on : start.begins_life ≡ false
+  pub listen : start.listen ≡ listen_of c
+  pub limits : start.limits ≡ limits_of c
+  pub no_timeout : start.idle_timeout ≡ 0
+
+-- A text describes an adapter that starts from this.
+abbrev pub IsStartOfText : List ℕ → ℕ → AdapterStart → Type 0
+IsStartOfText text life start = (c : Configuration) × (IsDescribed text c × IsStartOf life c start)
 
 -- The adapter that a text describes, as it starts from a state.
 abbrev pub IsKeptAdapterOf : List ℕ → List ℕ → ℕ → AdapterState → Type 0
 IsKeptAdapterOf text state life adapter =
-    (c : Configuration) × (IsDescribed text c × IsStartedFrom (start_of life c) state adapter)
+    (start : AdapterStart) × (IsStartOfText text life start × IsStartedFrom start state adapter)
 
 -- The number of a fault in enip.h: a check of the state, or, if the assemblies or the objects are not in rising order,
 -- one of the configuration. With it, the version of the state if that is the fault.
@@ -169,7 +172,7 @@ abbrev pub IsKeptFault : List ℕ → List ℕ → ℕ → KeptFault → Type 0
 IsKeptFault text state life kept_fault.Memory = ⊤
 IsKeptFault text state life (kept_fault.Configuration refusal) = IsRefused text refusal
 IsKeptFault text state life (kept_fault.State why) =
-    (c : Configuration) × (IsDescribed text c × IsRestoreFault (start_of life c) state why)
+    (start : AdapterStart) × (IsStartOfText text life start × IsRestoreFault start state why)
 
 -- The status and the refusal of making an adapter: a fault, unless it is made.
 abbrev pub IsKeptOutcome : List ℕ → List ℕ → ℕ → CRefusal → ℕ → Type 0

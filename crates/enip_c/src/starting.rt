@@ -1,11 +1,11 @@
 //! An adapter that starts from the text of a configuration and a saved state.
 
 ghost use Rattle.std.specs.Prelude.{◌≡◌, None, IfOk, IfErr};
-ghost use Rattle.std.specs.Option.{IsSomeAnd};
+ghost use Rattle.std.specs.Option.{IsSomeAnd, option_map};
 ghost use Rattle.cip_objects.specs.Configuration.{fault_of};
 ghost use Rattle.enip_config.specs.Documents.{IsInRange, IsLedgerInRange};
 ghost use Rattle.enip_c.specs.Buffer.{status_number};
-ghost use Rattle.enip_c.specs.StateCalls.{IsKeptAdapterOf, IsKeptFault, IsKeptOutcome, ledger_start, start_of};
+ghost use Rattle.enip_c.specs.StateCalls.{IsKeptAdapterOf, IsKeptFault, IsKeptOutcome, IsStartOf, ledger_start};
 ghost use Rattle.enip_c.specs.StateCalls.{kept_refusal, kept_status, fault_number, fault_version};
 
 use crate::adapter_pointer::KeptAdapter;
@@ -111,17 +111,14 @@ fn start_of(configuration: Configuration, life: u64) -> AdapterStart
     requires numbers { IsInRange configuration }
     requires ledger { IsLedgerInRange configuration }
     requires accepted { fault_of configuration.objects ≡ None }
-    ensures { result ≡ start_of life configuration }
+    ensures { IsStartOf life configuration result }
 {
-    let ledger = match configuration.ledger {
-        Some(ledger) => Some(ledger_start(life, ledger)),
-        None => None,
-    };
+    let address = configuration.address;
     AdapterStart {
-        ledger,
+        ledger: ledger_if_any(life, configuration.ledger),
         begins_life: false,
         listen: Listen {
-            address: configuration.address,
+            address,
             port: configuration.port,
         },
         limits: Limits {
@@ -132,6 +129,16 @@ fn start_of(configuration: Configuration, life: u64) -> AdapterStart
         },
         idle_timeout: 0,
         objects: configuration.objects,
+    }
+}
+
+/// The ledger of a configuration, if it has one.
+fn ledger_if_any(life: u64, ledger: Option<LedgerConfig>) -> Option<LedgerStart>
+    ensures { result ≡ option_map (ledger_start life) ledger }
+{
+    match ledger {
+        Some(ledger) => Some(ledger_start(life, ledger)),
+        None => None,
     }
 }
 
