@@ -470,15 +470,15 @@ SHORT_STRING             up to 255 characters; \\xNN is a byte, \\\\ a
                          backslash";
 
 pub(crate) const KEEP_DETAILS: &str = "\
-Keep the state of the device in FILE, an SQLite database, over restarts
-and power cuts: what clients have set, the counter and the command
-ledger. No answer leaves before the change that it reports is kept.
-FILE is created if there is none. FILE-wal and FILE.round are files next
-to it: move them together";
+Keep the state of the device in FILE, an SQLite database, over
+restarts and power cuts: what clients have set, the counter and the
+command ledger. No answer leaves before the change that it reports is
+kept. FILE is created if there is none. FILE-wal and FILE.round are
+files next to it: move them together";
 
 pub(crate) const KEPT_FILE_DETAILS: &str = "\
-Also print the values that a device would start with from FILE, the file
-of `enip serve --keep`. FILE is not changed";
+Also print the values that a device would start with from FILE, the
+file of `enip serve --keep`. FILE is not changed";
 
 pub(crate) const ACCEPT_OLDER_DETAILS: &str = "\
 With --keep, start even if FILE is damaged, or older than FILE.round

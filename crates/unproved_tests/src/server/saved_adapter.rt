@@ -1,9 +1,10 @@
 //! The state of an adapter as bytes, and the adapter that starts from it.
 
+use crate::texts::check_texts;
 use cip_ledger::{DoubtfulCommand, Ledger};
 use enip_adapter::Adapter;
 use enip_server::NO_IDLE_TIMEOUT;
-use kept_adapter::{AdapterStart, LedgerStart};
+use kept_adapter::{AdapterStart, LedgerStart, StartFault};
 use saved_adapter::{RestoreFault, generation, save, start};
 use saved_state::{StateFault, WriteFault};
 use std::alloc::Global;
@@ -136,4 +137,28 @@ fn other_states_are_refused(rt: HostRuntime) -> Result<(), Fail> {
         Some(RestoreFault::OtherDevice)
     );
     Ok(())
+}
+
+#[test]
+fn texts_of_states_that_are_refused(rt: HostRuntime) -> Result<(), Fail> {
+    const ORDER: &str = "the assemblies or the objects are not configured in rising order";
+    let rows = [
+        (RestoreFault::Memory, "out of memory"),
+        (
+            RestoreFault::Malformed(StateFault::Checksum),
+            "the checksum of the saved state is wrong",
+        ),
+        (
+            RestoreFault::OtherDevice,
+            "the saved state is that of another device",
+        ),
+        (RestoreFault::Order, ORDER),
+    ];
+    check_texts(&rt, rt.alloc(), &rows)?;
+    let rows = [
+        (StartFault::Memory, "out of memory"),
+        (StartFault::OtherDevice, "what is kept is of another device"),
+        (StartFault::Order, ORDER),
+    ];
+    check_texts(&rt, rt.alloc(), &rows)
 }
