@@ -20,10 +20,16 @@ use std::io::{self, ErrorKind};
 const HEADER: u64 = 100;
 
 /// The rows of a database.
-type FileRows = Rows<FileStore<FileFrom<Wary>>>;
+pub(crate) type FileRows = Rows<FileStore<FileFrom<Wary>>>;
 
-/// The keeper of a file.
-pub(crate) type FileKeeper = Numbered<FileRows, FileNote>;
+/// FILE, once it is open.
+#[derive(Drop)]
+pub(crate) struct OpenFile<K: Keeper + Drop> {
+    rows: K,
+    note: FileNote,
+    /// The number of the last round, as `FILE.round` has it.
+    last: u64,
+}
 
 /// Notes the numbers of rounds in `FILE.round`.
 #[derive(Drop)]
@@ -100,14 +106,13 @@ impl<'a> KeptFile<'a> {
     ///
     /// # Errors
     ///
-    /// If another process uses it, if it is no state, or if it is damaged or older than `FILE.round` says. It is left as
-    /// it is.
+    /// If another process uses it, or if it is not a state. It is left as it is.
     pub(crate) fn open(
         self,
         rt: &HostRuntime,
         args: &[OsArg],
-    ) -> Result<FileKeeper, CommandError<'a>>
-        ensures up { IfOk result (λ k. ⟦<FileKeeper as Keeper>⟧.doubt k ≡ 0 → ⟦<FileKeeper as Keeper>⟧.is_up k) }
+    ) -> Result<OpenFile<FileRows>, CommandError<'a>>
+        ensures up { IfOk result (λ f. ⟦<FileRows as Keeper>⟧.doubt f.rows ≡ 0 → ⟦<FileRows as Keeper>⟧.is_up f.rows) }
     {
         let alloc = rt.alloc();
         let name = resolved(alloc, option_file_name(args, "--keep", self.name))?;
@@ -124,11 +129,10 @@ impl<'a> KeptFile<'a> {
             make_file(rt, path, Wary).map_err(|error| self.refused(error))?;
         }
         let rows = self.rows(rt, path)?;
-        let note = self
-            .note(rt, path, file, last)
-            .map_err(|error| CommandError::of_system(self.name, error))?;
-        let keeper = self.numbered(alloc, rows, note)?;
-        self.compare(keeper, last)
+        match self.note(rt, path, file, last) {
+            Ok(note) => Ok(OpenFile { rows, note, last }),
+            Err(error) => Err(CommandError::of_system(self.name, error)),
+        }
     }
 
     /// Opens the database.
@@ -141,18 +145,23 @@ impl<'a> KeptFile<'a> {
         }
     }
 
-    /// Goes on after the last round in the database.
-    fn numbered(
+    /// Goes on after the last round of an open file.
+    ///
+    /// # Errors
+    ///
+    /// If its state is damaged, or older than `FILE.round` says.
+    pub(crate) fn numbered<K: Keeper + Drop>(
         self,
         alloc: Global,
-        rows: FileRows,
-        note: FileNote,
-    ) -> Result<FileKeeper, CommandError<'a>>
-        requires { ⟦<FileRows as Keeper>⟧.doubt rows ≡ 0 → ⟦<FileRows as Keeper>⟧.is_up rows }
-        ensures { IfOk result (λ k. ⟦<FileKeeper as Keeper>⟧.doubt k ≡ 0 → ⟦<FileKeeper as Keeper>⟧.is_up k) }
+        opened: OpenFile<K>,
+    ) -> Result<Numbered<K, FileNote>, CommandError<'a>>
+        requires { K.doubt opened.rows ≡ 0 → K.is_up opened.rows }
+        ensures { IfOk result (λ n. ⟦<Numbered<K, FileNote> as Keeper>⟧.doubt n ≡ 0
+            → ⟦<Numbered<K, FileNote> as Keeper>⟧.is_up n) }
     {
+        let OpenFile { rows, note, last } = opened;
         match Numbered::start(alloc, rows, note) {
-            Ok(keeper) => Ok(keeper),
+            Ok(keeper) => self.compare(keeper, last),
             Err(error) => Err(self.refused(error)),
         }
     }
@@ -222,9 +231,15 @@ impl<'a> KeptFile<'a> {
     }
 
     /// Tests the checksum of what is kept, and compares the number of its last round with that of `FILE.round`.
-    fn compare(self, keeper: FileKeeper, last: u64) -> Result<FileKeeper, CommandError<'a>>
-        requires { ⟦<FileKeeper as Keeper>⟧.doubt keeper ≡ 0 → ⟦<FileKeeper as Keeper>⟧.is_up keeper }
-        ensures { IfOk result (λ k. ⟦<FileKeeper as Keeper>⟧.doubt k ≡ 0 → ⟦<FileKeeper as Keeper>⟧.is_up k) }
+    fn compare<K: Keeper + Drop>(
+        self,
+        keeper: Numbered<K, FileNote>,
+        last: u64,
+    ) -> Result<Numbered<K, FileNote>, CommandError<'a>>
+        requires { ⟦<Numbered<K, FileNote> as Keeper>⟧.doubt keeper ≡ 0
+            → ⟦<Numbered<K, FileNote> as Keeper>⟧.is_up keeper }
+        ensures { IfOk result (λ n. ⟦<Numbered<K, FileNote> as Keeper>⟧.doubt n ≡ 0
+            → ⟦<Numbered<K, FileNote> as Keeper>⟧.is_up n) }
     {
         let mut keeper = keeper;
         if !self.accepts_older {

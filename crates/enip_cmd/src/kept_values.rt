@@ -1,8 +1,8 @@
 //! What FILE of `--keep` has, and what of it a device does not use.
 
-ghost use Rattle.std.specs.Prelude.{◌≡◌, OnOk};
+ghost use Rattle.std.specs.Prelude.{◌≡◌, IfOk};
 
-use crate::kept_file::{FileKeeper, KeptFile};
+use crate::kept_file::KeptFile;
 use crate::reason::{CommandError, Reason, print_reason};
 use enip_commands::Digits;
 use enip_keep::{Entry, Keeper};
@@ -18,17 +18,17 @@ pub(crate) struct KeptValues {
 }
 
 impl KeptValues {
-    /// Reads all entries.
-    pub(crate) fn read<'a>(
+    /// Reads all entries, and gives the keeper back.
+    pub(crate) fn read<'a, K: Keeper + Drop>(
         alloc: Global,
         file: KeptFile<'a>,
-        keeper: &mut FileKeeper,
+        keeper: K,
         start: &AdapterStart,
-    ) -> Result<KeptValues, CommandError<'a>>
-        requires { ⟦<FileKeeper as Keeper>⟧.doubt keeper.old ≡ 0 → ⟦<FileKeeper as Keeper>⟧.is_up keeper.old }
-        ensures { ⟦<FileKeeper as Keeper>⟧.doubt keeper.new ≡ 0
-            → OnOk result (⟦<FileKeeper as Keeper>⟧.is_up keeper.new) }
+    ) -> Result<(K, KeptValues), CommandError<'a>>
+        requires { K.doubt keeper ≡ 0 → K.is_up keeper }
+        ensures { IfOk result (λ r. K.doubt r.0 ≡ 0 → K.is_up r.0) }
     {
+        let mut keeper = keeper;
         let entries = match keeper.load(alloc) {
             Ok(entries) => entries,
             Err(error) => return Err(file.refused(error)),
@@ -37,7 +37,7 @@ impl KeptValues {
             Ok(unused) => unused,
             Err(error) => return Err(file.refused(error)),
         };
-        Ok(KeptValues { entries, unused })
+        Ok((keeper, KeptValues { entries, unused }))
     }
 
     /// The entries.

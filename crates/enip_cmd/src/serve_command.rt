@@ -1,11 +1,11 @@
 //! `enip serve`: the device that the arguments describe, its sockets, and what observes it.
 
-ghost use Rattle.std.specs.Prelude.{◌≡◌, ◌<◌, ◌≤◌, ◌*◌, ◌-◌, ◌^◌, IfSome, IsTrue};
+ghost use Rattle.std.specs.Prelude.{◌≡◌, ◌<◌, ◌≤◌, ◌*◌, ◌-◌, ◌^◌, IfSome, IfOk, IsTrue};
 
 use crate::frame_log::FrameLog;
 use crate::host_port::HostPort;
 use crate::keeping::Keeping;
-use crate::kept_file::KeptFile;
+use crate::kept_file::{KeptFile, OpenFile};
 use crate::kept_values::KeptValues;
 use crate::named_file::NamedFile;
 use crate::observer::{NoObserver, Observer};
@@ -17,11 +17,12 @@ use clap::ArgMatches;
 use enip_adapter::{Adapter, Limits, Listen};
 use enip_cli::OsArg;
 use enip_config::Configuration;
-use enip_keep::{KeepError, Server};
-use enip_server::{NO_IDLE_TIMEOUT, Peers};
+use enip_keep::{KeepError, Keeper, Server};
+use enip_server::{NO_IDLE_TIMEOUT, Peers, Wire};
 use kept_adapter::{AdapterStart, LedgerStart};
 use kept_server::KeptDevice;
 use mio::net::UdpSocket;
+use std::alloc::Global;
 use std::io;
 use std::net::TcpListener;
 use std::time::{Instant, UNIX_EPOCH};
@@ -95,11 +96,42 @@ fn serve_config<'a, O: Observer + Drop>(
         return listen_and_serve(rt, options, peers, observer);
     };
     let start = adapter_start(rt, config, file.accepts_older(), options.idle_timeout)?;
-    let mut keeper = file.open(rt, args)?;
-    let values = KeptValues::read(rt.alloc(), file, &mut keeper, &start)?;
-    let server = Server::start(rt.alloc(), keeper, &start).map_err(|error| file.refused(error))?;
+    let opened = file.open(rt, args)?;
+    serve_kept(rt, file, opened, &start, options, observer)
+}
+
+/// Serves a device that goes on with what is kept in an open file.
+fn serve_kept<'a, O: Observer + Drop, K: Keeper + Drop>(
+    rt: &HostRuntime,
+    file: KeptFile<'a>,
+    opened: OpenFile<K>,
+    start: &AdapterStart,
+    options: ServeOptions<'a>,
+    observer: O,
+) -> Result<u8, CommandError<'a>>
+    requires { K.doubt opened.rows ≡ 0 → K.is_up opened.rows }
+{
+    let keeper = file.numbered(rt.alloc(), opened)?;
+    let (peers, values) = kept_peers(rt.alloc(), file, keeper, start)?;
     values.report_unused(rt, file);
-    listen_and_serve(rt, options, Keeping::new(server), observer)
+    listen_and_serve(rt, options, peers, observer)
+}
+
+/// The peers of a device that starts from what is kept, and what is kept.
+fn kept_peers<'a, W: Wire + Drop, K: Keeper + Drop>(
+    alloc: Global,
+    file: KeptFile<'a>,
+    keeper: K,
+    start: &AdapterStart,
+) -> Result<(Keeping<W, AdapterStart, K>, KeptValues), CommandError<'a>>
+    requires { K.doubt keeper ≡ 0 → K.is_up keeper }
+    ensures { IfOk result (λ r. ⟦<Keeping<W, AdapterStart, K> as Serving<W>>⟧.is_ready r.0) }
+{
+    let (keeper, values) = KeptValues::read(alloc, file, keeper, start)?;
+    match Server::start(alloc, keeper, start) {
+        Ok(server) => Ok((Keeping::new(server), values)),
+        Err(error) => Err(file.refused(error)),
+    }
 }
 
 /// `enip check --keep`: prints what is kept in FILE of the device of a configuration.
@@ -111,14 +143,28 @@ pub(crate) fn print_kept_values<'a>(
 ) -> Result<(), CommandError<'a>> {
     let file = KeptFile::to_read(name);
     let start = adapter_start(rt, config, false, NO_IDLE_TIMEOUT)?;
-    let mut keeper = file.open(rt, args)?;
-    let values = KeptValues::read(rt.alloc(), file, &mut keeper, &start)?;
-    start
-        .start(rt.alloc(), values.entries())
-        .map_err(|error| file.refused(error))?;
+    let opened = file.open(rt, args)?;
+    let values = kept_values(rt.alloc(), file, opened, &start)?;
     values
         .print(rt.alloc(), rt.stdout())
         .map_err(|error| CommandError::of_system(OUTPUT, error))
+}
+
+/// What is kept in an open file, if a device starts from it.
+fn kept_values<'a, K: Keeper + Drop>(
+    alloc: Global,
+    file: KeptFile<'a>,
+    opened: OpenFile<K>,
+    start: &AdapterStart,
+) -> Result<KeptValues, CommandError<'a>>
+    requires { K.doubt opened.rows ≡ 0 → K.is_up opened.rows }
+{
+    let keeper = file.numbered(alloc, opened)?;
+    let (_, values) = KeptValues::read(alloc, file, keeper, start)?;
+    match start.start(alloc, values.entries()) {
+        Ok(_) => Ok(values),
+        Err(error) => Err(file.refused(error)),
+    }
 }
 
 /// Binds the sockets of a device, and serves its peers.
