@@ -1,9 +1,10 @@
 //! An adapter that starts from a saved state.
 
-ghost use Rattle.std.specs.Prelude.{◌≡◌, IfOk, IfErr};
+ghost use Rattle.std.specs.Prelude.{◌≡◌, false, IfOk, IfErr, OnOk};
 ghost use Rattle.enip_keep.specs.Kept.{pairs_of};
 ghost use Rattle.saved_adapter.specs.Entries.{kept_in};
 ghost use Rattle.saved_adapter.specs.Starting.{IsFaultWith, IsRestoreFault, IsStartedFrom, IsStartedWith, IsStateFault};
+ghost use Rattle.saved_adapter.specs.Starting.{is_nameless};
 
 use device_state::identity_key;
 use enip_adapter::Adapter;
@@ -67,6 +68,7 @@ fn start_from_state(
     state: &SavedState<'_>,
 ) -> Result<Adapter, RestoreFault>
     ensures started { IfOk result (IsStartedWith configured.now (kept_in state.now.entries)) }
+    ensures named { OnOk result (is_nameless state.now ≡ false) }
     ensures cause { IfErr result (IsStateFault configured.now state.now) }
 {
     if state.find(identity_key()).is_none() {
