@@ -1,14 +1,15 @@
 -- Parsing words.
-use Rattle.std.proofs.Common.{◌≡◌, ◌≢◌, ◌⊎◌, ℕ, zero, suc, ◌+◌, ◌-◌, ◌*◌, ◌^◌, ◌<◌, ◌≤◌, true, false, Bool, ◌&&◌, List, [], ◌∷◌, ◌++◌, length, get_or, take, drop, refl, sym, ap, ◌∙◌, subst, arith, inl, inr, ℤ, pos, negsuc, neg_ℤ, ◌-ℤ◌, nat_lt, ◌==◌, cond, min, of_z, to_z, Result, Ok, Err, MatchResult, FitsSigned}
+use Rattle.std.proofs.Common.{◌≡◌, ◌≢◌, ◌⊎◌, ℕ, zero, suc, ◌-◌, ◌*◌, ◌^◌, ◌<◌, ◌≤◌, true, false, List, [], ◌∷◌, ◌++◌, length, get_or, take, drop, refl, sym, ap, ◌∙◌, arith, inl, inr, ℤ, pos, negsuc, neg_ℤ, ◌-ℤ◌, nat_lt, ◌==◌, min, of_z, to_z, Result, Ok, Err, MatchResult, FitsSigned}
 use Rattle.std.proofs.Math.Nat.{pow-le-pow_right}
 use Rattle.std.proofs.lemmas.Bool.{and_parts, cases_lt}
+use Rattle.std.proofs.lemmas.List.{length-drop, take_all}
 use Rattle.std.proofs.lemmas.Int.{ints, to_z-of_z}
 use Rattle.std.specs.Char.{digit_value, is_digit}
 use Rattle.std.specs.Prelude.{unsigned_abs, codes}
 use Rattle.std.specs.Int.{w128}
 use Rattle.std.specs.List.{list_all}
 use Rattle.std.specs.Result.{OkIff, result_unwrap_or}
-use Rattle.std.specs.Str.Parse.{IsNumeral, AllDigits, digits_value, ParsesSigned, without_leading_sign, signed_digits_value, starts_with_minus}
+use Rattle.std.specs.Str.Parse.{IsNumeral, AllDigits, digits_value, ParsesSigned}
 use Rattle.cip_values.specs.Values.{IsSignedOf, IsUnsignedOf}
 use Rattle.cip_values.specs.Parsing.{ParsesAsInteger, ParsesAsBits, Clamps}
 use Rattle.cip_values.specs.declared.parsing.ParseFault.{ParseFault}
@@ -62,6 +63,12 @@ parsed {E} radix (c ∷ cs) r high h p =
     let plain : OkIff r (IsNumeral radix (c ∷ cs) × FitsSigned w128 (pos (digits_value radix (c ∷ cs)))) (pos (digits_value radix (c ∷ cs))) =
     rw (minus, plus) at p in
     clamped radix (c ∷ cs) r h plain
+
+-- ---- dates and times
+
+-- the text after eleven characters
+pub behind_separator : (text : List ℕ) → take (length text - 11) (drop 11 text) ≡ drop 11 text
+behind_separator text = take_all (length text - 11) (drop 11 text) (omega (arith, length-drop 11 text))
 
 -- ---- integers
 

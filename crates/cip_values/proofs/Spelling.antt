@@ -1,5 +1,5 @@
 -- Numbers of any size and their bytes, including two's complement.
-use Rattle.std.proofs.Common.{◌≡◌, ℕ, zero, suc, ◌+◌, ◌-◌, ◌*◌, ◌/◌, ◌%◌, ◌^◌, ◌<◌, ◌≤◌, true, false, List, [], ◌∷◌, ◌++◌, length, get_or, slice_index, take, drop, refl, sym, ap, ◌∙◌, arith, inl, inr, ℤ, pos, negsuc, ◌-ℤ◌, nat_lt, w64, of_z}
+use Rattle.std.proofs.Common.{◌≡◌, ℕ, zero, suc, ◌+◌, ◌-◌, ◌*◌, ◌/◌, ◌%◌, ◌^◌, ◌<◌, ◌≤◌, true, false, List, [], ◌∷◌, ◌++◌, length, get_or, take, drop, refl, sym, ap, subst, ◌∙◌, arith, append_assoc, inl, inr, ℤ, pos, negsuc, ◌-ℤ◌, nat_lt, w64, of_z}
 use Rattle.std.proofs.Math.Nat.{div-div-eq-div-mul, div-one, pow-succ', mod-lt, mod-eq_of_lt, mul-add-mod_self_right, one-le-pow}
 use Rattle.std.proofs.lemmas.Nat.{pow-add}
 use Rattle.std.proofs.lemmas.Int.{ints}
@@ -10,9 +10,9 @@ use Rattle.byteorder.proofs.Bytes.{pow256, sign_bit}
 use Rattle.byteorder.specs.Endian.{little_from, twos_complement}
 use Rattle.byteorder.specs.Numbers.{little_from-lt, little_from-bytes, length-bytes_low_first}
 use Rattle.cip_bytes.specs.Numbers.{le, AreBytes}
-use Rattle.cip_bytes.proofs.Bytes.{cells, drop-cells, AreBytes-take, AreBytes-tail}
-use Rattle.cip_values.specs.Types.{IsSized, size_of}
-use Rattle.cip_values.specs.Values.{Value, Truth, Signed, Unsigned, Bits, Real, Text, IsOf, spelled, BeginsWith, complement, IsSignedOf}
+use Rattle.cip_bytes.proofs.Bytes.{cells, drop-cells, AreBytes-take}
+use Rattle.cip_values.specs.Types.{IsSized, size_of, unit_size}
+use Rattle.cip_values.specs.Values.{Signed, Unsigned, Bits, IsOf, spelled, BeginsWith, complement, IsSignedOf, IsCounted, counted}
 use Rattle.cip_values.specs.declared.element.Form.{Form}
 use Rattle.cip_values.specs.declared.element.Form.TheVariants as forms
 
@@ -115,7 +115,13 @@ spelled-signed (forms.Signed n) z sized h = le-complement n z sized.0 sized.1 h
 spelled-signed (forms.Unsigned n) z sized h = absurd h
 spelled-signed (forms.Bits n) z sized h = absurd h
 spelled-signed forms.Real z sized h = absurd h
-spelled-signed forms.Text z sized h = absurd h
+spelled-signed (forms.Text n) z sized h = absurd h
+spelled-signed forms.Lreal z sized h = absurd h
+spelled-signed forms.Wide z sized h = absurd h
+spelled-signed forms.Path z sized h = absurd h
+spelled-signed forms.Date z sized h = absurd h
+spelled-signed forms.TimeOfDay z sized h = absurd h
+spelled-signed forms.DateAndTime z sized h = absurd h
 
 -- the value that the first bytes spell
 at_front : (n : ℕ) (bytes : List ℕ) → AreBytes bytes → n ≤ length bytes
@@ -157,18 +163,70 @@ bits_front n bytes front rest x h e = rw (e, h.front_is, h.rest_is) (record {
   bytes_of = at_front n bytes h.fits h.room;
 })
 
-pub text_front : (bytes front rest text behind : List ℕ) → Splits forms.Text bytes front rest
-    → get_or front 0 0 ≤ length rest → text ≡ take (get_or front 0 0) rest → behind ≡ drop (get_or front 0 0) rest
-    → BeginsWith forms.Text bytes (Text text) behind
-text_front [] front rest text behind h room e f = absurd (omega (arith, h.room))
-text_front (size ∷ more) front rest text behind h room e f =
-    let first : get_or front 0 0 ≡ size = rw h.front_is refl in
-    let all : rest ≡ more = h.rest_is in
-    let within : size ≤ length more = rw (first, all) at room in
-    let count : length (take size more) ≡ size = length-take-le size more within in
-    let byte : size < 256 = h.fits 0 in
-    rw (e, f, first, all) (record {
-      of_type = (omega arith, AreBytes-take size more (AreBytes-tail size more h.fits));
-      bytes_of = ap (λ (r : List ℕ). size ∷ r) (sym (take-append-drop size more))
-          ∙ ap (λ (k : ℕ). k ∷ (take size more ++ drop size more)) (sym count);
-    })
+-- a count, and what it counts
+counted_bytes : (n units size : ℕ) (front rest text behind : List ℕ) → AreBytes front → length front ≡ n
+    → units ≡ little_from 0 n front → text ≡ take size rest → behind ≡ drop size rest
+    → front ++ rest ≡ (le n units ++ text) ++ behind
+counted_bytes n units size front rest text behind fits count is e f =
+    let number : le n units ≡ front = ap (le n) is ∙ le-front n front fits count in
+    let parts : text ++ behind ≡ rest = rw (e, f) (take-append-drop size rest) in
+    sym (append_assoc (le n units) text behind ∙ ap (λ (r : List ℕ). le n units ++ r) parts ∙ ap (λ (r : List ℕ). r ++ rest) number)
+
+-- What is read after a count.
+pub record ReadCounted (form : Form) (units : ℕ) (front rest text behind : List ℕ) : Type 0 where
+  pub front_fits : AreBytes front
+  pub rest_fits : AreBytes rest
+  pub units_is : units ≡ little_from 0 (length front) front
+  pub room : units * unit_size form ≤ length rest
+  pub text_is : text ≡ take (units * unit_size form) rest
+  pub behind_is : behind ≡ drop (units * unit_size form) rest
+
+text_length : (form : Form) (units : ℕ) (front rest text behind : List ℕ) → ReadCounted form units front rest text behind
+    → length text ≡ units * unit_size form
+text_length form units front rest text behind h =
+    ap length h.text_is ∙ length-take-le (units * unit_size form) rest h.room
+
+text_fits : (form : Form) (units : ℕ) (front rest text behind : List ℕ) → ReadCounted form units front rest text behind → AreBytes text
+text_fits form units front rest text behind h =
+    subst AreBytes (sym h.text_is) (AreBytes-take (units * unit_size form) rest h.rest_fits)
+
+units_below : (form : Form) (n units : ℕ) (front rest text behind : List ℕ) → ReadCounted form units front rest text behind
+    → length front ≡ n → (units ≡ little_from 0 n front) × (units < 256 ^ n)
+units_below form n units front rest text behind h count =
+    let is : units ≡ little_from 0 n front = h.units_is ∙ ap (λ (k : ℕ). little_from 0 k front) count in
+    (is, subst (λ (u : ℕ). u < 256 ^ n) (sym is) (little_from-lt 0 n front h.front_fits))
+
+pub counted_front : (form : Form) (units : ℕ) (front rest text behind : List ℕ) → IsCounted form front
+    → ReadCounted form units front rest text behind → BeginsWith form (front ++ rest) (counted form text) behind
+counted_front (forms.Text n) units front rest text behind counts h =
+    let below = units_below (forms.Text n) n units front rest text behind h counts.2 in
+    let long : length text ≡ units = text_length (forms.Text n) units front rest text behind h ∙ omega arith in
+    record {
+      of_type = (rw (long, sym (pow256 n)) below.1, text_fits (forms.Text n) units front rest text behind h);
+      bytes_of = rw long (counted_bytes n units (units * 1) front rest text behind h.front_fits counts.2 below.0 h.text_is h.behind_is);
+    }
+counted_front forms.Wide units front rest text behind counts h =
+    let below = units_below forms.Wide 2 units front rest text behind h counts in
+    let long : length text ≡ units * 2 = text_length forms.Wide units front rest text behind h in
+    let half : length text / 2 ≡ units = omega (arith, long) in
+    record {
+      of_type = (omega (arith, long), rw half below.1, text_fits forms.Wide units front rest text behind h);
+      bytes_of = rw half (counted_bytes 2 units (units * 2) front rest text behind h.front_fits counts below.0 h.text_is h.behind_is);
+    }
+counted_front forms.Path units front rest text behind counts h =
+    let below = units_below forms.Path 1 units front rest text behind h counts in
+    let long : length text ≡ units * 2 = text_length forms.Path units front rest text behind h in
+    let half : length text / 2 ≡ units = omega (arith, long) in
+    record {
+      of_type = (omega (arith, long), rw half below.1, text_fits forms.Path units front rest text behind h);
+      bytes_of = rw half (counted_bytes 1 units (units * 2) front rest text behind h.front_fits counts below.0 h.text_is h.behind_is);
+    }
+counted_front forms.Bool units front rest text behind counts h = absurd counts
+counted_front (forms.Signed n) units front rest text behind counts h = absurd counts
+counted_front (forms.Unsigned n) units front rest text behind counts h = absurd counts
+counted_front (forms.Bits n) units front rest text behind counts h = absurd counts
+counted_front forms.Real units front rest text behind counts h = absurd counts
+counted_front forms.Lreal units front rest text behind counts h = absurd counts
+counted_front forms.Date units front rest text behind counts h = absurd counts
+counted_front forms.TimeOfDay units front rest text behind counts h = absurd counts
+counted_front forms.DateAndTime units front rest text behind counts h = absurd counts

@@ -1,12 +1,13 @@
 -- Values written one after another.
-use Rattle.std.proofs.Common.{◌≡◌, ◌≢◌, ℕ, ◌+◌, ◌<◌, List, [], ◌∷◌, ◌++◌, length, map, take, drop, get_or, Bor, inr, refl, sym, ap, subst, ◌∙◌, arith, length-append, append_assoc}
+use Rattle.std.proofs.Common.{◌≡◌, ℕ, ◌+◌, ◌<◌, List, [], ◌∷◌, ◌++◌, length, map, take, drop, get_or, Bor, inr, refl, sym, ap, subst, ◌∙◌, arith}
 use Rattle.std.proofs.lemmas.Grind.{flat_map-append}
 use Rattle.std.proofs.lemmas.List.{append-nil, take_more, drop_more, take-append-drop, map-append}
 use Rattle.std.specs.List.{AllByRecursion}
 use Rattle.cip_values.specs.Types.{form_of, size_of}
-use Rattle.cip_values.specs.Values.{Value, Text, IsOf, spelled, joined, BeginsWithAll}
-use Rattle.cip_values.specs.Parsing.{Appends, IsAppended, ParsesAsOf, ParsesAsText, AllParseAs}
-use Rattle.cip_values.specs.Parsing.{IsRefusedWord, IsFirstRefused, IsWriteFault}
+use Rattle.cip_values.specs.Values.{Value, IsOf, spelled, joined, counted, BeginsWithAll}
+use Rattle.cip_values.specs.Parsing.{Appends, IsAppended, IsText, ParsesAsOf, ParsesAsText, ParsesAsCounted, ParsesAsNumber, AllParseAs}
+use Rattle.cip_values.specs.Parsing.{IsRefusedWord, IsTextFault, IsOversized, oversized, IfText, IsFirstRefused, IsWriteFault}
+use Rattle.cip_values.specs.declared.element.ElementaryType.TheVariants as types
 use Rattle.cip_values.specs.declared.element.ValueType.{ValueType}
 use Rattle.cip_values.specs.declared.fault.ValueFault.{ValueFault}
 use Rattle.cip_values.specs.declared.fault.ValueFault.TheVariants as faults
@@ -18,6 +19,21 @@ pub record SoFar (value_type : ValueType) (words : List (List ℕ)) (bytes : Lis
   pub values : List Value
   pub parses : AllParseAs value_type words values
   pub begins : BeginsWithAll (form_of value_type.element) bytes values []
+
+-- a fact about texts holds of a kind of texts
+by_form : (form : Form) → IsText form → (P Q : Type 0) → P → IfText form P Q
+by_form (forms.Text n) is P Q h = h
+by_form forms.Wide is P Q h = h
+by_form forms.Path is P Q h = h
+by_form forms.Bool is P Q h = absurd is
+by_form (forms.Signed n) is P Q h = absurd is
+by_form (forms.Unsigned n) is P Q h = absurd is
+by_form (forms.Bits n) is P Q h = absurd is
+by_form forms.Real is P Q h = absurd is
+by_form forms.Lreal is P Q h = absurd is
+by_form forms.Date is P Q h = absurd is
+by_form forms.TimeOfDay is P Q h = absurd is
+by_form forms.DateAndTime is P Q h = absurd is
 
 pub so_far_none : (value_type : ValueType) → SoFar value_type [] []
 so_far_none value_type = record { values = []; parses = tt; begins = record { of_type = tt; bytes_of = refl } }
@@ -62,14 +78,25 @@ single value_type (w ∷ x ∷ words) values one h = absurd (omega (arith, one))
 single value_type (w ∷ []) [] one h = absurd h
 
 -- a text that is not too long is a value of a text type
-pub text_appends : (value_type : ValueType) (word bytes old new : List ℕ) → form_of value_type.element ≡ forms.Text
-    → ParsesAsText value_type.is_list word bytes → IsAppended bytes old new → Appends value_type word old new
-text_appends value_type word bytes old new is parses h = record {
-  value = Text bytes;
-  parses = (is, parses);
-  of_type = subst (λ (form : Form). IsOf form (Text bytes)) (sym is) h.of_type;
+pub counted_appends : (value_type : ValueType) (word bytes old new : List ℕ) → IsText (form_of value_type.element)
+    → ParsesAsText (form_of value_type.element) value_type.is_list word bytes
+    → IsAppended (form_of value_type.element) bytes old new → Appends value_type word old new
+counted_appends value_type word bytes old new is parses h = record {
+  value = counted (form_of value_type.element) bytes;
+  parses = by_form (form_of value_type.element) is (ParsesAsCounted value_type word (counted (form_of value_type.element) bytes))
+      (ParsesAsNumber value_type.element word (counted (form_of value_type.element) bytes)) (bytes, (parses, refl));
+  of_type = h.of_type;
   bytes_of = h.bytes_of;
 }
+
+-- a text that is too long is refused with the fault of its type
+pub refused_oversized : (value_type : ValueType) (word : List ℕ) (count : ℕ) → IsOversized value_type word count
+    → IsTextFault value_type word (oversized value_type.element count)
+refused_oversized value_type word count h =
+    elim value_type.element as (λ e. value_type.element ≡ e → IsTextFault value_type word (oversized e count)) [
+      | types.ShortString ↦ λ e. (e, h)
+      | other ↦ λ e. (sym e, (λ f. absurd (cc)), h)
+    ] refl
 
 -- one more word of a list
 pub so_far_word : (value_type : ValueType) (words : List (Bor (List ℕ))) (place : ℕ) (d : Bor (List ℕ)) (old new : List ℕ)
@@ -116,6 +143,8 @@ words_refused value_type words index d bytes (faults.Range text element) inside 
     inr (first_refused value_type words index d bytes (faults.Range text element) inside h refused)
 words_refused value_type words index d bytes (faults.TooLong count) inside h refused =
     inr (first_refused value_type words index d bytes (faults.TooLong count) inside h refused)
+words_refused value_type words index d bytes (faults.Oversized element count) inside h refused =
+    inr (first_refused value_type words index d bytes (faults.Oversized element count) inside h refused)
 words_refused value_type words index d bytes faults.Short inside h refused =
     inr (first_refused value_type words index d bytes faults.Short inside h refused)
 words_refused value_type words index d bytes (faults.Trailing count) inside h refused =

@@ -1,5 +1,5 @@
 -- The elementary data types (Volume 1, data types): their names, and the kind of their values.
-use Rattle.std.specs.Prelude.{◌<◌, ◌≤◌, ⊤, ℕ, Bool, true, false, List, [], ◌++◌, codes, if◌then◌else◌}
+use Rattle.std.specs.Prelude.{◌≤◌, ⊤, ℕ, List, [], ◌++◌, codes, if◌then◌else◌}
 use Rattle.cip_values.specs.declared.element.ElementaryType.{ElementaryType}
 use Rattle.cip_values.specs.declared.element.ElementaryType.TheVariants as types
 use Rattle.cip_values.specs.declared.element.Form.{Form}
@@ -22,6 +22,15 @@ name_of types.Dword = codes "DWORD"
 name_of types.Lword = codes "LWORD"
 name_of types.Real = codes "REAL"
 name_of types.ShortString = codes "SHORT_STRING"
+name_of types.Lreal = codes "LREAL"
+name_of types.String = codes "STRING"
+name_of types.String2 = codes "STRING2"
+name_of types.Epath = codes "EPATH"
+name_of types.Date = codes "DATE"
+name_of types.TimeOfDay = codes "TIME_OF_DAY"
+name_of types.DateAndTime = codes "DATE_AND_TIME"
+name_of types.Time = codes "TIME"
+name_of types.Ltime = codes "LTIME"
 
 -- A list type is named after its elements, with brackets.
 abbrev pub type_name_of : ValueType → List ℕ
@@ -43,20 +52,48 @@ form_of types.Word = forms.Bits 2
 form_of types.Dword = forms.Bits 4
 form_of types.Lword = forms.Bits 8
 form_of types.Real = forms.Real
-form_of types.ShortString = forms.Text
+form_of types.ShortString = forms.Text 1
+form_of types.Lreal = forms.Lreal
+form_of types.String = forms.Text 2
+form_of types.String2 = forms.Wide
+form_of types.Epath = forms.Path
+form_of types.Date = forms.Date
+form_of types.TimeOfDay = forms.TimeOfDay
+form_of types.DateAndTime = forms.DateAndTime
+form_of types.Time = forms.Signed 4
+form_of types.Ltime = forms.Signed 8
 
--- Numbers have 1 to 8 bytes.
+-- The unit that follows a number: milliseconds or microseconds.
+abbrev pub unit_of : ElementaryType → List ℕ
+unit_of types.Time = codes "ms"
+unit_of types.Ltime = codes "us"
+unit_of element = []
+
+-- Numbers have 1 to 8 bytes, and the count of a text 1 or 2.
 abbrev pub IsSized : Form → Type 0
 IsSized (forms.Signed size) = (1 ≤ size) × (size ≤ 8)
 IsSized (forms.Unsigned size) = (1 ≤ size) × (size ≤ 8)
 IsSized (forms.Bits size) = (1 ≤ size) × (size ≤ 8)
+IsSized (forms.Text size) = (1 ≤ size) × (size ≤ 2)
 IsSized form = ⊤
 
--- The size of a value in bytes. Of a string it is the size of the length byte alone.
+-- The size of a value in bytes. Of a string or a path it is the size of its count alone.
 abbrev pub size_of : Form → ℕ
 size_of forms.Bool = 1
 size_of (forms.Signed size) = size
 size_of (forms.Unsigned size) = size
 size_of (forms.Bits size) = size
 size_of forms.Real = 4
-size_of forms.Text = 1
+size_of forms.Lreal = 8
+size_of (forms.Text size) = size
+size_of forms.Wide = 2
+size_of forms.Path = 1
+size_of forms.Date = 2
+size_of forms.TimeOfDay = 4
+size_of forms.DateAndTime = 6
+
+-- The size in bytes of what the count of a string or a path counts: characters of one or two bytes, or words.
+abbrev pub unit_size : Form → ℕ
+unit_size forms.Wide = 2
+unit_size forms.Path = 2
+unit_size form = 1

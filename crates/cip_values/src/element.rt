@@ -2,7 +2,7 @@
 
 ghost use Rattle.std.specs.Prelude.{◌≡◌, ◌≤◌, IfSome, None};
 ghost use Rattle.cip_values.specs.declared.element.ElementaryType.{ElementaryType};
-ghost use Rattle.cip_values.specs.Types.{name_of, form_of, IsSized};
+ghost use Rattle.cip_values.specs.Types.{name_of, form_of, unit_of, IsSized};
 
 use std::fmt;
 
@@ -39,6 +39,24 @@ pub enum ElementaryType {
     Real,
     /// A string of up to 255 bytes, after a byte with its length.
     ShortString,
+    /// An IEEE 754 double-precision number, 8 bytes.
+    Lreal,
+    /// A string of up to 65,535 bytes, after their count in 2 bytes.
+    String,
+    /// A string of up to 65,535 characters of 2 bytes, after their count in 2 bytes.
+    String2,
+    /// A path of up to 255 words, after a byte with their count.
+    Epath,
+    /// A date: the days since 1972-01-01 in 2 bytes.
+    Date,
+    /// A time of day: the milliseconds since midnight in 4 bytes.
+    TimeOfDay,
+    /// A time of day in 4 bytes and a date in 2.
+    DateAndTime,
+    /// A duration in milliseconds, signed, 4 bytes.
+    Time,
+    /// A duration in microseconds, signed, 8 bytes.
+    Ltime,
 }
 
 /// The kind of an elementary type's values, and their size in bytes.
@@ -49,22 +67,42 @@ pub(crate) enum Form {
     Unsigned(usize),
     Bits(usize),
     Real,
-    Text,
+    Text(usize),
+    Lreal,
+    Wide,
+    Path,
+    Date,
+    TimeOfDay,
+    DateAndTime,
 }
 
 impl Form {
-    ghost use Rattle.cip_values.specs.Types.{size_of};
+    ghost use Rattle.cip_values.specs.Types.{size_of, unit_size};
 
-    /// The size of a value in bytes. Of a string it is the size of the length byte alone.
+    /// The size of a value in bytes. Of a string or a path it is the size of its count alone.
     pub(crate) fn size(self) -> usize
         requires { IsSized self }
         ensures value { result ≡ size_of self }
         ensures most { result ≤ 8 }
     {
         match self {
-            Form::Signed(size) | Form::Unsigned(size) | Form::Bits(size) => size,
+            Form::Signed(size) | Form::Unsigned(size) | Form::Bits(size) | Form::Text(size) => size,
+            Form::Bool | Form::Path => 1,
+            Form::Wide | Form::Date => 2,
             Form::Real => 4,
-            Form::Bool | Form::Text => 1,
+            Form::TimeOfDay => 4,
+            Form::DateAndTime => 6,
+            Form::Lreal => 8,
+        }
+    }
+
+    /// The size in bytes of what the count of a string or a path counts.
+    pub(crate) fn unit(self) -> usize
+        ensures { result ≡ unit_size self }
+    {
+        match self {
+            Form::Wide | Form::Path => 2,
+            _ => 1,
         }
     }
 }
@@ -91,6 +129,15 @@ impl ElementaryType {
             "LWORD" => Some(ElementaryType::Lword),
             "REAL" => Some(ElementaryType::Real),
             "SHORT_STRING" => Some(ElementaryType::ShortString),
+            "LREAL" => Some(ElementaryType::Lreal),
+            "STRING" => Some(ElementaryType::String),
+            "STRING2" => Some(ElementaryType::String2),
+            "EPATH" => Some(ElementaryType::Epath),
+            "DATE" => Some(ElementaryType::Date),
+            "TIME_OF_DAY" => Some(ElementaryType::TimeOfDay),
+            "DATE_AND_TIME" => Some(ElementaryType::DateAndTime),
+            "TIME" => Some(ElementaryType::Time),
+            "LTIME" => Some(ElementaryType::Ltime),
             _ => None,
         }
     }
@@ -115,6 +162,15 @@ impl ElementaryType {
             ElementaryType::Lword => "LWORD",
             ElementaryType::Real => "REAL",
             ElementaryType::ShortString => "SHORT_STRING",
+            ElementaryType::Lreal => "LREAL",
+            ElementaryType::String => "STRING",
+            ElementaryType::String2 => "STRING2",
+            ElementaryType::Epath => "EPATH",
+            ElementaryType::Date => "DATE",
+            ElementaryType::TimeOfDay => "TIME_OF_DAY",
+            ElementaryType::DateAndTime => "DATE_AND_TIME",
+            ElementaryType::Time => "TIME",
+            ElementaryType::Ltime => "LTIME",
         }
     }
 
@@ -136,6 +192,15 @@ impl ElementaryType {
             ElementaryType::Lword => "0x0000000000000000 to 0xffffffffffffffff",
             ElementaryType::Real => "-3.4028235e38 to 3.4028235e38",
             ElementaryType::ShortString => "0 to 255 bytes",
+            ElementaryType::Lreal => "-1.7976931348623157e308 to 1.7976931348623157e308",
+            ElementaryType::String => "0 to 65535 bytes",
+            ElementaryType::String2 => "0 to 65535 characters",
+            ElementaryType::Epath => "0 to 255 words",
+            ElementaryType::Date => "1972-01-01 to 2151-06-06",
+            ElementaryType::TimeOfDay => "00:00:00.000 to 23:59:59.999",
+            ElementaryType::DateAndTime => "1972-01-01T00:00:00.000 to 2151-06-06T23:59:59.999",
+            ElementaryType::Time => "-2147483648ms to 2147483647ms",
+            ElementaryType::Ltime => "-9223372036854775808us to 9223372036854775807us",
         }
     }
 
@@ -159,7 +224,27 @@ impl ElementaryType {
             ElementaryType::Dword => Form::Bits(4),
             ElementaryType::Lword => Form::Bits(8),
             ElementaryType::Real => Form::Real,
-            ElementaryType::ShortString => Form::Text,
+            ElementaryType::ShortString => Form::Text(1),
+            ElementaryType::Lreal => Form::Lreal,
+            ElementaryType::String => Form::Text(2),
+            ElementaryType::String2 => Form::Wide,
+            ElementaryType::Epath => Form::Path,
+            ElementaryType::Date => Form::Date,
+            ElementaryType::TimeOfDay => Form::TimeOfDay,
+            ElementaryType::DateAndTime => Form::DateAndTime,
+            ElementaryType::Time => Form::Signed(4),
+            ElementaryType::Ltime => Form::Signed(8),
+        }
+    }
+
+    /// The unit that follows a number in text.
+    pub(crate) fn unit(self) -> &'static str
+        ensures { result.now ≡ unit_of self }
+    {
+        match self {
+            ElementaryType::Time => "ms",
+            ElementaryType::Ltime => "us",
+            _ => "",
         }
     }
 }

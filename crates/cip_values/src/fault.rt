@@ -30,6 +30,9 @@ pub enum ValueFault<'a> {
     /// The text has this many bytes, more than a SHORT_STRING can have.
     #[error("a SHORT_STRING has at most 255 bytes, not {0}")]
     TooLong(usize),
+    /// The text has this many bytes, characters or words, more than a value of the type can have.
+    #[error("{0} takes {range}, not {1}", range = .0.range())]
+    Oversized(ElementaryType, usize),
     /// Memory was refused.
     #[error("memory")]
     Memory,

@@ -11,16 +11,19 @@
 //! ```
 #![tactic(auto)]
 
+mod calendar;
 mod element;
 mod fault;
 pub mod laws;
 mod parsing;
 mod text;
+mod times;
 mod value;
 mod values;
 
+pub use calendar::Date;
 pub use element::{ElementaryType, ValueType};
 pub use fault::ValueFault;
-pub use text::ValuesText;
+pub use text::{ClockText, PathText, ValuesText, wide_characters};
 pub use value::Value;
-pub use values::{read_values, write_values};
+pub use values::{read_front, read_values, write_values};

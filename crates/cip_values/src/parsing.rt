@@ -5,13 +5,15 @@ ghost use Rattle.std.specs.Char.{is_digit};
 ghost use Rattle.std.specs.List.{list_all};
 ghost use Rattle.std.specs.Str.Parse.{IsNumeral, digits_value};
 ghost use Rattle.cip_values.specs.Types.{IsSized, form_of};
-ghost use Rattle.cip_values.specs.Values.{Real, value_in, IsOf, IsSignedOf, IsUnsignedOf};
-ghost use Rattle.cip_values.specs.Parsing.{has_digit, ParsesAs, IsParseFault, IsWordFault, Clamps, ParsesAsInteger, ParsesAsBits};
+ghost use Rattle.cip_values.specs.Values.{Real, Lreal, value_in, IsOf, IsSignedOf, IsUnsignedOf};
+ghost use Rattle.cip_values.specs.Parsing.{has_digit, ParsesAs, ParsesAsNumber, IsParseFault, IsWordFault};
+ghost use Rattle.cip_values.specs.Parsing.{Clamps, ParsesAsInteger, ParsesAsBits, IsWithoutUnit, IsTimed};
 
 use crate::element::{ElementaryType, Form};
 use crate::fault::ValueFault;
+use crate::times::{clock_of, date_of, instant_of};
 use crate::value::Value;
-use std::num::f32_to_bits_with_nan;
+use std::num::{f32_to_bits_with_nan, f64_to_bits_with_nan};
 
 /// Why a word is not a value of a kind.
 #[derive(Clone, Copy)]
@@ -22,11 +24,12 @@ pub(crate) enum ParseFault {
     Range,
 }
 
-/// Parses a word as a value of any type but SHORT_STRING.
+/// Parses a word as a value of any type but a string or a path.
 ///
 /// A BOOL is `0`, `1`, `false` or `true`. An integer is decimal digits, with a minus sign if it is negative. A bit
-/// string is `0x` and hexadecimal digits, or an integer. A REAL is a decimal number, with or without an exponent,
-/// `inf` or `nan`.
+/// string is `0x` and hexadecimal digits, or an integer. A REAL or an LREAL is a decimal number, with or without an
+/// exponent, `inf` or `nan`. A DATE is `YYYY-MM-DD`, a TIME_OF_DAY `hh:mm:ss.mmm`, and a DATE_AND_TIME both with `T`
+/// between them. A TIME is an integer, with or without `ms` behind it, and an LTIME one with or without `us`.
 ///
 /// # Errors
 ///
@@ -35,18 +38,28 @@ pub(crate) fn parse_value<'a>(
     element: ElementaryType,
     word: &'a str,
 ) -> Result<Value<'static>, ValueFault<'a>>
-    ensures parses { IfOk result (λ value. ParsesAs (form_of element) word.now (value_in value)) }
+    ensures parses { IfOk result (λ value. ParsesAsNumber element word.now (value_in value)) }
     ensures of_type { IfOk result (λ value. IsOf (form_of element) (value_in value)) }
     ensures refused { IfErr result (IsWordFault element word.now) }
 {
-    match parse_word(element.form(), word) {
+    match parse_word(element.form(), without_unit(element.unit(), word)) {
         Ok(value) => Ok(value),
         Err(ParseFault::Form) => Err(ValueFault::Form(word, element)),
         Err(ParseFault::Range) => Err(ValueFault::Range(word, element)),
     }
 }
 
-/// Parses a word as a value of any kind but text.
+/// The word without the unit at its end, or the whole word if the unit is not there.
+fn without_unit<'a>(unit: &str, word: &'a str) -> &'a str
+    ensures { IsWithoutUnit unit.now word.now result.now }
+{
+    match word.strip_suffix(unit) {
+        Some(number) => number,
+        None => word,
+    }
+}
+
+/// Parses a word as a value of any kind but a string or a path.
 fn parse_word(form: Form, word: &str) -> Result<Value<'static>, ParseFault>
     requires { IsSized form }
     ensures parses { IfOk result (λ value. ParsesAs form word.now (value_in value)) }
@@ -81,7 +94,40 @@ fn parse_word(form: Form, word: &str) -> Result<Value<'static>, ParseFault>
             Ok(Value::Bits(number as u64))
         }
         Form::Real => Ok(Value::Real(real(word)?)),
-        Form::Text => Err(ParseFault::Form),
+        Form::Lreal => Ok(Value::Lreal(lreal(word)?)),
+        Form::Date | Form::TimeOfDay | Form::DateAndTime => parse_time(form, word.as_bytes()),
+        Form::Text(_) | Form::Wide | Form::Path => Err(ParseFault::Form),
+    }
+}
+
+/// Parses a text as a date, a time of day, or both.
+fn parse_time(form: Form, text: &[u8]) -> Result<Value<'static>, ParseFault>
+    requires { IsTimed form }
+    ensures parses { IfOk result (λ value. ParsesAs form text.now (value_in value)) }
+    ensures of_type { IfOk result (λ value. IsOf form (value_in value)) }
+    ensures missed { IfErr result (IsParseFault form text.now) }
+{
+    match form {
+        Form::Date => Ok(Value::Date(date_of(text)?)),
+        Form::TimeOfDay => Ok(Value::TimeOfDay(clock_of(text)?)),
+        Form::DateAndTime => date_and_time(text),
+        _ => Err(ParseFault::Form),
+    }
+}
+
+/// Parses a date, `T` and a time of day.
+fn date_and_time(text: &[u8]) -> Result<Value<'static>, ParseFault>
+    ensures parses { IfOk result (λ value. ParsesAs Form.DateAndTime text.now (value_in value)) }
+    ensures of_type { IfOk result (λ value. IsOf Form.DateAndTime (value_in value)) }
+    ensures missed { IfErr result (IsParseFault Form.DateAndTime text.now) }
+{
+    if text.len() < 11 || text[10] != b'T' {
+        return Err(ParseFault::Form);
+    }
+    match instant_of(&text[..10], &text[11..]) {
+        Ok(instant) => Ok(instant),
+        Err(ParseFault::Form) => Err(ParseFault::Form),
+        Err(ParseFault::Range) => Err(ParseFault::Range),
     }
 }
 
@@ -187,6 +233,20 @@ fn real(word: &str) -> Result<u32, ParseFault>
         return Err(ParseFault::Range);
     }
     Ok(f32_to_bits_with_nan(number))
+}
+
+/// Parses an LREAL, as its bits.
+fn lreal(word: &str) -> Result<u64, ParseFault>
+    ensures parses { IfOk result (λ bits. ParsesAs Form.Lreal word.now (Lreal bits)) }
+    ensures missed { IfErr result (IsParseFault Form.Lreal word.now) }
+{
+    let Ok(number) = word.parse::<f64>() else {
+        return Err(ParseFault::Form);
+    };
+    if has_digit(word) && number.is_infinite() {
+        return Err(ParseFault::Range);
+    }
+    Ok(f64_to_bits_with_nan(number))
 }
 
 /// Whether the word has a decimal digit.

@@ -1,10 +1,11 @@
 //! A value of an elementary type, and its bytes. (Volume 1, data types.)
 
-ghost use Rattle.std.specs.Prelude.{◌≡◌, ◌++◌, ◌≤◌, length, IfOk, IfErr, OnOk};
-ghost use Rattle.cip_bytes.specs.Numbers.{le};
-ghost use Rattle.cip_values.specs.Types.{IsSized, size_of};
-ghost use Rattle.cip_values.specs.Values.{value_in, IsOf, spelled, BeginsWith, IsValueFault};
+ghost use Rattle.std.specs.Prelude.{◌≡◌, [], ◌++◌, ◌≤◌, ◌<◌, ◌*◌, length, IfOk, IfErr, OnOk};
+ghost use Rattle.cip_bytes.specs.Numbers.{le, number_at};
+ghost use Rattle.cip_values.specs.Types.{IsSized, size_of, unit_size};
+ghost use Rattle.cip_values.specs.Values.{value_in, IsOf, spelled, BeginsWith, IsValueFault, IsCounted, IsClocked, counted};
 
+use crate::calendar::Date;
 use crate::element::Form;
 use crate::fault::ValueFault;
 use byteorder::{ByteOrder, LittleEndian};
@@ -15,7 +16,7 @@ use std::alloc::AllocError;
 pub enum Value<'a> {
     /// A BOOL.
     Bool(bool),
-    /// A SINT, INT, DINT or LINT.
+    /// A SINT, INT, DINT or LINT, a TIME in milliseconds, or an LTIME in microseconds.
     Signed(i64),
     /// A USINT, UINT, UDINT or ULINT.
     Unsigned(u64),
@@ -23,8 +24,20 @@ pub enum Value<'a> {
     Bits(u64),
     /// A REAL, as its 32 bits.
     Real(u32),
-    /// A SHORT_STRING, as its bytes: 255 at most.
+    /// A SHORT_STRING or a STRING, as its bytes: 255 or 65,535 at most.
     Text(&'a [u8]),
+    /// An LREAL, as its 64 bits.
+    Lreal(u64),
+    /// A STRING2, as its bytes: two for each of at most 65,535 characters, least first.
+    Wide(&'a [u8]),
+    /// An EPATH, as its bytes: 255 words of two bytes at most.
+    Path(&'a [u8]),
+    /// A DATE.
+    Date(Date),
+    /// A TIME_OF_DAY: the milliseconds since midnight. From 86,400,000 on it is no time of a day.
+    TimeOfDay(u32),
+    /// A DATE_AND_TIME: a date, and milliseconds since midnight.
+    DateAndTime(Date, u32),
 }
 
 impl<'a> Value<'a> {
@@ -58,13 +71,58 @@ impl<'a> Value<'a> {
             )),
             Form::Bits(size) => Ok((Value::Bits(LittleEndian::read_uint(front, size)), rest)),
             Form::Real => Ok((Value::Real(LittleEndian::read_u32(front)), rest)),
-            Form::Text => {
-                let size = front[0] as usize;
-                if rest.len() < size {
-                    return Err(ValueFault::Short);
-                }
-                let (text, behind) = rest.split_at(size);
-                Ok((Value::Text(text), behind))
+            Form::Lreal => Ok((Value::Lreal(LittleEndian::read_u64(front)), rest)),
+            Form::Text(_) | Form::Wide | Form::Path => Value::read_counted(form, front, rest),
+            Form::Date | Form::TimeOfDay | Form::DateAndTime => Ok((
+                Value::read_time(form, front),
+                rest,
+            )),
+        }
+    }
+
+    /// Reads the string or the path whose count is `front`, and returns it with the rest behind it.
+    fn read_counted(
+        form: Form,
+        front: &[u8],
+        rest: &'a [u8],
+    ) -> Result<(Value<'a>, &'a [u8]), ValueFault<'static>>
+        requires { IsCounted form front.now }
+        ensures read { IfOk result (λ read. BeginsWith form (front.now ++ rest.now) (value_in read.0) read.1.now) }
+        ensures refused { IfErr result (λ fault. (fault ≡ ValueFault.Short)
+            × (length rest.now < unit_size form * number_at 0 (size_of form) front.now)) }
+    {
+        let units = LittleEndian::read_uint(front, front.len()) as usize;
+        let size = units * form.unit();
+        if rest.len() < size {
+            return Err(ValueFault::Short);
+        }
+        let (text, behind) = rest.split_at(size);
+        Ok((Value::counted(form, text), behind))
+    }
+
+    /// The string or the path with these bytes.
+    pub(crate) fn counted(form: Form, bytes: &'a [u8]) -> Value<'a>
+        ensures { value_in result ≡ counted form bytes.now }
+    {
+        match form {
+            Form::Wide => Value::Wide(bytes),
+            Form::Path => Value::Path(bytes),
+            _ => Value::Text(bytes),
+        }
+    }
+
+    /// The date or the time of day that these bytes spell.
+    fn read_time(form: Form, bytes: &[u8]) -> Value<'static>
+        requires { IsClocked form bytes.now }
+        ensures { BeginsWith form bytes.now (value_in result) [] }
+    {
+        match form {
+            Form::Date => Value::Date(Date::from_days(LittleEndian::read_u16(bytes))),
+            Form::TimeOfDay => Value::TimeOfDay(LittleEndian::read_u32(bytes)),
+            _ => {
+                let (time, days) = bytes.split_at(4);
+                let date = Date::from_days(LittleEndian::read_u16(days));
+                Value::DateAndTime(date, LittleEndian::read_u32(time))
             }
         }
     }
@@ -82,9 +140,24 @@ impl<'a> Value<'a> {
                 append_number(number, form.size(), out)?;
             }
             Value::Real(bits) => append_number(u64::from(bits), form.size(), out)?,
+            Value::Lreal(bits) => append_number(bits, 8, out)?,
             Value::Text(text) => {
-                out.push(text.len() as u8)?;
+                append_number(text.len() as u64, form.size(), out)?;
                 out.extend_from_slice(text)?;
+            }
+            Value::Wide(text) => {
+                append_number((text.len() / 2) as u64, 2, out)?;
+                out.extend_from_slice(text)?;
+            }
+            Value::Path(path) => {
+                append_number((path.len() / 2) as u64, 1, out)?;
+                out.extend_from_slice(path)?;
+            }
+            Value::Date(date) => append_number(u64::from(date.days()), 2, out)?,
+            Value::TimeOfDay(milliseconds) => append_number(u64::from(milliseconds), 4, out)?,
+            Value::DateAndTime(date, milliseconds) => {
+                append_number(u64::from(milliseconds), 4, out)?;
+                append_number(u64::from(date.days()), 2, out)?;
             }
         }
         Ok(())
@@ -92,7 +165,7 @@ impl<'a> Value<'a> {
 }
 
 /// Appends the `size` low bytes of a number.
-fn append_number(number: u64, size: usize, out: &mut Vec<u8>) -> Result<(), AllocError>
+pub(crate) fn append_number(number: u64, size: usize, out: &mut Vec<u8>) -> Result<(), AllocError>
     requires { size ≤ 8 }
     ensures { OnOk result (out.new.items ≡ out.old.items ++ le size number) }
 {

@@ -4,17 +4,22 @@
 //! than 80 columns.
 
 use crate::texts::{
-    ABANDON_DETAILS, ACCEPT_OLDER_DETAILS, COUNT_DETAILS, EVERY_DETAILS, KEEP_DETAILS,
-    KEPT_FILE_DETAILS, ONCE_DETAILS, PENDING_DETAILS, PRINTED_TYPE_DETAILS, TRIES_DETAILS,
-    WAIT_DETAILS, WRITTEN_TYPE_DETAILS,
+    ABANDON_DETAILS, ACCEPT_OLDER_DETAILS, CALLED_TYPE_DETAILS, CONNECTION_SERIAL_DETAILS,
+    COUNT_DETAILS, DATA_DETAILS, DEADLINE_DETAILS, EVERY_DETAILS, KEEP_DETAILS, KEPT_FILE_DETAILS,
+    MEMBER_DETAILS, MULTIPLIER_DETAILS, ONCE_DETAILS, ORIGINATOR_SERIAL_DETAILS, PENDING_DETAILS,
+    PRINTED_TYPE_DETAILS, QUIET_DETAILS, READ_MULTIPLIER_DETAILS, READ_TRIES_DETAILS,
+    REPLY_TYPE_DETAILS, ROUTE_DETAILS, RPI_DETAILS, SESSION_MULTIPLIER_DETAILS, SIZE_DETAILS,
+    TRIES_DETAILS, WAIT_DETAILS, WRITTEN_TYPE_DETAILS,
 };
-use clap::{Arg, ArgAction, value_parser};
+use clap::{Arg, ArgAction};
 use std::alloc::{AllocError, Global};
 
 /// An argument or an option of a command.
 #[derive(Clone, Copy)]
 pub(crate) enum Argument {
     Config,
+    CheckedConfig,
+    Example,
     Script,
     Ladder,
     ListenAddress,
@@ -22,6 +27,7 @@ pub(crate) enum Argument {
     IdleTimeout,
     Discovery,
     Log,
+    LogTime,
     Keep,
     KeptFile,
     AcceptOlder,
@@ -36,20 +42,45 @@ pub(crate) enum Argument {
     CommandAttribute,
     CommandData,
     OptionalData,
+    Member,
     PrintedType,
     WrittenType,
+    CalledType,
+    ReplyType,
     Json,
     Interval,
     ReplyCount,
     AllReplies,
+    Stop,
+    Verbose,
+    WatchedRequest,
+    Rounds,
+    RoundInterval,
     Connected,
+    Route,
+    ConnectionSerial,
+    OriginatorSerial,
+    Size,
+    Rpi,
+    Multiplier,
+    ReadMultiplier,
+    SessionMultiplier,
     Timeout,
+    Deadline,
     DiscoveryTime,
+    Quiet,
     Once,
     Tries,
+    ReadTries,
     Pending,
     Abandon,
 }
+
+/// The formats of the log.
+static LOG_FORMATS: [&str; 2] = ["text", "json"];
+
+/// The clocks of the log.
+static LOG_CLOCKS: [&str; 2] = ["start", "utc"];
 
 /// The options with which a command of FILE takes the place of the request in the arguments.
 const COMMAND_OF_FILE: [&str; 2] = ["pending", "abandon"];
@@ -58,7 +89,9 @@ impl Argument {
     /// The argument as `clap` takes it.
     pub(crate) fn arg<'a>(self, alloc: Global) -> Result<Arg<'a>, AllocError> {
         Ok(match self {
-            Argument::Config => config(alloc),
+            Argument::Config => config(alloc).required(true),
+            Argument::CheckedConfig => config(alloc).required_unless_present("example")?,
+            Argument::Example => example(alloc)?,
             Argument::Script => script(alloc),
             Argument::Ladder => ladder(alloc),
             Argument::ListenAddress => listen_address(alloc),
@@ -66,6 +99,7 @@ impl Argument {
             Argument::IdleTimeout => idle_timeout(alloc),
             Argument::Discovery => discovery(alloc),
             Argument::Log => log(alloc),
+            Argument::LogTime => log_time(alloc)?,
             Argument::Keep => keep(alloc, KEEP_DETAILS),
             Argument::KeptFile => keep(alloc, KEPT_FILE_DETAILS),
             Argument::AcceptOlder => accept_older(alloc)?,
@@ -74,27 +108,46 @@ impl Argument {
             Argument::Class => class(alloc).required(true),
             Argument::Instance => instance(alloc).required(true),
             Argument::OptionalAttribute => attribute(alloc).help(
-                "Attribute to read, 0 to 65535; all attributes if left out",
+                "Attribute to read, 0 to 65535 or a name; all if left out",
             ),
             Argument::CommandService => of_command(service(alloc))?,
             Argument::CommandClass => of_command(class(alloc))?,
             Argument::CommandInstance => of_command(instance(alloc))?,
             Argument::CommandAttribute => {
-                of_command(attribute(alloc).help("Attribute to write, 0 to 65535"))?
+                of_command(attribute(alloc).help("Attribute to write, 0 to 65535 or a name"))?
             }
             Argument::CommandData => of_command(data(alloc))?,
             Argument::OptionalData => optional_data(alloc),
+            Argument::Member => member(alloc),
             Argument::PrintedType => printed_type(alloc),
             Argument::WrittenType => written_type(alloc),
+            Argument::CalledType => called_type(alloc),
+            Argument::ReplyType => reply_type(alloc),
             Argument::Json => json(alloc),
             Argument::Interval => interval(alloc),
             Argument::ReplyCount => reply_count(alloc)?,
             Argument::AllReplies => all_replies(alloc)?,
+            Argument::Stop => stop(alloc),
+            Argument::Verbose => verbose(alloc),
+            Argument::WatchedRequest => watched_request(alloc),
+            Argument::Rounds => rounds(alloc),
+            Argument::RoundInterval => round_interval(alloc),
             Argument::Connected => connected(alloc),
+            Argument::Route => route(alloc),
+            Argument::ConnectionSerial => connection_serial(alloc)?,
+            Argument::OriginatorSerial => originator_serial(alloc)?,
+            Argument::Size => size(alloc)?,
+            Argument::Rpi => rpi(alloc)?,
+            Argument::Multiplier => multiplier(alloc, MULTIPLIER_DETAILS)?,
+            Argument::ReadMultiplier => multiplier(alloc, READ_MULTIPLIER_DETAILS)?,
+            Argument::SessionMultiplier => multiplier(alloc, SESSION_MULTIPLIER_DETAILS)?,
             Argument::Timeout => timeout(alloc),
+            Argument::Deadline => deadline(alloc),
+            Argument::Quiet => quiet(alloc),
             Argument::DiscoveryTime => discovery_time(alloc),
             Argument::Once => once(alloc),
-            Argument::Tries => tries(alloc)?,
+            Argument::Tries => tries(alloc, TRIES_DETAILS),
+            Argument::ReadTries => tries(alloc, READ_TRIES_DETAILS),
             Argument::Pending => pending(alloc)?,
             Argument::Abandon => abandon(alloc)?,
         })
@@ -107,15 +160,24 @@ fn of_command<'a>(argument: Arg<'a>) -> Result<Arg<'a>, AllocError> {
 }
 
 fn config<'a>(alloc: Global) -> Arg<'a> {
-    Arg::new(alloc, "CONFIG")
-        .required(true)
-        .help("Configuration of the device, a TOML file")
+    Arg::new(alloc, "CONFIG").help(
+        "Configuration of the device, a TOML file, or - for standard input",
+    )
+}
+
+fn example<'a>(alloc: Global) -> Result<Arg<'a>, AllocError> {
+    Arg::new(alloc, "example")
+        .long("example")
+        .action(ArgAction::SetTrue)
+        .help("Print a configuration with every key, with comments")
+        .conflicts_with("CONFIG")?
+        .conflicts_with("keep")
 }
 
 fn script<'a>(alloc: Global) -> Arg<'a> {
     Arg::new(alloc, "SCRIPT")
         .required(true)
-        .help("Script to run, a text file")
+        .help("Script to run, a text file, or - for standard input")
 }
 
 fn ladder<'a>(alloc: Global) -> Arg<'a> {
@@ -135,11 +197,9 @@ fn listen_address<'a>(alloc: Global) -> Arg<'a> {
 }
 
 fn connection_count<'a>(alloc: Global) -> Arg<'a> {
-    // Our own limits: 1 to 65,535.
     Arg::new(alloc, "count")
         .long("count")
         .value_name("N")
-        .value_parser(value_parser!(u16).range(1..))
         .help("Exit after N connections [default: never]")
         .long_help(
             "Exit after N connections, 1 to 65535. Connections that are closed at\nonce count too\n\n[default: never]",
@@ -151,7 +211,6 @@ fn idle_timeout<'a>(alloc: Global) -> Arg<'a> {
     Arg::new(alloc, "idle")
         .long("idle")
         .value_name("SECONDS")
-        .value_parser(value_parser!(u16).range(..=3_600))
         .default_value("120")
         .help("Longest silence of a client, 0 to 3600")
         .long_help(
@@ -169,8 +228,23 @@ fn discovery<'a>(alloc: Global) -> Arg<'a> {
 fn log<'a>(alloc: Global) -> Arg<'a> {
     Arg::new(alloc, "log")
         .long("log")
-        .action(ArgAction::SetTrue)
-        .help("Log connections and frames to standard error")
+        .value_name("FORMAT")
+        .value_parser(LOG_FORMATS.as_slice())
+        .num_args(0..=1)
+        .require_equals(true)
+        .default_missing_value("text")
+        .hide_possible_values(true)
+        .help("Log connections and frames, as text or json")
+}
+
+fn log_time<'a>(alloc: Global) -> Result<Arg<'a>, AllocError> {
+    Arg::new(alloc, "log-time")
+        .long("log-time")
+        .value_name("CLOCK")
+        .value_parser(LOG_CLOCKS.as_slice())
+        .hide_short_help(true)
+        .help("Times of the log: since the start, or of the day in UTC")
+        .requires_arg("log")
 }
 
 fn keep<'a>(alloc: Global, details: &'static str) -> Arg<'a> {
@@ -209,34 +283,37 @@ fn network_address<'a>(alloc: Global) -> Arg<'a> {
 }
 
 fn service<'a>(alloc: Global) -> Arg<'a> {
-    // Message router: bit 7 of a service marks a reply.
-    Arg::new(alloc, "SERVICE")
-        .value_parser(value_parser!(u8).range(..0x80))
-        .help("Service code, 0 to 127")
+    Arg::new(alloc, "SERVICE").help("Service, 0 to 127 or a name, such as reset")
 }
 
 fn class<'a>(alloc: Global) -> Arg<'a> {
-    Arg::new(alloc, "CLASS")
-        .value_parser(value_parser!(u16))
-        .help("Class of the object, 0 to 65535")
+    Arg::new(alloc, "CLASS").help("Class of the object, 0 to 65535 or a name, such as identity")
 }
 
 fn instance<'a>(alloc: Global) -> Arg<'a> {
-    Arg::new(alloc, "INSTANCE")
-        .value_parser(value_parser!(u32))
-        .help("Instance of the object, 0 to 4294967295; 0 is the class itself")
+    Arg::new(alloc, "INSTANCE").help(
+        "Instance of the object, 0 to 4294967295; 0 is the class itself",
+    )
 }
 
 fn attribute<'a>(alloc: Global) -> Arg<'a> {
-    Arg::new(alloc, "ATTRIBUTE").value_parser(value_parser!(u16))
+    Arg::new(alloc, "ATTRIBUTE")
+}
+
+fn member<'a>(alloc: Global) -> Arg<'a> {
+    Arg::new(alloc, "member")
+        .long("member")
+        .value_name("N")
+        .hide_short_help(true)
+        .help(MEMBER_DETAILS)
 }
 
 fn optional_data<'a>(alloc: Global) -> Arg<'a> {
     Arg::new(alloc, "HEX")
-        .help("Data of the request in hexadecimal, as one argument")
-        .long_help(
-            "Data of the request in hexadecimal, as one argument; spaces are\nignored. Numbers have their least significant byte first",
-        )
+        .num_args(1..)
+        .allow_negative_numbers(true)
+        .help("Data in hexadecimal, as one argument; with --as, values")
+        .long_help(DATA_DETAILS)
 }
 
 fn data<'a>(alloc: Global) -> Arg<'a> {
@@ -244,25 +321,38 @@ fn data<'a>(alloc: Global) -> Arg<'a> {
         .num_args(1..)
         .allow_negative_numbers(true)
         .help("Data in hexadecimal, as one argument; with --as, values")
-        .long_help(
-            "Data in hexadecimal, as one argument; spaces are ignored. Numbers have\ntheir least significant byte first. With --as, one argument for each\nvalue. A value that begins with a minus sign and is not a number needs\n`--` before it",
-        )
+        .long_help(DATA_DETAILS)
 }
 
 fn printed_type<'a>(alloc: Global) -> Arg<'a> {
-    type_option(alloc)
+    type_option(alloc, "as")
         .help("Print values of this type, such as UINT or UINT[]")
         .long_help(PRINTED_TYPE_DETAILS)
 }
 
 fn written_type<'a>(alloc: Global) -> Arg<'a> {
-    type_option(alloc)
+    type_option(alloc, "data-as")
         .help("Take values of this type, such as UINT or UINT[]")
         .long_help(WRITTEN_TYPE_DETAILS)
 }
 
-fn type_option<'a>(alloc: Global) -> Arg<'a> {
-    Arg::new(alloc, "as").long("as").value_name("TYPE")
+fn called_type<'a>(alloc: Global) -> Arg<'a> {
+    type_option(alloc, "data-as")
+        .help("Take values of this type, such as UINT or UINT[]")
+        .long_help(CALLED_TYPE_DETAILS)
+}
+
+fn reply_type<'a>(alloc: Global) -> Arg<'a> {
+    Arg::new(alloc, "reply-as")
+        .long("reply-as")
+        .value_name("TYPE")
+        .help("Print the data of the reply as values of this type")
+        .long_help(REPLY_TYPE_DETAILS)
+}
+
+/// The option `--as`, whose value has this name among the matches.
+fn type_option<'a>(alloc: Global, id: &'static str) -> Arg<'a> {
+    Arg::new(alloc, id).long("as").value_name("TYPE")
 }
 
 fn json<'a>(alloc: Global) -> Arg<'a> {
@@ -285,7 +375,6 @@ fn reply_count<'a>(alloc: Global) -> Result<Arg<'a>, AllocError> {
     Arg::new(alloc, "count")
         .long("count")
         .value_name("N")
-        .value_parser(value_parser!(u32).range(1..))
         .help("With --every, exit after N replies [default: never]")
         .long_help(COUNT_DETAILS)
         .requires_arg("every")
@@ -299,11 +388,104 @@ fn all_replies<'a>(alloc: Global) -> Result<Arg<'a>, AllocError> {
         .requires_arg("every")
 }
 
+fn stop<'a>(alloc: Global) -> Arg<'a> {
+    Arg::new(alloc, "stop")
+        .long("stop")
+        .action(ArgAction::SetTrue)
+        .help("Stop at the first line that fails")
+}
+
+fn verbose<'a>(alloc: Global) -> Arg<'a> {
+    Arg::new(alloc, "verbose")
+        .long("verbose")
+        .action(ArgAction::SetTrue)
+        .help("Print refused attributes, too, with their status")
+}
+
+fn watched_request<'a>(alloc: Global) -> Arg<'a> {
+    Arg::new(alloc, "REQUEST").required(true).num_args(1..).help(
+        "Attribute to read: the arguments of `enip get`, in quotes",
+    )
+}
+
+fn rounds<'a>(alloc: Global) -> Arg<'a> {
+    Arg::new(alloc, "count")
+        .long("count")
+        .value_name("N")
+        .help("Exit after N rounds [default: never]")
+}
+
+fn round_interval<'a>(alloc: Global) -> Arg<'a> {
+    Arg::new(alloc, "every")
+        .long("every")
+        .value_name("SECONDS")
+        .help("Seconds between two rounds, 0 to 3600 [default: 1]")
+}
+
 fn connected<'a>(alloc: Global) -> Arg<'a> {
     Arg::new(alloc, "connected")
         .long("connected")
         .action(ArgAction::SetTrue)
         .help("Send the request on a class 3 connection")
+}
+
+fn route<'a>(alloc: Global) -> Arg<'a> {
+    Arg::new(alloc, "route")
+        .long("route")
+        .value_name("HOPS")
+        .help("Hops from ADDRESS to the device, such as 1/0")
+        .long_help(ROUTE_DETAILS)
+}
+
+/// An option of the connection, which `-h` leaves out.
+fn connection_option<'a>(
+    alloc: Global,
+    name: &'static str,
+    value: &'static str,
+    details: &'static str,
+) -> Result<Arg<'a>, AllocError> {
+    Arg::new(alloc, name)
+        .long(name)
+        .value_name(value)
+        .hide_short_help(true)
+        .help(details)
+        .requires_arg("connected")
+}
+
+fn connection_serial<'a>(alloc: Global) -> Result<Arg<'a>, AllocError> {
+    connection_option(alloc, "connection-serial", "N", CONNECTION_SERIAL_DETAILS)
+}
+
+fn originator_serial<'a>(alloc: Global) -> Result<Arg<'a>, AllocError> {
+    connection_option(alloc, "originator-serial", "N", ORIGINATOR_SERIAL_DETAILS)
+}
+
+fn size<'a>(alloc: Global) -> Result<Arg<'a>, AllocError> {
+    connection_option(alloc, "size", "BYTES", SIZE_DETAILS)
+}
+
+fn rpi<'a>(alloc: Global) -> Result<Arg<'a>, AllocError> {
+    connection_option(alloc, "rpi", "MICROSECONDS", RPI_DETAILS)
+}
+
+fn multiplier<'a>(alloc: Global, details: &'static str) -> Result<Arg<'a>, AllocError> {
+    connection_option(alloc, "multiplier", "N", details)
+}
+
+fn deadline<'a>(alloc: Global) -> Arg<'a> {
+    Arg::new(alloc, "deadline")
+        .long("deadline")
+        .value_name("SECONDS")
+        .hide_short_help(true)
+        .help(DEADLINE_DETAILS)
+}
+
+fn quiet<'a>(alloc: Global) -> Arg<'a> {
+    Arg::new(alloc, "quiet")
+        .long("quiet")
+        .action(ArgAction::SetTrue)
+        .hide_short_help(true)
+        .help(QUIET_DETAILS)
 }
 
 fn timeout<'a>(alloc: Global) -> Arg<'a> {
@@ -335,15 +517,12 @@ fn once<'a>(alloc: Global) -> Arg<'a> {
         .long_help(ONCE_DETAILS)
 }
 
-fn tries<'a>(alloc: Global) -> Result<Arg<'a>, AllocError> {
+fn tries<'a>(alloc: Global, details: &'static str) -> Arg<'a> {
     Arg::new(alloc, "tries")
         .long("tries")
         .value_name("N")
-        .value_parser(value_parser!(u32))
-        .default_value("3")
         .hide_short_help(true)
-        .help(TRIES_DETAILS)
-        .requires_arg("once")
+        .help(details)
 }
 
 fn pending<'a>(alloc: Global) -> Result<Arg<'a>, AllocError> {

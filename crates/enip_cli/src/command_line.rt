@@ -7,6 +7,12 @@ use std::env::{Env, FillError};
 /// How many bytes of an argument are asked for at first.
 const FIRST_CAPACITY: usize = 256;
 
+/// An option whose value may be left out, so that `clap` takes a value only after `=`. These values may be the next
+/// argument, too.
+const LOG: &[u8] = b"--log";
+
+const LOG_FORMATS: [&[u8]; 2] = [b"text", b"json"];
+
 /// An argument of the command line.
 #[derive(Drop)]
 pub struct OsArg {
@@ -43,9 +49,32 @@ pub fn os_args(rt: &HostRuntime, alloc: Global, program: &str) -> Result<Vec<OsA
         let Some(bytes) = argument_at(rt, alloc, index)? else {
             break;
         };
-        arguments.push(OsArg::new(alloc, bytes)?)?;
+        if is_log_format(arguments.as_slice(), bytes.as_slice()) {
+            let joined = joined(alloc, LOG, bytes.as_slice())?;
+            let _ = arguments.pop();
+            arguments.push(OsArg::new(alloc, joined)?)?;
+        } else {
+            arguments.push(OsArg::new(alloc, bytes)?)?;
+        }
     }
     Ok(arguments)
+}
+
+/// Whether an argument is the format of the option `--log` before it.
+fn is_log_format(before: &[OsArg], argument: &[u8]) -> bool {
+    let is_log = before
+        .last()
+        .is_some_and(|last| last.bytes.as_slice() == LOG);
+    is_log && LOG_FORMATS.iter().any(|format| *format == argument)
+}
+
+/// An option and its value, with `=` between them.
+fn joined(alloc: Global, option: &[u8], value: &[u8]) -> Result<Vec<u8>, AllocError> {
+    let mut joined = Vec::new(alloc);
+    for part in [option, b"=", value] {
+        joined.extend_from_slice(part)?;
+    }
+    Ok(joined)
 }
 
 /// The bytes of the argument at an index. `None` if there are fewer arguments.

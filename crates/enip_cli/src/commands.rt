@@ -2,11 +2,12 @@
 
 use crate::arguments::Argument;
 use crate::texts::{
-    DETAILS_ANSWER, DETAILS_CALL, DETAILS_CHECK, DETAILS_DISCOVER, DETAILS_GET, DETAILS_IDENTITY,
-    DETAILS_REPLAY, DETAILS_SERVE, DETAILS_SERVICES, DETAILS_SET, DETAILS_SHOW, EXAMPLES_ANSWER,
-    EXAMPLES_CALL, EXAMPLES_CHECK, EXAMPLES_DISCOVER, EXAMPLES_GET, EXAMPLES_IDENTITY,
-    EXAMPLES_REPLAY, EXAMPLES_SERVE, EXAMPLES_SERVICES, EXAMPLES_SET, EXAMPLES_SHOW, EXIT_STATUSES,
-    USAGE_CALL, USAGE_SET,
+    DETAILS_ANSWER, DETAILS_BATCH, DETAILS_CALL, DETAILS_CHECK, DETAILS_DISCOVER, DETAILS_GET,
+    DETAILS_IDENTITY, DETAILS_INSPECT, DETAILS_REPLAY, DETAILS_SERVE, DETAILS_SERVICES,
+    DETAILS_SET, DETAILS_SHOW, DETAILS_WATCH, EXAMPLES_ANSWER, EXAMPLES_BATCH, EXAMPLES_CALL,
+    EXAMPLES_CHECK, EXAMPLES_DISCOVER, EXAMPLES_GET, EXAMPLES_IDENTITY, EXAMPLES_INSPECT,
+    EXAMPLES_REPLAY, EXAMPLES_SERVE, EXAMPLES_SERVICES, EXAMPLES_SET, EXAMPLES_SHOW,
+    EXAMPLES_WATCH, EXIT_STATUSES, USAGE_CALL, USAGE_SET,
 };
 use clap::Command;
 use std::alloc::{AllocError, Global};
@@ -31,7 +32,7 @@ struct Row {
 }
 
 /// The commands in the order in which the help lists them.
-static COMMANDS: [Row; 11] = [
+static COMMANDS: [Row; 14] = [
     Row {
         name: "serve",
         about: "Serve a device over TCP to several clients at once",
@@ -45,6 +46,7 @@ static COMMANDS: [Row; 11] = [
             Argument::IdleTimeout,
             Argument::Discovery,
             Argument::Log,
+            Argument::LogTime,
             Argument::Keep,
             Argument::AcceptOlder,
         ],
@@ -55,7 +57,11 @@ static COMMANDS: [Row; 11] = [
         usage: None,
         examples: EXAMPLES_CHECK,
         details: DETAILS_CHECK,
-        arguments: &[Argument::Config, Argument::KeptFile],
+        arguments: &[
+            Argument::CheckedConfig,
+            Argument::KeptFile,
+            Argument::Example,
+        ],
     },
     Row {
         name: "get",
@@ -68,13 +74,23 @@ static COMMANDS: [Row; 11] = [
             Argument::Class,
             Argument::Instance,
             Argument::OptionalAttribute,
+            Argument::Member,
             Argument::PrintedType,
             Argument::Json,
             Argument::Interval,
             Argument::ReplyCount,
             Argument::AllReplies,
             Argument::Connected,
+            Argument::Route,
+            Argument::ConnectionSerial,
+            Argument::OriginatorSerial,
+            Argument::Size,
+            Argument::Rpi,
+            Argument::ReadMultiplier,
             Argument::Timeout,
+            Argument::Deadline,
+            Argument::Quiet,
+            Argument::ReadTries,
         ],
     },
     Row {
@@ -89,9 +105,19 @@ static COMMANDS: [Row; 11] = [
             Argument::CommandInstance,
             Argument::CommandAttribute,
             Argument::CommandData,
+            Argument::Member,
             Argument::WrittenType,
+            Argument::Json,
             Argument::Connected,
+            Argument::Route,
+            Argument::ConnectionSerial,
+            Argument::OriginatorSerial,
+            Argument::Size,
+            Argument::Rpi,
+            Argument::Multiplier,
             Argument::Timeout,
+            Argument::Deadline,
+            Argument::Quiet,
             Argument::Once,
             Argument::Tries,
             Argument::Pending,
@@ -110,13 +136,92 @@ static COMMANDS: [Row; 11] = [
             Argument::CommandClass,
             Argument::CommandInstance,
             Argument::OptionalData,
+            Argument::Member,
+            Argument::CalledType,
+            Argument::ReplyType,
             Argument::Json,
             Argument::Connected,
+            Argument::Route,
+            Argument::ConnectionSerial,
+            Argument::OriginatorSerial,
+            Argument::Size,
+            Argument::Rpi,
+            Argument::Multiplier,
             Argument::Timeout,
+            Argument::Deadline,
+            Argument::Quiet,
             Argument::Once,
             Argument::Tries,
             Argument::Pending,
             Argument::Abandon,
+        ],
+    },
+    Row {
+        name: "batch",
+        about: "Send the requests of standard input, one a line, in one session",
+        usage: None,
+        examples: EXAMPLES_BATCH,
+        details: DETAILS_BATCH,
+        arguments: &[
+            Argument::DeviceAddress,
+            Argument::Json,
+            Argument::Stop,
+            Argument::Connected,
+            Argument::Route,
+            Argument::ConnectionSerial,
+            Argument::OriginatorSerial,
+            Argument::Size,
+            Argument::Rpi,
+            Argument::SessionMultiplier,
+            Argument::ReadTries,
+            Argument::Timeout,
+            Argument::Deadline,
+        ],
+    },
+    Row {
+        name: "watch",
+        about: "Read several attributes of a device again and again",
+        usage: None,
+        examples: EXAMPLES_WATCH,
+        details: DETAILS_WATCH,
+        arguments: &[
+            Argument::DeviceAddress,
+            Argument::WatchedRequest,
+            Argument::RoundInterval,
+            Argument::Rounds,
+            Argument::Json,
+            Argument::Connected,
+            Argument::Route,
+            Argument::ConnectionSerial,
+            Argument::OriginatorSerial,
+            Argument::Size,
+            Argument::Rpi,
+            Argument::SessionMultiplier,
+            Argument::ReadTries,
+            Argument::Timeout,
+            Argument::Deadline,
+        ],
+    },
+    Row {
+        name: "inspect",
+        about: "Print what a device says of itself: its objects and assemblies",
+        usage: None,
+        examples: EXAMPLES_INSPECT,
+        details: DETAILS_INSPECT,
+        arguments: &[
+            Argument::DeviceAddress,
+            Argument::Json,
+            Argument::Verbose,
+            Argument::Connected,
+            Argument::Route,
+            Argument::ConnectionSerial,
+            Argument::OriginatorSerial,
+            Argument::Size,
+            Argument::Rpi,
+            Argument::SessionMultiplier,
+            Argument::ReadTries,
+            Argument::Timeout,
+            Argument::Deadline,
         ],
     },
     Row {
@@ -125,7 +230,12 @@ static COMMANDS: [Row; 11] = [
         usage: None,
         examples: EXAMPLES_IDENTITY,
         details: DETAILS_IDENTITY,
-        arguments: &[Argument::DeviceAddress, Argument::Json, Argument::Timeout],
+        arguments: &[
+            Argument::DeviceAddress,
+            Argument::Json,
+            Argument::Timeout,
+            Argument::Deadline,
+        ],
     },
     Row {
         name: "discover",
@@ -145,7 +255,11 @@ static COMMANDS: [Row; 11] = [
         usage: None,
         examples: EXAMPLES_SERVICES,
         details: DETAILS_SERVICES,
-        arguments: &[Argument::DeviceAddress, Argument::Timeout],
+        arguments: &[
+            Argument::DeviceAddress,
+            Argument::Timeout,
+            Argument::Deadline,
+        ],
     },
     Row {
         name: "answer",
@@ -172,6 +286,64 @@ static COMMANDS: [Row; 11] = [
         arguments: &[Argument::Config, Argument::Script, Argument::Ladder],
     },
 ];
+
+/// The commands in a line of `enip batch`.
+static LINES: [Row; 3] = [
+    Row {
+        name: "get",
+        about: "",
+        usage: None,
+        examples: "",
+        details: "",
+        arguments: &[
+            Argument::Class,
+            Argument::Instance,
+            Argument::OptionalAttribute,
+            Argument::Member,
+            Argument::PrintedType,
+        ],
+    },
+    Row {
+        name: "set",
+        about: "",
+        usage: None,
+        examples: "",
+        details: "",
+        arguments: &[
+            Argument::CommandClass,
+            Argument::CommandInstance,
+            Argument::CommandAttribute,
+            Argument::CommandData,
+            Argument::Member,
+            Argument::WrittenType,
+        ],
+    },
+    Row {
+        name: "call",
+        about: "",
+        usage: None,
+        examples: "",
+        details: "",
+        arguments: &[
+            Argument::CommandService,
+            Argument::CommandClass,
+            Argument::CommandInstance,
+            Argument::OptionalData,
+            Argument::Member,
+            Argument::CalledType,
+            Argument::ReplyType,
+        ],
+    },
+];
+
+/// A command in a line of `enip batch` as `clap` parses it: a request without an address and without options of the
+/// connection. `None` if there is no such command.
+pub fn line_command<'a>(alloc: Global, name: &str) -> Result<Option<Command<'a>>, AllocError> {
+    match LINES.iter().find(|row| row.name == name) {
+        Some(row) => Ok(Some(command(alloc, row)?)),
+        None => Ok(None),
+    }
+}
 
 /// The whole program as `clap` parses it.
 pub fn program<'a>(alloc: Global) -> Result<Command<'a>, AllocError> {

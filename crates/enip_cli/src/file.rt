@@ -37,11 +37,13 @@ pub fn option_file_name<'a>(args: &'a [OsArg], option: &str, text: &'a str) -> &
     text.as_bytes()
 }
 
-/// The bytes of the file that an argument names. `text` is the argument as text. The file is opened by the bytes of that
-/// argument, which need not be UTF-8.
-pub fn read_file(alloc: Global, args: &[OsArg], text: &str) -> io::Result<Vec<u8>> {
+/// The first bytes of the file that an argument names, up to `most` of them. `text` is the argument as text. The file is
+/// opened by the bytes of that argument, which need not be UTF-8.
+pub fn read_file(alloc: Global, args: &[OsArg], text: &str, most: u64) -> io::Result<Vec<u8>> {
     let mut bytes = Vec::new(alloc);
-    File::open(file_name(args, text))?.read_to_end(&mut bytes)?;
+    File::open(file_name(args, text))?
+        .take(most)
+        .read_to_end(&mut bytes)?;
     Ok(bytes)
 }
 

@@ -11,7 +11,7 @@ mod seconds;
 mod texts;
 
 pub use command_line::{OsArg, os_args};
-pub use commands::{PROGRAM, program};
+pub use commands::{PROGRAM, line_command, program};
 pub use file::{arguments_after, can_update, exists, option_file_name, read_file, reserve_streams};
 pub use locked_file::{LockedFile, resolved};
 pub use round_file::{LastRound, RoundFile};

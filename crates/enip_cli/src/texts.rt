@@ -7,7 +7,9 @@
 pub(crate) const EXIT_STATUSES: &str = "\
 Examples:
   enip serve demo.toml 127.0.0.1
-  enip get 127.0.0.1 1 1 7 --as SHORT_STRING
+  enip get 127.0.0.1 identity 1 name --as SHORT_STRING
+
+`enip help objects` prints the names of classes, attributes and services.
 
 Exit status, and the last line of standard error if the command fails. The line
 before it starts with `enip: ` and gives the reason.
@@ -54,7 +56,7 @@ fault N:
   4    a frame was too long
   6    the reply is malformed, or its data are not values of TYPE
   7    the request is too long: over 504 bytes, or 498 with --connected; with
-       --once 478 or 472";
+       --once 478 or 472. With --size N, 498 and 472 are N - 2 and N - 28";
 
 pub(crate) const EXAMPLES_SERVE: &str = "\
 Examples:
@@ -76,13 +78,15 @@ over TCP, and drops all others. At 0.0.0.0 it receives broadcasts too.
 
 With --log, standard error has a line for each connection that begins or ends,
 and for each frame: the seconds since the start, the client, the request and the
-status of the answer.
+status of the answer, and `(kept reply)` if the request is a repeat. With --log
+json, each line is a JSON object. Without --log, clients that were turned away
+are reported once a minute.
 
   0.002117 127.0.0.1:40312 connected
   0.002305 127.0.0.1:40312 RegisterSession: success
   0.002377 127.0.0.1:40312 SendRRData Forward_Open class 6 instance 1: success
   0.002462 127.0.0.1:40312 UnRegisterSession: no answer
-  0.002481 127.0.0.1:40312 disconnected
+  0.002481 127.0.0.1:40312 disconnected: session unregistered
 
 Examples:
   enip serve demo.toml 127.0.0.1
@@ -92,6 +96,7 @@ For exit statuses, see `enip --help`.";
 
 pub(crate) const EXAMPLES_CHECK: &str = "\
 Examples:
+  enip check --example >device.toml
   enip check demo.toml
   enip check demo.toml && enip serve demo.toml 127.0.0.1";
 
@@ -117,6 +122,7 @@ If the configuration is refused, standard error has the reason, in which line it
 is, and `configuration N`. `enip --help` lists the meanings of N.
 
 Examples:
+  enip check --example >device.toml
   enip check demo.toml
   enip check demo.toml && enip serve demo.toml 127.0.0.1
 
@@ -180,6 +186,10 @@ Output:
   refused 0xGG           the device refused: the general status
   refused 0xGG 0xEEEE    the same, with the first additional status word
 
+With --json it is an object instead: `status` 0 and `data`, the data of the
+reply; or for a refusal, `status` and `extended`, the first additional status
+word or 0.
+
 With --once, the device executes the command once, whatever connections break,
 if it has a command ledger. FILE keeps the command until the device has
 answered: exit status 0 or 6. After any other status the same command line goes
@@ -195,12 +205,13 @@ Examples:
 For exit statuses, see `enip --help`.";
 
 pub(crate) const USAGE_CALL: &str = "\
-enip call [OPTIONS] <ADDRESS> <SERVICE> <CLASS> <INSTANCE> [HEX]
+enip call [OPTIONS] <ADDRESS> <SERVICE> <CLASS> <INSTANCE> [HEX]...
        enip call <ADDRESS> --once <FILE> <--pending|--abandon>";
 
 pub(crate) const EXAMPLES_CALL: &str = "\
 Examples:
   enip call 127.0.0.1 50 100 1 05000000
+  enip call 127.0.0.1 50 100 1 --as UDINT --reply-as UDINT 5
   enip call 127.0.0.1 51 100 1 --connected
   enip call 127.0.0.1 50 100 1 05000000 --once commands";
 
@@ -211,12 +222,14 @@ own.
 Output:
 
   hex                    the data of the reply, least significant byte first
+  values                 the same with --reply-as
   ok                     the reply has no data
   refused 0xGG           the device refused: the general status
   refused 0xGG 0xEEEE    the same, with the first additional status word
 
-With --json it is an object instead: `status` 0 and `data`; or for a refusal,
-`status` and `extended`, the first additional status word or 0.
+With --json it is an object instead: `status` 0 and `data`, and with --reply-as
+`type` and `values`; or for a refusal, `status` and `extended`, the first
+additional status word or 0.
 
 With --once, the device executes the command once, whatever connections break,
 if it has a command ledger. FILE keeps the command until the device has
@@ -227,12 +240,88 @@ Examples:
   enip call 127.0.0.1 50 100 1 05000000
       calls service 50 (0x32) of class 100, instance 1, with the data
       05 00 00 00; the demo device adds 5 to its counter
+  enip call 127.0.0.1 50 100 1 --as UDINT --reply-as UDINT 5
+      the same, and prints the new count as a number
   enip call 127.0.0.1 51 100 1 --connected
       calls service 51 (0x33) on a class 3 connection; the demo device sets its
       counter to 0
   enip call 127.0.0.1 50 100 1 05000000 --once commands
       adds 5 exactly once, however often this line is run until it succeeds; the
       device needs a command ledger
+
+For exit statuses, see `enip --help`.";
+
+pub(crate) const EXAMPLES_BATCH: &str = "\
+Examples:
+  enip batch 10.0.0.9 <requests.txt
+  echo 'get identity 1 name --as SHORT_STRING' | enip batch 10.0.0.9";
+
+pub(crate) const DETAILS_BATCH: &str = "\
+Reads requests from standard input, one a line, and sends them in one session,
+with --connected on one connection. A line is `get`, `set` or `call` with the
+arguments of that command, without ADDRESS:
+
+  # set a speed, then read it back
+  set 768 1 1 --as UINT 1500
+  get 768 1 1 --as UINT
+  call add counter 1 05000000
+
+A word in quotation marks may contain spaces. `#` begins a comment.
+
+Each reply is one line on standard output, in the order of the requests. If a
+request is refused, the line is `refused 0xGG`, and standard error has the
+reason with the number of the line. A line that is not a request prints nothing,
+and is reported in the same way. The rest of the input continues, unless you
+pass --stop.
+
+The exit status is 4 if a line is not a request, otherwise that of the first
+request that failed.
+
+Examples:
+  enip batch 10.0.0.9 <requests.txt
+  echo 'get identity 1 name --as SHORT_STRING' | enip batch 10.0.0.9
+
+For exit statuses, see `enip --help`.";
+
+pub(crate) const EXAMPLES_WATCH: &str = "\
+Examples:
+  enip watch 10.0.0.9 '4 100 3' 'counter 1 value --as UDINT'
+  enip watch 10.0.0.9 '768 1 1 --as UINT' --every 0.1 --connected";
+
+pub(crate) const DETAILS_WATCH: &str = "\
+Reads the attributes in rounds, in one session, with --connected on one
+connection. Each REQUEST is one argument: the arguments of `enip get` without
+ADDRESS, such as 'counter 1 value --as UDINT'.
+
+On a terminal, a table shows the values. Elsewhere, a line is printed for each
+value that differs from the one before: the seconds since the start, REQUEST and
+the value. With --json, each line is an object.
+
+A device that is lost is tried again after the time of --timeout.
+
+Examples:
+  enip watch 10.0.0.9 '4 100 3' 'counter 1 value --as UDINT'
+  enip watch 10.0.0.9 '768 1 1 --as UINT' --every 0.1 --connected
+
+For exit statuses, see `enip --help`.";
+
+pub(crate) const EXAMPLES_INSPECT: &str = "\
+Examples:
+  enip inspect 10.0.0.9
+  enip inspect 10.0.0.9 --json --route 1/0";
+
+pub(crate) const DETAILS_INSPECT: &str = "\
+Reads the attributes of Identity, Message Router, Connection Manager, TCP/IP
+Interface and Ethernet Link, of the counter and the ledger of this product, and
+the data of each assembly. What the device refuses is left out, or printed with
+its status if you pass --verbose.
+
+Assemblies are tried from instance 1 up to the greatest instance of the class,
+at most 1000; up to 255 if the device does not say.
+
+Examples:
+  enip inspect 10.0.0.9
+  enip inspect 10.0.0.9 --json --route 1/0
 
 For exit statuses, see `enip --help`.";
 
@@ -424,6 +513,12 @@ Examples:
 
 For exit statuses, see `enip --help`.";
 
+pub(crate) const ROUTE_DETAILS: &str = "\
+Hops to a device behind routers, such as 1/0,2/10.0.0.7: ADDRESS is
+the first router, and each hop is PORT/LINK, a port of a router and
+the link address of the next node behind it. A link is 0 to 255, as a
+slot, or an address";
+
 pub(crate) const WAIT_DETAILS: &str = "\
 Longest wait for the device: seconds, 0 to 3600, with up to six
 decimals. It applies to connecting and to each read, not to the
@@ -450,10 +545,23 @@ BOOL                     0 or 1
 SINT INT DINT LINT       signed numbers of 1, 2, 4 and 8 bytes
 USINT UINT UDINT ULINT   unsigned numbers of 1, 2, 4 and 8 bytes
 BYTE WORD DWORD LWORD    bit strings, as 0x and hexadecimal digits
-REAL                     a decimal number, inf, -inf or NaN
+REAL LREAL               a decimal number, inf, -inf or NaN
+DATE                     YYYY-MM-DD
+TIME_OF_DAY              hh:mm:ss.mmm
+DATE_AND_TIME            YYYY-MM-DDThh:mm:ss.mmm
+TIME LTIME               a duration, such as 1500ms and 1500us
 SHORT_STRING             up to 255 characters; \\xNN is a byte that is
                          not printable, \\\\ a backslash. In a list,
-                         each is quoted";
+                         each is quoted
+STRING                   the same, up to 65535 characters
+STRING2                  up to 65535 characters of 16 bits; \\uNNNN is
+                         one that is not printable ASCII
+EPATH                    up to 255 words, as hexadecimal digits";
+
+pub(crate) const REPLY_TYPE_DETAILS: &str = "\
+Print the data of the reply as a value of this type, or with [] after
+it, as any number of values, with a space between them. The types are
+those of --as of `enip get`";
 
 pub(crate) const WRITTEN_TYPE_DETAILS: &str = "\
 Take a value of this type, or with [] after it, any number of values,
@@ -464,10 +572,27 @@ SINT INT DINT LINT       signed numbers of 1, 2, 4 and 8 bytes
 USINT UINT UDINT ULINT   unsigned numbers of 1, 2, 4 and 8 bytes
 BYTE WORD DWORD LWORD    bit strings, as 0x and hexadecimal digits, or
                          as decimal numbers
-REAL                     a decimal number, with or without exponent,
+REAL LREAL               a decimal number, with or without exponent,
                          inf, -inf or NaN
-SHORT_STRING             up to 255 characters; \\xNN is a byte, \\\\ a
-                         backslash";
+DATE                     YYYY-MM-DD
+TIME_OF_DAY              hh:mm:ss.mmm
+DATE_AND_TIME            YYYY-MM-DDThh:mm:ss.mmm
+TIME LTIME               a number, with or without ms or us after it
+SHORT_STRING STRING      up to 255 and 65535 characters; \\xNN is a
+                         byte, \\\\ a backslash
+STRING2                  up to 65535 ASCII characters; \\uNNNN is any
+                         character
+EPATH                    up to 255 words, as hexadecimal digits";
+
+pub(crate) const CALLED_TYPE_DETAILS: &str = "\
+Take a value of this type, or with [] after it, any number of values,
+each as one argument. The types are those of --as of `enip set`";
+
+pub(crate) const DATA_DETAILS: &str = "\
+Data in hexadecimal, as one argument; spaces are ignored. Numbers have
+their least significant byte first. With --as, one argument for each
+value. A value that begins with a minus sign and is not a number needs
+`--` before it";
 
 pub(crate) const KEEP_DETAILS: &str = "\
 Keep the state of the device in FILE, an SQLite database, over
@@ -494,7 +619,17 @@ FILE.new are files next to it";
 
 pub(crate) const TRIES_DETAILS: &str = "\
 With --once, try up to N times, each on a new connection, until the
-device answers. 0 is for ever";
+device answers. With --connected and without --once, send the request
+up to N times on the same connection, again after each timeout; the
+device executes it once. 0 is for ever
+
+[default: 3 with --once, 1 without]";
+
+pub(crate) const READ_TRIES_DETAILS: &str = "\
+With --connected, send the request up to N times on the connection,
+again after each timeout. 0 is for ever
+
+[default: 1]";
 
 pub(crate) const PENDING_DETAILS: &str = "\
 With --once, send the pending command of FILE and not the one in the
@@ -505,3 +640,59 @@ With --once, give up the pending command of FILE, which is executed
 once or not at all, and send the one in the arguments as a new
 command. If it is left out, send nothing. If there is no answer, do
 not repeat this line: leave out --abandon";
+
+pub(crate) const MEMBER_DETAILS: &str = "\
+Member of the attribute, 0 to 65535. The request of `get` is then
+Get_Member 0x18, that of `set` Set_Member 0x19";
+
+pub(crate) const CONNECTION_SERIAL_DETAILS: &str = "\
+Connection serial number, 0 to 65535, or auto for one that differs
+from those of other processes of this machine
+
+[default: 1]";
+
+pub(crate) const ORIGINATOR_SERIAL_DETAILS: &str = "\
+Serial number of the originator, 0 to 4294967295, or auto for one from
+the clock
+
+[default: 305419896]";
+
+pub(crate) const SIZE_DETAILS: &str = "\
+Size of an item of the connection in each direction, 10 to 4002: a
+request or a reply and 2 bytes. Over 511 the connection is opened with
+Large_Forward_Open
+
+[default: 500]";
+
+pub(crate) const RPI_DETAILS: &str = "\
+Requested packet interval, 1 to 4294967295
+
+[default: 2000000]";
+
+pub(crate) const MULTIPLIER_DETAILS: &str = "\
+Timeout multiplier, 0 to 7. The device closes the connection if it
+gets nothing for RPI x 4 x 2^N
+
+[default: 0]";
+
+pub(crate) const READ_MULTIPLIER_DETAILS: &str = "\
+Timeout multiplier, 0 to 7. The device closes the connection if it
+gets nothing for RPI x 4 x 2^N
+
+[default: 7 with --every, 0 without]";
+
+pub(crate) const SESSION_MULTIPLIER_DETAILS: &str = "\
+Timeout multiplier, 0 to 7. The device closes the connection if it
+gets nothing for RPI x 4 x 2^N
+
+[default: 7]";
+
+pub(crate) const DEADLINE_DETAILS: &str = "\
+Longest time of the whole command: seconds, 0 to 3600, with up to six
+decimals. It does not bound the resolution of a name. 0 is no limit
+
+[default: none]";
+
+pub(crate) const QUIET_DETAILS: &str = "\
+Print only values on standard output. `ok` is not printed, and a
+refusal is printed on standard error";

@@ -1,5 +1,6 @@
 -- The cases of a call that passes no piece.
-use Rattle.std.proofs.Common.{◌≡◌, Bool, true, false, cond, ◌&&◌, Option, Some, None, Ok, Err, slice_index, refl}
+use Rattle.std.proofs.Common.{◌≡◌, Bool, true, false, cond, ◌&&◌, Option, Some, None, Ok, Err, ℕ, List, [], ◌∷◌, length, slice_index, refl}
+use Rattle.std.specs.Prelude.{nat_le}
 use Rattle.std.proofs.Common.{is_none}
 use Rattle.std.proofs.lemmas.Bool.{and_parts}
 use Rattle.cip_bytes.specs.Numbers.{le}
@@ -18,12 +19,15 @@ use Rattle.enip_client.specs.declared.state.Registration.TheVariants.{Unregister
 use Rattle.enip_client.specs.declared.state.State.{State}
 use Rattle.enip_client.specs.Frames.{unregister_frame}
 use Rattle.enip_client.specs.Calls.{refusal, unless, lending, next_number, awaiting, asking, submits_unless, submitted}
-use Rattle.enip_client.specs.Calls.{after_lending, can_register, can_open, can_ask, can_submit, can_close}
+use Rattle.enip_client.specs.Calls.{after_lending, asks, can_register, can_open, can_ask, can_submit, can_close}
 use Rattle.enip_client.specs.Calls.{is_unconnected, is_connected}
 use Rattle.enip_client.specs.State.{is_not_registered, is_registered, session_in, is_not_opened, is_open, ended}
 use Rattle.enip_client.specs.State.{is_free}
 use Rattle.enip_client.specs.Runs.{Action, frame_lent, after_action, awaited_by, lent_in}
 use Rattle.enip_client.specs.Runs.Action.{Register, Open, Unconnected, Submit, Resend, GiveUp, Close, Unregister}
+use Rattle.enip_client.specs.Runs.Action.{OpenOver, UnconnectedOver, CloseOver}
+use Rattle.enip_client.specs.Frames.{send_request}
+use Rattle.cip_bytes.specs.declared.protocol.TheConstants.{UNCONNECTED_LIMIT}
 
 -- It changes nothing and lends nothing; its frame is lent and its reply is awaited; or it may lend a frame, and awaits
 -- no reply.
@@ -82,17 +86,12 @@ is-free-first s before more is =
     parts false true z e = refl
     parts false false z e = e
 
-pub is-action : (s : State) (a : Action) → IsAction s (awaited_by a) (frame_lent s a) (after_action s a)
-is-action s Register =
-    asks-unless s (Some awaited.Session) (refusal s (can_register s)) awaited.Session _ s.connection_state refl
-    (is-free s (is_not_registered s.registration)) refl
-is-action s Open =
-    asks-unless s (Some awaited.Connection) (refusal s (can_open s)) awaited.Connection _ s.connection_state refl
-    (is-free-first s (is_registered s.registration) (is_not_opened s.connection_state)) refl
-is-action s (Unconnected request) = go (refusal s (can_ask s)) refl (is_unconnected request)
+unconnected-action : (s : State) (request : List ℕ)
+    → IsAction s (Some (awaited.Reply (slice_index request 0))) (lent_in (asks s request)) (after_lending s (asks s request))
+unconnected-action s request = go (refusal s (can_ask s)) refl (is_unconnected request)
   where
     go : (o : Option ClientFault) → refusal s (can_ask s) ≡ o → (b : Bool)
-        → IsAction s (awaited_by (Unconnected request))
+        → IsAction s (Some (awaited.Reply (slice_index request 0)))
         (lent_in (unless o
         (cond b (Ok (asking s (awaited.Reply (slice_index request 0)) request)) (Err faults.Request))))
         (after_lending s
@@ -100,6 +99,15 @@ is-action s (Unconnected request) = go (refusal s (can_ask s)) refl (is_unconnec
     go None is true = Asks _ _ s.connection_state refl (is-free s (is_registered s.registration) is) refl
     go None is false = Stays
     go (Some fault) is b = Stays
+
+pub is-action : (s : State) (a : Action) → IsAction s (awaited_by a) (frame_lent s a) (after_action s a)
+is-action s Register =
+    asks-unless s (Some awaited.Session) (refusal s (can_register s)) awaited.Session _ s.connection_state refl
+    (is-free s (is_not_registered s.registration)) refl
+is-action s Open =
+    asks-unless s (Some awaited.Connection) (refusal s (can_open s)) awaited.Connection _ s.connection_state refl
+    (is-free-first s (is_registered s.registration) (is_not_opened s.connection_state)) refl
+is-action s (Unconnected request) = unconnected-action s request
 is-action s (Submit request) = go (refusal s (can_submit s))
   where
     by : (o : Option Refused)
@@ -118,6 +126,29 @@ is-action s GiveUp = go (is_connected s)
     go true = Sends None s.registration s.connection_state (after_give_up s.originator) refl
     go false = Stays
 is-action s Close =
+    asks-unless s (Some awaited.End) (refusal s (can_close s)) awaited.End _ Closed refl
+    (is-free s (is_open s.connection_state)) refl
+is-action s (OpenOver route) =
+    asks-unless s (Some awaited.Connection) (refusal s (can_open s)) awaited.Connection _ s.connection_state refl
+    (is-free-first s (is_registered s.registration) (is_not_opened s.connection_state)) refl
+is-action s (UnconnectedOver [] request) = unconnected-action s request
+is-action s (UnconnectedOver (byte ∷ route) request) =
+    go (refusal s (can_ask s)) refl
+    (is_unconnected request && nat_le (length (send_request (byte ∷ route) request)) UNCONNECTED_LIMIT)
+  where
+    go : (o : Option ClientFault) → refusal s (can_ask s) ≡ o → (b : Bool)
+        → IsAction s (awaited_by (UnconnectedOver (byte ∷ route) request))
+        (lent_in (unless o
+        (cond b (Ok (asking s (awaited.Routed (slice_index request 0)) (send_request (byte ∷ route) request)))
+        (Err faults.Request))))
+        (after_lending s
+        (unless o
+        (cond b (Ok (asking s (awaited.Routed (slice_index request 0)) (send_request (byte ∷ route) request)))
+        (Err faults.Request))))
+    go None is true = Asks _ _ s.connection_state refl (is-free s (is_registered s.registration) is) refl
+    go None is false = Stays
+    go (Some fault) is b = Stays
+is-action s (CloseOver route) =
     asks-unless s (Some awaited.End) (refusal s (can_close s)) awaited.End _ Closed refl
     (is-free s (is_open s.connection_state)) refl
 is-action s Unregister =

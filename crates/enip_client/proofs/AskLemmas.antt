@@ -24,18 +24,19 @@ use Rattle.enip_client.specs.declared.state.State.{State}
 use Rattle.enip_client.specs.declared.state.Awaited.{Awaited}
 use Rattle.enip_client.specs.declared.state.Awaited.TheVariants as awaited
 use Rattle.enip_client.specs.declared.state.Awaiting.{Awaiting}
-use Rattle.enip_client.specs.Calls.{Lent, after_lending, opens, closes, unregisters, submits, asks}
+use Rattle.enip_client.specs.Calls.{Lent, after_lending, opens_over, closes_over, unregisters, submits, asks_over}
 use Rattle.enip_client.specs.Client.{ClientState, fed, fed_unless, with_state}
 use Rattle.cip_message.specs.Reply.{Reply}
 use Rattle.cip_bytes.specs.Numbers.{number_at}
 use Rattle.enip_client.specs.declared.state.ConnectionState.TheVariants.{Open}
 use Rattle.enip_client.specs.declared.state.Registration.TheVariants as registrations
+use Rattle.cip_route.specs.declared.send.TheConstants.{UNCONNECTED_SEND}
 use Rattle.enip_client.specs.Frames.{open_service}
 use Rattle.cip_bytes.specs.Protocol.{manager_service_number}
 use Rattle.cip_bytes.specs.declared.protocol.ManagerService.TheVariants.{ForwardClose}
-use Rattle.enip_client.specs.Hears.{answered, refuses, accepted, is_answer, is_for_connection, TurnResult, HeardEvent, Answer, turned_to, faulted, session_turn, opening_turn, reply_turn, closing_turn, shaped, answer_to, answer_turn, item_turn, other_turn, hears_awaiting, hears_parsed}
-use Rattle.enip_client.specs.Hears.HeardEvent.{Nothing, Registered, Opened, Replied, Accepted, Closed}
-use Rattle.enip_client.specs.Asking.{AskPhase, Exchange, LONGEST_REPLY, is_awaiting, failed, lends, lends_call, requests, submit_failure, sends_lent, opening, requesting, closing, leaving, goes_on, hears_unless, after_parsed}
+use Rattle.enip_client.specs.Hears.{answered, refuses, accepted, is_answer, is_for_connection, TurnResult, HeardEvent, Answer, turned_to, faulted, session_turn, opening_turn, reply_turn, router_turn, routed_turn, closing_turn, shaped, answer_to, answer_turn, item_turn, other_turn, hears_awaiting, hears_parsed}
+use Rattle.enip_client.specs.Hears.HeardEvent.{Nothing, Registered, Opened, Replied, Accepted, Refused, Closed}
+use Rattle.enip_client.specs.Asking.{AskPhase, Exchange, LONGEST_REPLY, is_awaiting, failed, lends, lends_call, requests_over, submit_failure, sends_lent, opening, requesting, closing, leaving, goes_on, hears_unless, after_parsed}
 use Rattle.enip_client.specs.Asking.AskPhase.{Failed}
 use Rattle.enip_client.specs.AskSteps.{ask_phase_of, step_after, called, next_of, reply_after, IsPerformed, exchange_as, exchange_now, Held, IsAtPhase, ExchangeResult, IsAdvanced}
 
@@ -79,10 +80,22 @@ mild_closing s None healthy = mild_faulted s faults.Malformed
 mild_closing s (Some a) healthy =
     mild_if (a.reply.status == 0) (turned_to (answered s) Closed) (refuses s a.reply) (record { either = inl healthy }) (mild_refuses s a.reply healthy)
 
+mild_router : (s : State) (a : Option Answer) → s.fault ≡ None → Mild (router_turn s a)
+mild_router s None healthy = mild_faulted s faults.Malformed
+mild_router s (Some a) healthy =
+    mild_if (a.reply.status == 0) (faulted s faults.Malformed) (refuses s a.reply)
+    (mild_faulted s faults.Malformed) (mild_refuses s a.reply healthy)
+
+mild_routed : (s : State) (a other : Option Answer) → s.fault ≡ None → Mild (routed_turn s a other)
+mild_routed s (Some a) other healthy = record { either = inl healthy }
+mild_routed s None other healthy = mild_router s other healthy
+
 mild_shaped : (s : State) (w : Awaited) (f : Frame) → s.fault ≡ None → Mild (shaped s w f)
 mild_shaped s awaited.Session f healthy = mild_session s f healthy
 mild_shaped s awaited.Connection f healthy = mild_opening s (answer_to (manager_service_number (open_service s.wants)) f.body) healthy
 mild_shaped s (awaited.Reply service) f healthy = mild_reply s (answer_to service f.body) healthy
+mild_shaped s (awaited.Routed service) f healthy =
+    mild_routed s (answer_to service f.body) (answer_to UNCONNECTED_SEND f.body) healthy
 mild_shaped s awaited.End f healthy = mild_closing s (answer_to (manager_service_number ForwardClose) f.body) healthy
 
 mild_item : (s : State) (r : Result (ℕ × List ℕ) CpfFault) → s.fault ≡ None → Mild (item_turn s r)
@@ -116,7 +129,7 @@ mild_sight s (TooLongHeader h) healthy = mild_faulted s faults.TooLong
 abbrev followed : Exchange → Result (Option Call) AskFault → Exchange
 followed e (Err fault) = failed e fault
 followed e (Ok None) = e
-followed e (Ok (Some call)) = sends_lent e (ask_phase_of (step_after call)) (called call e.state e.request e.connected)
+followed e (Ok (Some call)) = sends_lent e (ask_phase_of (step_after call)) (called e.route call e.state e.request e.connected)
 
 registered_follows : (e : Exchange) (connected : Bool)
     → (if connected then opening e else requesting e)
@@ -143,6 +156,7 @@ follows asked s steps.Requesting (Replied bytes) reply sent =
 follows asked s steps.Requesting (Accepted bytes) reply sent =
     reply_follows (exchange_as asked s (ask_phase_of steps.Requesting) reply sent) bytes (nat_lt LONGEST_REPLY (length bytes)) asked.connected
 follows asked s steps.Opening Opened reply sent = refl
+follows asked s steps.Requesting (Refused status extended) reply sent = refl
 follows asked s steps.Closing Closed reply sent = refl
 follows asked s step heard_event reply sent = refl
 
@@ -183,6 +197,7 @@ own_next steps.Registering false Registered = tt
 own_next steps.Requesting connected (Replied bytes) = own_replied (nat_lt LONGEST_REPLY (length bytes)) connected
 own_next steps.Requesting connected (Accepted bytes) = own_replied (nat_lt LONGEST_REPLY (length bytes)) connected
 own_next steps.Opening connected Opened = tt
+own_next steps.Requesting connected (Refused status extended) = tt
 own_next steps.Closing connected Closed = tt
 own_next step connected heard_event = tt
 
@@ -195,15 +210,15 @@ own_submit (Ok lent) = tt
 own_submit (Err (submit_faults.Client fault)) = tt
 own_submit (Err (submit_faults.Refused why)) = tt
 
-own_requests : (s : State) (request : List ℕ) (connected : Bool) → OwnFault (requests s request connected)
-own_requests s request true = own_submit (submits s request)
-own_requests s request false = own_plainly (asks s request)
+own_requests : (route : List ℕ) (s : State) (request : List ℕ) (connected : Bool) → OwnFault (requests_over route s request connected)
+own_requests route s request true = own_submit (submits s request)
+own_requests route s request false = own_plainly (asks_over route s request)
 
-own_called : (call : Call) (s : State) (request : List ℕ) (connected : Bool) → OwnFault (called call s request connected)
-own_called calls.Open s request connected = own_plainly (opens s)
-own_called calls.Request s request connected = own_requests s request connected
-own_called calls.Close s request connected = own_plainly (closes s)
-own_called calls.Leave s request connected = own_plainly (unregisters s)
+own_called : (route : List ℕ) (call : Call) (s : State) (request : List ℕ) (connected : Bool) → OwnFault (called route call s request connected)
+own_called route calls.Open s request connected = own_plainly (opens_over route s)
+own_called route calls.Request s request connected = own_requests route s request connected
+own_called route calls.Close s request connected = own_plainly (closes_over route s)
+own_called route calls.Leave s request connected = own_plainly (unregisters s)
 
 -- an exchange that failed
 failed_came : (asked : Asked) (sent : List Frame) (old new : Held) (e : Exchange) (fault : AskFault) → IsOwn fault
@@ -393,13 +408,13 @@ pub once_said : (asked : Asked) (step : Step) (piece : List ℕ) (c : ClientStat
     (w v : Option (List ℕ)) (call : Call) (last : ClientState) (said : Result (Unit {0}) AskFault) (r : Result Step AskFault)
     → Once asked step piece c reply heard_event new after → None ≡ new.state.fault
     → Ok (Some call) ≡ next_of step asked.connected heard_event
-    → last ≡ with_state new (after_lending new.state (called call new.state asked.request.now asked.connected))
-    → IsPerformed (called call new.state asked.request.now asked.connected) w v said
+    → last ≡ with_state new (after_lending new.state (called asked.route.now call new.state asked.request.now asked.connected))
+    → IsPerformed (called asked.route.now call new.state asked.request.now asked.connected) w v said
     → r ≡ said_step (step_after call) said
     → IsAdvanced asked step piece (record { client = c; written = w; reply = reply }) (record { client = last; written = v; reply = after }) r
 once_said asked step piece c reply heard_event new after w v call last said r o none next is wrote gives =
     let old : Held = record { client = c; written = w; reply = reply } in
-    let lent : Result Lent AskFault = called call new.state asked.request.now asked.connected in
+    let lent : Result Lent AskFault = called asked.route.now call new.state asked.request.now asked.connected in
     let made : ClientState = record { state = after_lending new.state lent; held = new.held } in
     record {
       bytes = ap (λ x. x.held) is ∙ ap (λ x. x.held) (once_client asked step piece c reply heard_event new after o);
@@ -407,7 +422,7 @@ once_said asked step piece c reply heard_event new after w v call last said r o 
           let path = once_followed asked step piece c reply heard_event new after sent o (sym none)
           ∙ ap (followed (exchange_as asked new.state (ask_phase_of step) after sent)) (sym next) in
           let came = said_came asked sent new.state new.held (ask_phase_of step) after w v old (step_after call) lent said
-          (own_called call new.state asked.request.now asked.connected) refl wrote in
+          (own_called asked.route.now call new.state asked.request.now asked.connected) refl wrote in
           subst (λ x. ExchangeResult asked sent old (record { client = x; written = v; reply = after })
           (after_parsed (exchange_now asked step old sent) (parsed (held_and_taken c.held piece))) r) (sym is)
           (subst (ExchangeResult asked sent old (record { client = made; written = v; reply = after })

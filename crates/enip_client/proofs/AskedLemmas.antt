@@ -21,7 +21,7 @@ use Rattle.enip_client.specs.Frames.{register_frame}
 use Rattle.enip_client.specs.Calls.{Lent, lending, unless, refusal, can_register, next_number, awaiting, registers, bytes_lent, after_lending}
 use Rattle.enip_client.specs.Client.{ClientState, with_state, IsBetween}
 use Rattle.enip_client.specs.Hears.{hears_parsed}
-use Rattle.enip_client.specs.Asking.{AskPhase, Exchange, is_awaiting, failed, lends_call, sends_lent, begun, after_turn, after_parsed, at_last, over, AllAwaited, Heard, IsPartial, Writes, Ends, Asking, IsAwaiting, IsAsked}
+use Rattle.enip_client.specs.Asking.{AskPhase, Exchange, is_awaiting, failed, lends_call, sends_lent, begun_over, after_turn, after_parsed, at_last, over, AllAwaited, Heard, IsPartial, Writes, Ends, AskingOver, IsAwaiting, IsAskedOver}
 use Rattle.enip_client.specs.Asking.AskPhase.{Registering, Completed, Failed}
 use Rattle.enip_client.specs.AskSteps.{ask_phase_of, exchange_as, exchange_now, Held, IsAtPhase, ExchangeResult, Hears, IsPieceFed, IsAwaited, IsRead, FailsWithin}
 use Rattle.enip_client.proofs.HearingLemmas.{hears_none, heard_of, parts_on, came_more}
@@ -73,7 +73,7 @@ abbrev pub held_in : Ends → Held
 held_in e = record { client = e.client; written = e.written; reply = e.reply }
 
 abbrev pub begins_at : Asked → Ends → Exchange
-begins_at asked old = begun old.client.state asked.request.now asked.connected old.reply
+begins_at asked old = begun_over asked.route.now old.client.state asked.request.now asked.connected old.reply
 
 -- The result of what was read.
 pub record Come (asked : Asked) (old new : Ends) (r : Result Step AskFault) : Type 0 where
@@ -130,7 +130,7 @@ came_reply asked sent old new e (Err (ask_faults.Client fault)) p = stands_reply
 came_reply asked sent old new e (Err (ask_faults.Submit why)) p = stands_reply asked sent old new (Failed (ask_faults.Submit why)) e p
 
 abbrev asking_of : (asked : Asked) (old new : Ends) (r : Result Step AskFault) → Come asked old new r
-    → Asking asked.request.now asked.connected old new
+    → AskingOver asked.route.now asked.request.now asked.connected old new
 asking_of asked old new r c = record {
   exchange = c.exchange;
   fed = c.fed;
@@ -148,7 +148,7 @@ stands_writes asked old new ask_phase e p =
 
 -- a piece ended the exchange
 pub asked_fault : (asked : Asked) (old new : Ends) (fault : AskFault) → Come asked old new (Err fault)
-    → IsAsked asked.request.now asked.connected old new (Err fault)
+    → IsAskedOver asked.route.now asked.request.now asked.connected old new (Err fault)
 asked_fault asked old new ask_faults.Write c = (
   asking_of asked old new (Err ask_faults.Write) c,
   record {
@@ -183,7 +183,7 @@ completed steps.Closing ended = let no : true ≡ false = ended in cc
 
 -- the exchange was completed
 pub asked_done : (asked : Asked) (old new : Ends) (step : Step) → Come asked old new (Ok step) → is_awaiting (ask_phase_of step) ≡ false
-    → IsAsked asked.request.now asked.connected old new (Ok tt)
+    → IsAskedOver asked.route.now asked.request.now asked.connected old new (Ok tt)
 asked_done asked old new step c ended = (
   asking_of asked old new (Ok step) c,
   ap (λ x. x.ask_phase) c.came.exchange ∙ completed step ended,
@@ -216,7 +216,7 @@ awaiting_of asked step old new c waits =
 -- a read gave no byte
 pub asked_read : (asked : Asked) (step : Step) (old mid : Ends) (left : Option (List ℕ)) (reads : ℕ) (into : List ℕ) (fault : AskFault)
     → Come asked old mid (Ok step) → is_awaiting (ask_phase_of step) ≡ true → IsRead mid.left left mid.reads reads into (Err fault)
-    → IsAsked asked.request.now asked.connected old (read_on mid left reads) (Err fault)
+    → IsAskedOver asked.route.now asked.request.now asked.connected old (read_on mid left reads) (Err fault)
 asked_read asked step old mid left reads into ask_faults.Ended c waits is =
     let s : Come asked old (read_on mid left reads) (Ok step) = still asked step old mid left reads c is.0 in (
       asking_of asked old (read_on mid left reads) (Ok step) s,

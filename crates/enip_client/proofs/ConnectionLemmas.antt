@@ -1,6 +1,7 @@
 -- The client's connection is an originator's.
 use Rattle.std.proofs.Common.{◌≡◌, ℕ, ◌+◌, ◌%◌, ◌<◌, ◌^◌, Bool, true, false, cond, Option, Some, None, Result, Ok}
-use Rattle.std.proofs.Common.{Err, List, [], ◌∷◌, drop, slice_index, refl, sym, ap, subst, ◌∙◌, arith}
+use Rattle.std.specs.Prelude.{nat_le}
+use Rattle.std.proofs.Common.{Err, List, [], ◌∷◌, ◌&&◌, length, drop, slice_index, refl, sym, ap, subst, ◌∙◌, arith}
 use Rattle.std.proofs.lemmas.Bool.{and_parts, eqb-true}
 use Rattle.cip_class3.proofs.Counts.{first_refusal-none}
 use Rattle.cip_class3.specs.Calls as originators
@@ -34,6 +35,9 @@ use Rattle.enip_client.specs.Runs.{frames_submitted, ItemsFrom, Exchange, Reques
 use Rattle.enip_client.specs.Runs.{heard_before, exchanges}
 use Rattle.enip_client.specs.Runs.{RepliedOnce}
 use Rattle.enip_client.specs.Runs.Action.{Register, Open, Unconnected, Submit, Resend, GiveUp, Close, Unregister}
+use Rattle.enip_client.specs.Runs.Action.{OpenOver, UnconnectedOver, CloseOver}
+use Rattle.enip_client.specs.Frames.{send_request}
+use Rattle.cip_bytes.specs.declared.protocol.TheConstants.{UNCONNECTED_LIMIT}
 use Rattle.enip_client.proofs.TurnLemmas.{IsTurn, Ignores, Fails, Answers, Receives, is-turn}
 use Rattle.enip_client.proofs.RunLemmas.{state-calls, by-turns}
 
@@ -100,6 +104,16 @@ originator-action s (Submit request) = allows s request s.fault refl (is_open s.
 originator-action s Resend = resent s (is_connected s)
 originator-action s GiveUp = gives s (is_connected s)
 originator-action s Close = kept s (refusal s (can_close s)) (Ok _) refl
+originator-action s (OpenOver route) = kept s (refusal s (can_open s)) (Ok _) refl
+originator-action s (UnconnectedOver [] request) =
+    kept s (refusal s (can_ask s)) _
+    (asked-kept s (is_unconnected request) (asking s (awaited.Reply (slice_index request 0)) request) refl)
+originator-action s (UnconnectedOver (byte ∷ route) request) =
+    kept s (refusal s (can_ask s)) _
+    (asked-kept s
+    (is_unconnected request && nat_le (length (send_request (byte ∷ route) request)) UNCONNECTED_LIMIT)
+    (asking s (awaited.Routed (slice_index request 0)) (send_request (byte ∷ route) request)) refl)
+originator-action s (CloseOver route) = kept s (refusal s (can_close s)) (Ok _) refl
 originator-action s Unregister = kept s (refusal s (can_ask s)) (Ok _) refl
 
 originator-turn : {s : State} {o : Option (List ℕ)} {t : TurnResult} → IsTurn s o t
@@ -225,6 +239,14 @@ items-from (Act GiveUp ∷ calls) c n is =
     items-from calls (after_call c (Act GiveUp)) n (next-gives c.state (is_connected c.state) ∙ is)
 items-from (Act Close ∷ calls) c n is =
     items-from calls (after_call c (Act Close)) n (ap next_in (originator-action c.state Close) ∙ is)
+items-from (Act (OpenOver route) ∷ calls) c n is =
+    items-from calls (after_call c (Act (OpenOver route))) n (ap next_in (originator-action c.state (OpenOver route)) ∙ is)
+items-from (Act (UnconnectedOver route request) ∷ calls) c n is =
+    items-from calls (after_call c (Act (UnconnectedOver route request))) n
+    (ap next_in (originator-action c.state (UnconnectedOver route request)) ∙ is)
+items-from (Act (CloseOver route) ∷ calls) c n is =
+    items-from calls (after_call c (Act (CloseOver route))) n
+    (ap next_in (originator-action c.state (CloseOver route)) ∙ is)
 items-from (Act Unregister ∷ calls) c n is =
     items-from calls (after_call c (Act Unregister)) n (ap next_in (originator-action c.state Unregister) ∙ is)
 items-from (Feed piece ∷ calls) c n is = items-from calls (after_call c (Feed piece)) n (next-piece c piece ∙ is)
@@ -308,6 +330,7 @@ unheard what (Replied bytes) later to = refl
 unheard awaited.Session (Accepted bytes) later to = absurd to
 unheard awaited.Connection (Accepted bytes) later to = absurd to
 unheard (awaited.Reply service) (Accepted bytes) later to = absurd to
+unheard (awaited.Routed service) (Accepted bytes) later to = absurd to
 unheard awaited.End (Accepted bytes) later to = absurd to
 unheard what (HeardEvent.Refused status extended) later to = refl
 unheard what Closed later to = refl
@@ -351,6 +374,16 @@ replied-from (Act GiveUp ∷ calls) c =
 replied-from (Act Close ∷ calls) c =
     kept-once c.state (after_action c.state Close) _ (originator-action c.state Close)
     (replied-from calls (after_call c (Act Close)))
+replied-from (Act (OpenOver route) ∷ calls) c =
+    kept-once c.state (after_action c.state (OpenOver route)) _ (originator-action c.state (OpenOver route))
+    (replied-from calls (after_call c (Act (OpenOver route))))
+replied-from (Act (UnconnectedOver route request) ∷ calls) c =
+    kept-once c.state (after_action c.state (UnconnectedOver route request)) _
+    (originator-action c.state (UnconnectedOver route request))
+    (replied-from calls (after_call c (Act (UnconnectedOver route request))))
+replied-from (Act (CloseOver route) ∷ calls) c =
+    kept-once c.state (after_action c.state (CloseOver route)) _ (originator-action c.state (CloseOver route))
+    (replied-from calls (after_call c (Act (CloseOver route))))
 replied-from (Act Unregister ∷ calls) c =
     kept-once c.state (after_action c.state Unregister) _ (originator-action c.state Unregister)
     (replied-from calls (after_call c (Act Unregister)))

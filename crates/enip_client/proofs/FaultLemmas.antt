@@ -13,6 +13,7 @@ use Rattle.enip_client.specs.Runs.{Action, Call, Act, Feed, after_action, frame_
 use Rattle.enip_client.specs.Runs.{heard_events_of_call}
 use Rattle.enip_client.specs.Runs.{after_calls, frames_lent, heard_events_of_calls, frame_before, heard_events_before, lent_in}
 use Rattle.enip_client.specs.Runs.Action.{Register, Open, Unconnected, Submit, Resend, GiveUp, Close, Unregister}
+use Rattle.enip_client.specs.Runs.Action.{OpenOver, UnconnectedOver, CloseOver}
 
 module _ (s : State) (fault : ClientFault) (lasts : s.fault ≡ Some fault) where
   refused : (possible : Bool) → refusal s possible ≡ Some fault
@@ -59,6 +60,10 @@ module _ (s : State) (fault : ClientFault) (lasts : s.fault ≡ Some fault) wher
   action-same Resend = refl
   action-same GiveUp = not-then _ s
   action-same Close = ap (after_lending s) close-fault
+  action-same (OpenOver route) = ap (after_lending s) (refused-by (can_open s) _)
+  action-same (UnconnectedOver [] request) = ap (after_lending s) (ask-fault request)
+  action-same (UnconnectedOver (byte ∷ route) request) = ap (after_lending s) (refused-by (can_ask s) _)
+  action-same (CloseOver route) = ap (after_lending s) (refused-by (can_close s) _)
   action-same Unregister = ap (after_lending s) unregister-fault
 
   action-none : (a : Action) → frame_lent s a ≡ None
@@ -69,6 +74,10 @@ module _ (s : State) (fault : ClientFault) (lasts : s.fault ≡ Some fault) wher
   action-none Resend = resend-fault
   action-none GiveUp = refl
   action-none Close = ap lent_in close-fault
+  action-none (OpenOver route) = ap lent_in (refused-by (can_open s) _)
+  action-none (UnconnectedOver [] request) = ap lent_in (ask-fault request)
+  action-none (UnconnectedOver (byte ∷ route) request) = ap lent_in (refused-by (can_ask s) _)
+  action-none (CloseOver route) = ap lent_in (refused-by (can_close s) _)
   action-none Unregister = ap lent_in unregister-fault
 
 pub fed-fault : (c : ClientState) (fault : ClientFault) (piece : List ℕ) → c.state.fault ≡ Some fault

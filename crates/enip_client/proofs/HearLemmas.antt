@@ -11,7 +11,7 @@ use Rattle.enip_wire.specs.Bodies.{unit_body_of}
 use Rattle.enip_client.specs.declared.hearing.Found.TheVariants as founds
 use Rattle.enip_client.specs.declared.state.State.{State}
 use Rattle.enip_client.specs.Client.{LiesAt, IsHeard}
-use Rattle.enip_client.specs.Hears.{Answer, answered, reply_turn, is_for_connection, other_turn}
+use Rattle.enip_client.specs.Hears.{Answer, answered, reply_turn, routed_turn, is_for_connection, other_turn}
 use Rattle.enip_client.specs.Hears.HeardEvent.{Replied, Accepted}
 use Rattle.enip_client.proofs.PlaceLemmas.{frame_place}
 
@@ -25,6 +25,15 @@ reply_heard s f a found is at eight =
       heard_event = ap Replied p.1;
       within = (omega arith, p.0);
     })
+
+-- The device's own reply to a request over a route.
+pub routed_heard : (s : State) (f : Frame) (a : Answer) (found other : Option Answer) → found ≡ Some a
+    → LiesAt 16 a.bytes f.body
+    → length f.header.context ≡ 8
+    → IsHeard f (answered s) (founds.Reply 40 (40 + length a.bytes)) (routed_turn s found other)
+routed_heard s f a found other is at eight =
+    subst (λ x. IsHeard f (answered s) (founds.Reply 40 (40 + length a.bytes)) (routed_turn s x other)) (sym is)
+    (reply_heard s f a (Some a) refl at eight)
 
 reply_long : (size : ℕ) (phase : Phase) (item : List ℕ) → is_reply size phase item ≡ true → 6 ≤ length item
 reply_long size Idle item so = grind (arith, nat_tests)

@@ -29,6 +29,8 @@ use Rattle.cip_bytes.specs.declared.protocol.Command.TheVariants.{SendUnitData}
 use Rattle.cip_bytes.specs.declared.protocol.ManagerService.TheVariants.{ForwardClose}
 use Rattle.enip_client.specs.Hears.{HeardEvent, TurnResult, Answer, turned_to, faulted, answered, hears, hears_awaiting, is_answer}
 use Rattle.enip_client.specs.Hears.{command_awaited, answer_turn, shaped, opening_turn, reply_turn, closing_turn}
+use Rattle.enip_client.specs.Hears.{router_turn, routed_turn}
+use Rattle.cip_route.specs.declared.send.TheConstants.{UNCONNECTED_SEND}
 use Rattle.enip_client.specs.Hears.{other_turn, item_turn, accepted, is_for_connection, answer_to, refuses}
 use Rattle.enip_client.specs.Hears.{answer_in, answer_read}
 use Rattle.enip_client.specs.Hears.HeardEvent.{Nothing}
@@ -79,6 +81,7 @@ not-item s f what is = ap (λ b. cond b (item_of s (unit_body_of f.body)) None) 
     by awaited.Session is = ap (λ n. n == command_number SendUnitData) is
     by awaited.Connection is = ap (λ n. n == command_number SendUnitData) is
     by (awaited.Reply service) is = ap (λ n. n == command_number SendUnitData) is
+    by (awaited.Routed service) is = ap (λ n. n == command_number SendUnitData) is
     by awaited.End is = ap (λ n. n == command_number SendUnitData) is
 
 -- A reply begins with its service.
@@ -168,6 +171,22 @@ module _ (s : State) (f : Frame) (number : ℕ) where
       Answers (waits (awaited.Reply service)) s.registration s.connection_state (HeardEvent.Replied a.bytes) is
       (answer-service service f.body a of)
 
+  router : (service : ℕ) (o : Option Answer) → s.awaiting ≡ Some (waits (awaited.Routed service))
+      → IsTurn s None (router_turn s o)
+  router service None is = Fails faults.Malformed
+  router service (Some a) is = go (a.reply.status == 0)
+    where
+      go : (b : Bool) → IsTurn s None (cond b (faulted s faults.Malformed) (refuses s a.reply))
+      go true = Fails faults.Malformed
+      go false = refused (awaited.Routed service) is (λ status extended. tt) a.reply
+
+  routed : (service : ℕ) (o other : Option Answer) → answer_to service f.body ≡ o
+      → s.awaiting ≡ Some (waits (awaited.Routed service)) → IsTurn s None (routed_turn s o other)
+  routed service None other of is = router service other is
+  routed service (Some a) other of is =
+      Answers (waits (awaited.Routed service)) s.registration s.connection_state (HeardEvent.Replied a.bytes) is
+      (answer-service service f.body a of)
+
   session : (b : Bool) → s.awaiting ≡ Some (waits awaited.Session)
       → IsTurn s None
       (cond b (turned_to
@@ -181,6 +200,8 @@ module _ (s : State) (f : Frame) (number : ℕ) where
   shape awaited.Session is = session (length f.body == 4) is
   shape awaited.Connection is = opening (answer_to (manager_service_number (open_service s.wants)) f.body) is
   shape (awaited.Reply service) is = reply service (answer_to service f.body) refl is
+  shape (awaited.Routed service) is =
+      routed service (answer_to service f.body) (answer_to UNCONNECTED_SEND f.body) refl is
   shape awaited.End is = closing (answer_to (manager_service_number ForwardClose) f.body) is
 
   answer-turn : (what : Awaited) → s.awaiting ≡ Some (waits what) → IsTurn s None (answer_turn s what f)

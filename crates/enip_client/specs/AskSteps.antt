@@ -15,12 +15,12 @@ use Rattle.enip_client.specs.declared.step.Asked.{Asked}
 use Rattle.enip_client.specs.declared.step.Progress.{Progress}
 use Rattle.enip_client.specs.declared.fault.ClientFault.TheVariants as faults
 use Rattle.enip_client.specs.declared.state.State.{State}
-use Rattle.enip_client.specs.Calls.{Lent, opens, closes, unregisters}
+use Rattle.enip_client.specs.Calls.{Lent, opens_over, closes_over, unregisters}
 use Rattle.enip_client.specs.Client.{ClientState}
 use Rattle.enip_client.specs.Hears.{HeardEvent}
 use Rattle.enip_client.specs.Hears.HeardEvent.{Registered, Opened, Replied, Accepted, Refused, Closed}
 use Rattle.enip_client.specs.Asking.{AskPhase, Exchange, Heard, LONGEST_REPLY, is_awaiting, over, AllAwaited, IsPartial}
-use Rattle.enip_client.specs.Asking.{lends_call, requests, after_parsed}
+use Rattle.enip_client.specs.Asking.{lends_call, requests_over, after_parsed}
 use Rattle.enip_client.specs.Asking.AskPhase.{Registering, Opening, Requesting, Closing, Completed, Failed}
 
 abbrev pub ask_phase_of : Step → AskPhase
@@ -38,11 +38,11 @@ step_after calls.Close = steps.Closing
 step_after calls.Leave = steps.Completed
 
 -- What a call lends.
-abbrev pub called : Call → State → List ℕ → Bool → Result Lent AskFault
-called calls.Open s request connected = lends_call (opens s)
-called calls.Request s request connected = requests s request connected
-called calls.Close s request connected = lends_call (closes s)
-called calls.Leave s request connected = lends_call (unregisters s)
+abbrev pub called : List ℕ → Call → State → List ℕ → Bool → Result Lent AskFault
+called route calls.Open s request connected = lends_call (opens_over route s)
+called route calls.Request s request connected = requests_over route s request connected
+called route calls.Close s request connected = lends_call (closes_over route s)
+called route calls.Leave s request connected = lends_call (unregisters s)
 
 -- The call that follows a reply, unless it is too long.
 abbrev pub next_replied : Bool → List ℕ → Result (Option Call) AskFault
@@ -60,6 +60,8 @@ next_of steps.Opening connected (Refused status extended) =
     Err (ask_faults.Client (faults.Refused status extended))
 next_of steps.Requesting connected (Replied bytes) = next_replied connected bytes
 next_of steps.Requesting connected (Accepted bytes) = next_replied connected bytes
+next_of steps.Requesting connected (Refused status extended) =
+    Err (ask_faults.Client (faults.Refused status extended))
 next_of steps.Closing connected Closed = Ok (Some calls.Leave)
 next_of steps.Closing connected (Refused status extended) =
     Err (ask_faults.Client (faults.Refused status extended))
@@ -95,6 +97,7 @@ IsPerformed (Err why) before after (Err fault) = (fault ≡ why) × Appends befo
 -- The exchange, as the code holds it.
 abbrev pub exchange_as : Asked → State → AskPhase → List ℕ → List Frame → Exchange
 exchange_as asked s ask_phase reply sent = record {
+  route = asked.route.now;
   request = asked.request.now;
   connected = asked.connected;
   state = s;

@@ -14,7 +14,7 @@ use Rattle.enip_client.specs.declared.fault.ClientFault.TheVariants as faults
 use Rattle.enip_client.specs.declared.fault.SubmitFault.{SubmitFault}
 use Rattle.enip_client.specs.declared.fault.SubmitFault.TheVariants as submit_faults
 use Rattle.enip_client.specs.declared.state.State.{State}
-use Rattle.enip_client.specs.Calls.{Lent, registers, opens, asks, submits, closes, unregisters}
+use Rattle.enip_client.specs.Calls.{Lent, registers, opens_over, asks_over, asks, submits, closes_over, unregisters}
 use Rattle.enip_client.specs.Client.{ClientState}
 use Rattle.enip_client.specs.Hears.{TurnResult, HeardEvent, hears_parsed}
 use Rattle.enip_client.specs.Hears.HeardEvent.{Registered, Opened, Replied, Accepted, Refused, Closed}
@@ -40,9 +40,10 @@ is_awaiting Closing = true
 is_awaiting Completed = false
 is_awaiting (Failed fault) = false
 
--- An exchange: its request, whether it goes on a connection, the state of the client, the frames that it sent, the
--- reply that was heard, and the phase of the exchange.
+-- An exchange: its route, its request, whether it goes on a connection, the state of the client, the frames that it sent,
+-- the reply that was heard, and the phase of the exchange.
 pub record Exchange : Type 0 where
+  pub route : List ℕ
   pub request : List ℕ
   pub connected : Bool
   pub state : State
@@ -74,19 +75,24 @@ abbrev pub requests : State → List ℕ → Bool → Result Lent AskFault
 requests s request connected =
     if connected then lends submit_failure (submits s request) else lends_call (asks s request)
 
+-- The same over a route. A connection is opened and closed over it.
+abbrev pub requests_over : List ℕ → State → List ℕ → Bool → Result Lent AskFault
+requests_over route s request connected =
+    if connected then lends submit_failure (submits s request) else lends_call (asks_over route s request)
+
 -- The frame that a call lends is sent, and its reply is awaited. A call that is refused ends the exchange.
 abbrev pub sends_lent : Exchange → AskPhase → Result Lent AskFault → Exchange
 sends_lent e next (Ok lent) = record e { state = lent.state; sent = e.sent ++ (lent.frame ∷ []); ask_phase = next }
 sends_lent e next (Err fault) = failed e fault
 
 abbrev pub opening : Exchange → Exchange
-opening e = sends_lent e Opening (lends_call (opens e.state))
+opening e = sends_lent e Opening (lends_call (opens_over e.route e.state))
 
 abbrev pub requesting : Exchange → Exchange
-requesting e = sends_lent e Requesting (requests e.state e.request e.connected)
+requesting e = sends_lent e Requesting (requests_over e.route e.state e.request e.connected)
 
 abbrev pub closing : Exchange → Exchange
-closing e = sends_lent e Closing (lends_call (closes e.state))
+closing e = sends_lent e Closing (lends_call (closes_over e.route e.state))
 
 -- The session ends, and the exchange with it: an UnRegisterSession has no reply.
 abbrev pub leaving : Exchange → Exchange
@@ -99,7 +105,7 @@ replied e bytes =
     else if e.connected then closing (record e { reply = bytes })
     else leaving (record e { reply = bytes })
 
--- The Connection Manager refused.
+-- The Connection Manager refused, or a router on the route.
 abbrev pub refused : Exchange → ℕ → ℕ → Exchange
 refused e status extended = failed e (ask_faults.Client (faults.Refused status extended))
 
@@ -110,6 +116,7 @@ goes_on e Opening Opened = requesting e
 goes_on e Opening (Refused status extended) = refused e status extended
 goes_on e Requesting (Replied bytes) = replied e bytes
 goes_on e Requesting (Accepted bytes) = replied e bytes
+goes_on e Requesting (Refused status extended) = refused e status extended
 goes_on e Closing Closed = leaving e
 goes_on e Closing (Refused status extended) = refused e status extended
 goes_on e ask_phase heard = e
@@ -127,9 +134,9 @@ abbrev pub after_parsed : Exchange → Parsed → Exchange
 after_parsed e parsed_frame = if is_awaiting e.ask_phase then after_turn e (hears_parsed e.state parsed_frame) else e
 
 -- The exchange begins by registering a session.
-abbrev pub begun : State → List ℕ → Bool → List ℕ → Exchange
-begun s request connected reply =
-    sends_lent (record { request = request; connected = connected; state = s; sent = []; reply = reply; ask_phase = Registering })
+abbrev pub begun_over : List ℕ → State → List ℕ → Bool → List ℕ → Exchange
+begun_over route s request connected reply =
+    sends_lent (record { route = route; request = request; connected = connected; state = s; sent = []; reply = reply; ask_phase = Registering })
     Registering (lends_call (registers s))
 
 -- The exchange after whole frames.
@@ -193,13 +200,13 @@ ends client left reads written reply =
 
 -- The exchange that was heard. A front of the bytes that were read was fed. What was not fed belongs to the last read,
 -- which gave at most 4,096 bytes and of which at least one byte was fed.
-pub record Asking (request : List ℕ) (connected : Bool) (old new : Ends) : Type 0 where
+pub record AskingOver (route request : List ℕ) (connected : Bool) (old new : Ends) : Type 0 where
   pub exchange : Exchange
   pub fed : List ℕ
   pub rest : List ℕ
   pub few : length rest < 4096
   pub consumed : Consumes old.left new.left (fed ++ rest)
-  pub heard : Heard (begun old.client.state request connected old.reply) old.client.held fed new.client exchange
+  pub heard : Heard (begun_over route old.client.state request connected old.reply) old.client.held fed new.client exchange
   pub reply : new.reply ≡ exchange.reply
 
 -- The exchange awaits a reply, and all that was read was fed.
@@ -207,28 +214,32 @@ pub record IsAwaiting (e : Exchange) (rest : List ℕ) : Type 0 where
   pub ask_phase : is_awaiting e.ask_phase ≡ true
   pub all : rest ≡ []
 
--- What an exchange does, by its result.
+-- What an exchange over a route does, by its result.
+abbrev pub IsAskedOver : List ℕ → List ℕ → Bool → Ends → Ends → Result (Unit {0}) AskFault → Type 0
+IsAskedOver route request connected old new (Ok done) =
+    (a : AskingOver route request connected old new) × (a.exchange.ask_phase ≡ Completed)
+    × Writes old.written new.written a.exchange.sent
+IsAskedOver route request connected old new (Err ask_faults.Read) =
+    (a : AskingOver route request connected old new) × IsAwaiting a.exchange a.rest
+    × Writes old.written new.written a.exchange.sent
+IsAskedOver route request connected old new (Err ask_faults.Write) =
+    (a : AskingOver route request connected old new) × WritesFront old.written new.written a.exchange.sent
+IsAskedOver route request connected old new (Err ask_faults.Ended) =
+    (a : AskingOver route request connected old new) × IsAwaiting a.exchange a.rest × IsAtEnd new.left
+    × Writes old.written new.written a.exchange.sent
+IsAskedOver route request connected old new (Err (ask_faults.Client fault)) =
+    (a : AskingOver route request connected old new) × (a.exchange.ask_phase ≡ Failed (ask_faults.Client fault))
+    × Writes old.written new.written a.exchange.sent
+IsAskedOver route request connected old new (Err (ask_faults.Submit why)) =
+    (a : AskingOver route request connected old new) × (a.exchange.ask_phase ≡ Failed (ask_faults.Submit why))
+    × Writes old.written new.written a.exchange.sent
+IsAskedOver route request connected old new (Err ask_faults.Spent) =
+    (a : AskingOver route request connected old new) × IsAwaiting a.exchange a.rest × (new.reads ≡ 2 ^ 64 - 1)
+    × Writes old.written new.written a.exchange.sent
+
+-- The same without a route.
 abbrev pub IsAsked : List ℕ → Bool → Ends → Ends → Result (Unit {0}) AskFault → Type 0
-IsAsked request connected old new (Ok done) =
-    (a : Asking request connected old new) × (a.exchange.ask_phase ≡ Completed)
-    × Writes old.written new.written a.exchange.sent
-IsAsked request connected old new (Err ask_faults.Read) =
-    (a : Asking request connected old new) × IsAwaiting a.exchange a.rest
-    × Writes old.written new.written a.exchange.sent
-IsAsked request connected old new (Err ask_faults.Write) =
-    (a : Asking request connected old new) × WritesFront old.written new.written a.exchange.sent
-IsAsked request connected old new (Err ask_faults.Ended) =
-    (a : Asking request connected old new) × IsAwaiting a.exchange a.rest × IsAtEnd new.left
-    × Writes old.written new.written a.exchange.sent
-IsAsked request connected old new (Err (ask_faults.Client fault)) =
-    (a : Asking request connected old new) × (a.exchange.ask_phase ≡ Failed (ask_faults.Client fault))
-    × Writes old.written new.written a.exchange.sent
-IsAsked request connected old new (Err (ask_faults.Submit why)) =
-    (a : Asking request connected old new) × (a.exchange.ask_phase ≡ Failed (ask_faults.Submit why))
-    × Writes old.written new.written a.exchange.sent
-IsAsked request connected old new (Err ask_faults.Spent) =
-    (a : Asking request connected old new) × IsAwaiting a.exchange a.rest × (new.reads ≡ 2 ^ 64 - 1)
-    × Writes old.written new.written a.exchange.sent
+IsAsked request connected old new result = IsAskedOver [] request connected old new result
 
 -- If no session can be registered, that is the result, and nothing is read, written or changed.
 abbrev pub IsRefused : Ends → Ends → Result (Unit {0}) AskFault → Type 0

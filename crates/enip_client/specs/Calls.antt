@@ -1,5 +1,5 @@
 -- The calls that lend a frame to send: when each is possible, its frame, and the client after it.
-use Rattle.std.specs.Prelude.{ℕ, ◌+◌, ◌%◌, ◌^◌, ◌&&◌, nat_le, nat_lt, if◌then◌else◌, Bool, false, List, length}
+use Rattle.std.specs.Prelude.{ℕ, ◌+◌, ◌%◌, ◌^◌, ◌&&◌, nat_le, nat_lt, if◌then◌else◌, Bool, false, List, [], ◌∷◌, length}
 use Rattle.std.specs.Prelude.{slice_index, Option, Some, None, option_map, Result, Ok, Err}
 use Rattle.cip_class3.specs.Item.{item}
 use Rattle.cip_class3.specs.OriginatorRule.{submit_refusal, with_next_request, waiting_item, is_waiting}
@@ -15,12 +15,12 @@ use Rattle.enip_client.specs.declared.fault.ClientFault.TheVariants as faults
 use Rattle.enip_client.specs.declared.fault.SubmitFault.{SubmitFault}
 use Rattle.enip_client.specs.declared.fault.SubmitFault.TheVariants as submit_faults
 use Rattle.enip_client.specs.declared.state.Awaited.{Awaited}
-use Rattle.enip_client.specs.declared.state.Awaited.TheVariants.{Session, Connection, Reply, End}
+use Rattle.enip_client.specs.declared.state.Awaited.TheVariants.{Session, Connection, Reply, Routed, End}
 use Rattle.enip_client.specs.declared.state.ConnectionState.TheVariants.{Closed}
 use Rattle.enip_client.specs.declared.state.Registration.TheVariants.{Unregistered}
 use Rattle.enip_client.specs.declared.state.State.{State}
 use Rattle.enip_client.specs.Frames.{register_frame, unregister_frame, request_frame, item_frame, open_request}
-use Rattle.enip_client.specs.Frames.{close_request}
+use Rattle.enip_client.specs.Frames.{close_request, open_request_over, close_request_over, send_request}
 use Rattle.enip_client.specs.State.{is_not_registered, is_registered, session_in, is_not_opened, is_open}
 use Rattle.enip_client.specs.State.{o_to_t_id_in, ended, is_free}
 
@@ -100,6 +100,27 @@ asks s request =
 -- The connection is over once close is called.
 abbrev pub closes : State → Result Lent ClientFault
 closes s = unless (refusal s (can_close s)) (Ok (asking (record s { connection_state = Closed }) End (close_request s.wants)))
+
+-- The same over a route: the segments of its hops, which are empty without a route. An Unconnected_Send takes the
+-- request to the first router, and is at most 504 bytes as well.
+abbrev pub opens_over : List ℕ → State → Result Lent ClientFault
+opens_over route s = unless (refusal s (can_open s)) (Ok (asking s Connection (open_request_over route s.wants)))
+
+abbrev pub asks_routed : List ℕ → State → List ℕ → Result Lent ClientFault
+asks_routed route s request =
+    unless (refusal s (can_ask s))
+    (if is_unconnected request && nat_le (length (send_request route request)) UNCONNECTED_LIMIT
+    then Ok (asking s (Routed (slice_index request 0)) (send_request route request))
+    else Err faults.Request)
+
+abbrev pub asks_over : List ℕ → State → List ℕ → Result Lent ClientFault
+asks_over [] s request = asks s request
+asks_over (byte ∷ route) s request = asks_routed (byte ∷ route) s request
+
+abbrev pub closes_over : List ℕ → State → Result Lent ClientFault
+closes_over route s =
+    unless (refusal s (can_close s))
+    (Ok (asking (record s { connection_state = Closed }) End (close_request_over route s.wants)))
 
 -- The session is over once unregister is called, and the connection with it.
 abbrev pub unregisters : State → Result Lent ClientFault

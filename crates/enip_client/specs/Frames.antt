@@ -14,6 +14,8 @@ use Rattle.cip_message.specs.Request.{request}
 use Rattle.enip_wire.specs.Bodies.{rr_body_bytes, unit_body_bytes}
 use Rattle.enip_wire.specs.Frames.{Frame}
 use Rattle.enip_wire.specs.declared.header.Header.{Header}
+use Rattle.cip_route.specs.Send.{Send, send_bytes}
+use Rattle.cip_route.specs.declared.send.TheConstants.{UNCONNECTED_SEND}
 use Rattle.enip_client.specs.declared.wants.Wants.{Wants}
 
 -- The header of a frame with `size` bytes of data: status 0, options 0, and a number as its context.
@@ -76,10 +78,14 @@ is_large wants = nat_lt LARGEST_FORWARD_OPEN_SIZE wants.o_to_t_size || nat_lt LA
 abbrev pub layout_of : Wants → Layout
 layout_of wants = if is_large wants then large else small
 
--- The fields of an open, with the parameters of both directions. The target chooses the O->T ID. The client is the
--- originator of a class 3 connection.
-abbrev pub asked_by : ℕ → ℕ → Wants → Open
-asked_by o_to_t_parameters t_to_o_parameters wants = record {
+-- The path of a connection to the message router over a route.
+abbrev pub router_over : List ℕ → List ℕ
+router_over route = route ++ message_router
+
+-- The fields of an open, with the path and the parameters of both directions. The target chooses the O->T ID. The client
+-- is the originator of a class 3 connection.
+abbrev pub asked_on : List ℕ → ℕ → ℕ → Wants → Open
+asked_on path o_to_t_parameters t_to_o_parameters wants = record {
   priority_and_tick_time = 0x0a;
   timeout_ticks = 0x0e;
   o_to_t_id = 0;
@@ -93,27 +99,40 @@ asked_by o_to_t_parameters t_to_o_parameters wants = record {
   t_to_o_rpi = wants.rpi;
   t_to_o_parameters = t_to_o_parameters;
   transport = 0xa3;
-  path = message_router;
+  path = path;
 }
 
+abbrev pub open_asked_on : List ℕ → Wants → Open
+open_asked_on path wants = asked_on path (parameters_of wants.o_to_t_size) (parameters_of wants.t_to_o_size) wants
+
+abbrev pub large_asked_on : List ℕ → Wants → Open
+large_asked_on path wants =
+    asked_on path (large_parameters_of wants.o_to_t_size) (large_parameters_of wants.t_to_o_size) wants
+
+-- The same without a route.
 abbrev pub open_asked : Wants → Open
-open_asked wants = asked_by (parameters_of wants.o_to_t_size) (parameters_of wants.t_to_o_size) wants
+open_asked wants = open_asked_on message_router wants
 
 abbrev pub large_asked : Wants → Open
-large_asked wants =
-    asked_by (large_parameters_of wants.o_to_t_size) (large_parameters_of wants.t_to_o_size) wants
+large_asked wants = large_asked_on message_router wants
 
 -- Forward_Open or Large_Forward_Open, in its layout.
 abbrev pub open_service_in : Layout → ManagerService
 open_service_in small = ForwardOpen
 open_service_in large = LargeForwardOpen
 
+abbrev pub open_data_on : List ℕ → Layout → Wants → List ℕ
+open_data_on path small wants = «open» (open_asked_on path wants)
+open_data_on path large wants = large_open (large_asked_on path wants)
+
+abbrev pub open_request_on : List ℕ → Layout → Wants → List ℕ
+open_request_on path layout wants = manager_request (open_service_in layout) (open_data_on path layout wants)
+
 abbrev pub open_data_in : Layout → Wants → List ℕ
-open_data_in small wants = «open» (open_asked wants)
-open_data_in large wants = large_open (large_asked wants)
+open_data_in layout wants = open_data_on message_router layout wants
 
 abbrev pub open_request_in : Layout → Wants → List ℕ
-open_request_in layout wants = manager_request (open_service_in layout) (open_data_in layout wants)
+open_request_in layout wants = open_request_on message_router layout wants
 
 -- A large connection is opened by Large_Forward_Open, any other by Forward_Open.
 abbrev pub open_service : Wants → ManagerService
@@ -122,17 +141,46 @@ open_service wants = open_service_in (layout_of wants)
 abbrev pub open_request : Wants → List ℕ
 open_request wants = open_request_in (layout_of wants) wants
 
+-- The same over a route, whose segments come before the path of the message router.
+abbrev pub open_request_over : List ℕ → Wants → List ℕ
+open_request_over route wants = open_request_on (router_over route) (layout_of wants) wants
+
 -- The connection that a close names.
-abbrev pub close_asked : Wants → Close
-close_asked wants = record {
+abbrev pub close_asked_on : List ℕ → Wants → Close
+close_asked_on path wants = record {
   priority_and_tick_time = 0x0a;
   timeout_ticks = 0x0e;
   connection_serial = wants.connection_serial;
   originator_vendor = wants.originator_vendor;
   originator_serial = wants.originator_serial;
-  path = message_router;
+  path = path;
 }
 
--- Forward_Close.
+abbrev pub close_asked : Wants → Close
+close_asked wants = close_asked_on message_router wants
+
+-- Forward_Close, with the path of the opening.
+abbrev pub close_request_on : List ℕ → Wants → List ℕ
+close_request_on path wants = manager_request ForwardClose (close (close_asked_on path wants))
+
 abbrev pub close_request : Wants → List ℕ
-close_request wants = manager_request ForwardClose (close (close_asked wants))
+close_request wants = close_request_on message_router wants
+
+abbrev pub close_request_over : List ℕ → Wants → List ℕ
+close_request_over route wants = close_request_on (router_over route) wants
+
+-- ---- requests over a route
+
+-- A message that a router gives up after 4 ticks of 2^10 milliseconds (ours).
+abbrev pub routed : List ℕ → List ℕ → Send
+routed route message =
+    record { priority_and_tick_time = 0x0a; timeout_ticks = 4; message = message; route = route }
+
+-- Unconnected_Send: a request of the Connection Manager of the first router.
+abbrev pub send_request : List ℕ → List ℕ → List ℕ
+send_request route message =
+    request (record {
+      service = UNCONNECTED_SEND;
+      path = connection_manager;
+      «data» = send_bytes (routed route message);
+    })

@@ -16,6 +16,7 @@ use Rattle.enip_wire.specs.Stream.{Parsed}
 use Rattle.enip_wire.specs.Stream.Parsed.{Incomplete, WholeFrame, TooLongHeader}
 use Rattle.enip_wire.specs.declared.header.Header.{Header}
 use Rattle.enip_wire.specs.declared.item_list.CpfFault.{CpfFault}
+use Rattle.cip_route.specs.declared.send.TheConstants.{UNCONNECTED_SEND}
 use Rattle.enip_client.specs.Frames.{open_service}
 use Rattle.enip_client.specs.declared.fault.ClientFault.{ClientFault}
 use Rattle.enip_client.specs.declared.fault.ClientFault.TheVariants as faults
@@ -59,6 +60,7 @@ abbrev pub command_awaited : Awaited → Command
 command_awaited awaited.Session = RegisterSession
 command_awaited awaited.Connection = SendRRData
 command_awaited (awaited.Reply service) = SendRRData
+command_awaited (awaited.Routed service) = SendRRData
 command_awaited awaited.End = SendRRData
 
 -- The frame has the command and the context of the awaited reply.
@@ -115,15 +117,27 @@ abbrev pub reply_turn : State → Option Answer → TurnResult
 reply_turn s None = faulted s faults.Malformed
 reply_turn s (Some a) = turned_to (answered s) (Replied a.bytes)
 
+-- What a router answers in place of the device: that it does not pass the request on. A general status of 0 is not such
+-- an answer.
+abbrev pub router_turn : State → Option Answer → TurnResult
+router_turn s None = faulted s faults.Malformed
+router_turn s (Some a) = if a.reply.status == 0 then faulted s faults.Malformed else refuses s a.reply
+
+-- The reply to a request over a route: the device's own reply, or else a router's to the Unconnected_Send.
+abbrev pub routed_turn : State → Option Answer → Option Answer → TurnResult
+routed_turn s (Some a) other = turned_to (answered s) (Replied a.bytes)
+routed_turn s None other = router_turn s other
+
 abbrev pub closing_turn : State → Option Answer → TurnResult
 closing_turn s None = faulted s faults.Malformed
 closing_turn s (Some a) = if a.reply.status == 0 then turned_to (answered s) Closed else refuses s a.reply
 
--- The shape of each awaited reply: 4 bytes of data, or a router's reply to the service of the request.
+-- The shape of each awaited reply: 4 bytes of data, or the message router's reply to the service of the request.
 abbrev pub shaped : State → Awaited → Frame → TurnResult
 shaped s awaited.Session f = session_turn s f
 shaped s awaited.Connection f = opening_turn s (answer_to (manager_service_number (open_service s.wants)) f.body)
 shaped s (awaited.Reply service) f = reply_turn s (answer_to service f.body)
+shaped s (awaited.Routed service) f = routed_turn s (answer_to service f.body) (answer_to UNCONNECTED_SEND f.body)
 shaped s awaited.End f = closing_turn s (answer_to (manager_service_number ForwardClose) f.body)
 
 -- An awaited reply. A status other than 0 is a lasting fault.

@@ -19,7 +19,7 @@ use Rattle.enip_client.specs.declared.state.Awaited.TheVariants as awaited
 use Rattle.enip_client.specs.declared.state.State.{State}
 use Rattle.enip_client.specs.Frames.{item_frame}
 use Rattle.enip_client.specs.Calls.{Lent, registers, opens, asks, submits, resends, closes, unregisters}
-use Rattle.enip_client.specs.Calls.{after_giving_up}
+use Rattle.enip_client.specs.Calls.{after_giving_up, opens_over, asks_over, closes_over}
 use Rattle.enip_client.specs.Calls.{after_lending, is_connected}
 use Rattle.enip_client.specs.Hears.{HeardEvent, hears, faulted, is_for_connection}
 use Rattle.enip_client.specs.Hears.HeardEvent.{Nothing, Registered, Opened, Replied, Accepted, Refused, Closed}
@@ -35,6 +35,9 @@ pub data Action : Type 0 where
   GiveUp : Action
   Close : Action
   Unregister : Action
+  OpenOver : (route : List ℕ) → Action
+  UnconnectedOver : (route request : List ℕ) → Action
+  CloseOver : (route : List ℕ) → Action
 
 -- A call of a client.
 pub data Call : Type 0 where
@@ -56,6 +59,9 @@ frame_lent s Resend = resends s
 frame_lent s GiveUp = None
 frame_lent s Close = lent_in (closes s)
 frame_lent s Unregister = lent_in (unregisters s)
+frame_lent s (OpenOver route) = lent_in (opens_over route s)
+frame_lent s (UnconnectedOver route request) = lent_in (asks_over route s request)
+frame_lent s (CloseOver route) = lent_in (closes_over route s)
 
 -- The state of the client after it.
 abbrev pub after_action : State → Action → State
@@ -67,6 +73,9 @@ after_action s Resend = s
 after_action s GiveUp = after_giving_up s
 after_action s Close = after_lending s (closes s)
 after_action s Unregister = after_lending s (unregisters s)
+after_action s (OpenOver route) = after_lending s (opens_over route s)
+after_action s (UnconnectedOver route request) = after_lending s (asks_over route s request)
+after_action s (CloseOver route) = after_lending s (closes_over route s)
 
 -- The client after a call, the frame that the call lends, and what it hears.
 abbrev pub after_call : ClientState → Call → ClientState
@@ -214,6 +223,10 @@ awaited_by Resend = None
 awaited_by GiveUp = None
 awaited_by Close = Some awaited.End
 awaited_by Unregister = None
+awaited_by (OpenOver route) = Some awaited.Connection
+awaited_by (UnconnectedOver [] request) = Some (awaited.Reply (slice_index request 0))
+awaited_by (UnconnectedOver (byte ∷ route) request) = Some (awaited.Routed (slice_index request 0))
+awaited_by (CloseOver route) = Some awaited.End
 
 -- The context of a frame whose reply is awaited, before others.
 abbrev pub context_before : Option Awaited → Option Frame → List (List ℕ) → List (List ℕ)
@@ -261,12 +274,14 @@ seen_of_calls c (Feed piece ∷ calls) =
     answered_before (fed c piece).heard_event (seen_of_calls (after_call c (Feed piece)) calls)
 
 -- The heard event is a reply to what was awaited. The reply to a request has the service of that request, with bit 7
--- set.
+-- set. Over a route, a router may refuse in its place.
 abbrev pub IsReplyTo : Awaited → HeardEvent → Type 0
 IsReplyTo awaited.Session Registered = ⊤
 IsReplyTo awaited.Connection Opened = ⊤
 IsReplyTo awaited.Connection (Refused status extended) = ⊤
 IsReplyTo (awaited.Reply service) (Replied bytes) = slice_index bytes 0 ≡ reply_service service
+IsReplyTo (awaited.Routed service) (Replied bytes) = slice_index bytes 0 ≡ reply_service service
+IsReplyTo (awaited.Routed service) (Refused status extended) = ⊤
 IsReplyTo awaited.End Closed = ⊤
 IsReplyTo awaited.End (Refused status extended) = ⊤
 IsReplyTo what heard_event = ⊥
@@ -302,6 +317,9 @@ call_of_action s Resend = call_where_connected s originators.Resend
 call_of_action s GiveUp = call_where_connected s originators.GiveUp
 call_of_action s Close = None
 call_of_action s Unregister = None
+call_of_action s (OpenOver route) = None
+call_of_action s (UnconnectedOver route request) = None
+call_of_action s (CloseOver route) = None
 
 abbrev pub call_of_item : Option (List ℕ) → Option originators.OriginatorCall
 call_of_item None = None

@@ -3,13 +3,14 @@
 
 ghost use Rattle.std.specs.Prelude.{◌≡◌, ◌+◌, ◌<◌, ◌≤◌, length, true, None, IfOk, List};
 ghost use Rattle.enip_wire.specs.Frames.{Frame};
-ghost use Rattle.enip_client.specs.Asking.{IsAsked, IsRefused, IsPartial, ends, is_awaiting, read_faults, write_faults};
+ghost use Rattle.enip_client.specs.Asking.{IsAsked, IsAskedOver, IsRefused, IsPartial, ends, is_awaiting, read_faults, write_faults};
 ghost use Rattle.enip_client.specs.AskSteps.{ask_phase_of, IsHealthy, IsPieceFed, IsRead};
 
 use crate::client::Client;
 use crate::fault::AskFault;
 use crate::step::{Asked, Step, advance, send};
 use cip_objects::ReplyBuf;
+use cip_route::Route;
 use enip_wire::{Sink, Source};
 
 /// The greatest number of bytes of one read (ours).
@@ -55,7 +56,53 @@ pub fn ask<R: Source, W: Sink>(
     ensures read_failures { R.failures reader.new ≡ R.failures reader.old + read_faults result }
     ensures write_failures { W.failures writer.new ≡ W.failures writer.old + write_faults result }
 {
-    let asked = Asked { request, connected };
+    ask_over(
+        client,
+        reader,
+        writer,
+        &Route::new(),
+        request,
+        connected,
+        reply,
+    )
+}
+
+/// Does one whole exchange, as `ask` does, with a device at the end of a route. The session is the first router's. A
+/// request without a connection goes in an Unconnected_Send. A connection is opened and closed over the route.
+///
+/// ```
+/// let route = Route::parse(b"1/0")?;
+/// ask_over(&mut client, &mut reader, &mut writer, &route, request, false, &mut reply)?;
+/// ```
+///
+/// # Errors
+///
+/// As for `ask`. It is `Client` with `Refused` as well if a router did not pass the request on.
+pub fn ask_over<R: Source, W: Sink>(
+    client: &mut Client,
+    reader: &mut R,
+    writer: &mut W,
+    route: &Route,
+    request: &[u8],
+    connected: bool,
+    reply: &mut ReplyBuf,
+) -> Result<(), AskFault>
+    requires read_failures { R.failures reader.old < u64.MAX }
+    requires write_failures { W.failures writer.old < u64.MAX }
+    ensures asked { IsAskedOver route.now request.now connected
+        (ends client.old (R.left reader.old) (R.reads reader.old) (W.written writer.old) reply.old.items)
+        (ends client.new (R.left reader.new) (R.reads reader.new) (W.written writer.new) reply.new.items) result }
+    ensures refused { IsRefused
+        (ends client.old (R.left reader.old) (R.reads reader.old) (W.written writer.old) reply.old.items)
+        (ends client.new (R.left reader.new) (R.reads reader.new) (W.written writer.new) reply.new.items) result }
+    ensures read_failures { R.failures reader.new ≡ R.failures reader.old + read_faults result }
+    ensures write_failures { W.failures writer.new ≡ W.failures writer.old + write_faults result }
+{
+    let asked = Asked {
+        route,
+        request,
+        connected,
+    };
     let frame = client.register()?;
     send(frame, writer)?;
     let mut step = Step::Registering;

@@ -18,6 +18,7 @@ use crate::sending::{LONGEST_SENT, Sent};
 use crate::state::{ConnectionState, Registration, State};
 use crate::wants::Wants;
 use cip_class3::{Originator, Stage};
+use cip_route::Route;
 use enip_wire::{FrameReader, Held};
 use std::alloc::Global;
 use std::marker::Model;
@@ -71,6 +72,7 @@ impl Model for Client {
 impl Client {
     ghost use Rattle.enip_client.specs.Client.{new_client, with_state, heard_event_in, IsBetween};
     ghost use Rattle.enip_client.specs.Calls.{registers, opens, asks, submits, closes, unregisters, resends};
+    ghost use Rattle.enip_client.specs.Calls.{opens_over, asks_over, closes_over};
     ghost use Rattle.enip_client.specs.Calls.{gives_up, after_giving_up, stage_in};
     ghost use Rattle.enip_client.specs.State.{is_registered};
     ghost use Rattle.enip_client.specs.contracts.client.Client.{the_row};
@@ -160,6 +162,52 @@ impl Client {
             ≡ with_state self.old (after_lending self.old.state (asks self.old.state request.now)))) }
     {
         self.state.unconnected(request, &mut self.sent)?;
+        Ok(self.sent.as_slice())
+    }
+
+    /// Lends the Forward_Open over a route to send, as `open` does. A route without hops is that of `open`.
+    ///
+    /// # Errors
+    ///
+    /// As for `open`.
+    pub fn open_over(&mut self, route: &Route) -> Result<&[u8], ClientFault>
+        ensures lent { bytes_in result ≡ bytes_lent (opens_over route.now self.old.state) }
+        ensures fits { IfOk result (λ frame. length frame.now ≤ LONGEST_SENT) }
+        ensures* after { sem 𝓛 (Rests the_row self.entry (λ new. new
+            ≡ with_state self.old (after_lending self.old.state (opens_over route.now self.old.state)))) }
+    {
+        self.state.open_over(route, &mut self.sent)?;
+        Ok(self.sent.as_slice())
+    }
+
+    /// Lends the frame of an unconnected request over a route, as `unconnected` does. The reply is that of the device at
+    /// the end of the route, or `Heard::Refused` if a router did not pass the request on.
+    ///
+    /// # Errors
+    ///
+    /// As for `unconnected`. It is `Request` as well if the request is longer than 504 bytes with its route.
+    pub fn unconnected_over(&mut self, route: &Route, request: &[u8]) -> Result<&[u8], ClientFault>
+        ensures lent { bytes_in result ≡ bytes_lent (asks_over route.now self.old.state request.now) }
+        ensures fits { IfOk result (λ frame. length frame.now ≤ LONGEST_SENT) }
+        ensures* after { sem 𝓛 (Rests the_row self.entry (λ new. new
+            ≡ with_state self.old (after_lending self.old.state (asks_over route.now self.old.state request.now)))) }
+    {
+        self.state.unconnected_over(route, request, &mut self.sent)?;
+        Ok(self.sent.as_slice())
+    }
+
+    /// Lends the Forward_Close over the route of the opening to send, as `close` does.
+    ///
+    /// # Errors
+    ///
+    /// As for `close`.
+    pub fn close_over(&mut self, route: &Route) -> Result<&[u8], ClientFault>
+        ensures lent { bytes_in result ≡ bytes_lent (closes_over route.now self.old.state) }
+        ensures fits { IfOk result (λ frame. length frame.now ≤ LONGEST_SENT) }
+        ensures* after { sem 𝓛 (Rests the_row self.entry (λ new. new
+            ≡ with_state self.old (after_lending self.old.state (closes_over route.now self.old.state)))) }
+    {
+        self.state.close_over(route, &mut self.sent)?;
         Ok(self.sent.as_slice())
     }
 

@@ -10,7 +10,7 @@ ghost use Rattle.cip_bytes.specs.Protocol.{manager_service_number};
 ghost use Rattle.enip_client.specs.Frames.{open_service};
 ghost use Rattle.enip_client.specs.Hears.{hears, is_for_connection, is_answer, command_awaited, answer_turn, session_turn};
 ghost use Rattle.enip_client.specs.Hears.{opening_turn, reply_turn, closing_turn, other_turn, refuses, faulted};
-ghost use Rattle.enip_client.specs.Hears.{answer_to, first_word};
+ghost use Rattle.enip_client.specs.Hears.{answer_to, first_word, routed_turn, router_turn};
 
 use crate::fault::ClientFault;
 use crate::sending::open_service;
@@ -19,6 +19,7 @@ use byteorder::{ByteOrder, LittleEndian};
 use cip_bytes::protocol::{Command, ManagerService};
 use cip_class3::Came;
 use cip_message::{ReplyView, reply_service};
+use cip_route::UNCONNECTED_SEND;
 use enip_wire::{FrameView, Header, rr_body, unit_body};
 
 /// What `feed` did with a piece.
@@ -51,7 +52,8 @@ pub enum Heard<'a> {
     Reply(&'a [u8]),
     /// The router's reply to the request that waited on the connection.
     Accepted(&'a [u8]),
-    /// An open or a close was refused: the general status, and the first additional word or 0.
+    /// An open or a close was refused, or a router did not pass a request on: the general status, and the first
+    /// additional word or 0.
     Refused(u8, u16),
     /// The connection is closed.
     Closed,
@@ -155,6 +157,7 @@ impl State {
             Awaited::Session => self.process_register_reply(frame),
             Awaited::Connection => self.process_open_reply(frame),
             Awaited::Reply(service) => self.process_unconnected_reply(service, frame),
+            Awaited::Routed(service) => self.process_routed_reply(service, frame),
             Awaited::End => self.process_close_reply(frame),
         }
     }
@@ -208,6 +211,36 @@ impl State {
             from: REPLY,
             to: REPLY + bytes.len(),
         }
+    }
+
+    /// Processes the reply to an unconnected request of this service over a route: the device's own reply, or a router's.
+    fn process_routed_reply(&mut self, service: u8, frame: FrameView<'_>) -> Found
+        ensures { IsHeard (frame_of frame.entry) self.new result
+            (routed_turn self.old (answer_to service (frame_of frame.entry).body)
+            (answer_to UNCONNECTED_SEND (frame_of frame.entry).body)) }
+    {
+        let Some(Answer { bytes, .. }) = answer_to(service, frame.body) else {
+            return self.process_router_reply(frame);
+        };
+        self.awaiting = None;
+        Found::Reply {
+            from: REPLY,
+            to: REPLY + bytes.len(),
+        }
+    }
+
+    /// Processes the reply of a router that does not pass a request on.
+    fn process_router_reply(&mut self, frame: FrameView<'_>) -> Found
+        ensures { IsHeard (frame_of frame.entry) self.new result
+            (router_turn self.old (answer_to UNCONNECTED_SEND (frame_of frame.entry).body)) }
+    {
+        let Some(Answer { reply, .. }) = answer_to(UNCONNECTED_SEND, frame.body) else {
+            return self.fail(ClientFault::Malformed);
+        };
+        if reply.status == 0 {
+            return self.fail(ClientFault::Malformed);
+        }
+        self.refuse(reply)
     }
 
     /// Processes the reply to a Forward_Close.

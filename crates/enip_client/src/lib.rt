@@ -57,7 +57,7 @@ mod state;
 mod step;
 mod wants;
 
-pub use asking::ask;
+pub use asking::{ask, ask_over};
 pub use client::Client;
 pub use fault::{AskFault, ClientFault, SubmitFault};
 pub use hearing::{Heard, Hearing};

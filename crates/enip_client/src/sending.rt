@@ -1,15 +1,15 @@
 //! The frames that a client sends. (Volume 2, encapsulation commands.)
 //! Text: docs/PROTOCOL.md, "The client".
 
-ghost use Rattle.std.specs.Prelude.{◌≡◌, ℕ, ◌≤◌, length, []};
+ghost use Rattle.std.specs.Prelude.{◌≡◌, ◌↔◌, ℕ, ◌≤◌, ◌+◌, ◌%◌, length, [], IsSome, IfSome};
 ghost use Rattle.arrayvec.specs.ArrayVec.{array_vec_len};
 ghost use Rattle.enip_wire.specs.Headers.{header_spelling};
 ghost use Rattle.enip_wire.specs.Frames.{frame};
 ghost use Rattle.enip_client.specs.Frames.{sent_header, register_frame, unregister_frame};
-ghost use Rattle.enip_client.specs.Frames.{request_frame, item_frame, manager_request, parameters_of, open_request};
+ghost use Rattle.enip_client.specs.Frames.{request_frame, item_frame, manager_request, parameters_of, open_request_over};
 ghost use Rattle.cip_message.specs.Open.{small, large, view_by};
-ghost use Rattle.enip_client.specs.Frames.{close_request, open_service, open_request_in, is_large, large_parameters_of};
-ghost use Rattle.enip_client.specs.Frames.{asked_by, message_router};
+ghost use Rattle.enip_client.specs.Frames.{close_request_over, open_service, open_request_on, is_large};
+ghost use Rattle.enip_client.specs.Frames.{large_parameters_of, asked_on, router_over, send_request};
 
 use crate::wants::Wants;
 use arrayvec::ArrayVec;
@@ -18,6 +18,7 @@ use cip_bytes::protocol::{
     MESSAGE_ROUTER, ManagerService, UNCONNECTED_LIMIT,
 };
 use cip_message::{CloseRequest, LargeParameters, OpenRequest, Parameters, Transport};
+use cip_route::{LONGEST_ROUTE, Route, UNCONNECTED_SEND, UnconnectedSend};
 use enip_wire::{Header, write_rr_body, write_unit_body};
 
 /// The number of bytes of a packet before an unconnected request: interface 4, timeout 2, item count 2, null address 4,
@@ -58,12 +59,25 @@ const POINT_TO_POINT_VARIABLE: u16 = 0x4200;
 /// The same in the parameters of a large connection.
 const LARGE_POINT_TO_POINT_VARIABLE: u32 = 0x4200_0000;
 
+/// Ticks of 1,024 milliseconds after which a router gives a request up (ours): 4.1 seconds, less than a client waits by
+/// default.
+const ROUTE_TIMEOUT_TICKS: u8 = 4;
+
+/// The greatest size of the path of a connection, in bytes: a route, and the path of the message router.
+const LONGEST_CONNECTION_PATH: usize = LONGEST_ROUTE + ROUTER_PATH.len();
+
+/// The path of a connection.
+type ConnectionPath = ArrayVec<u8, LONGEST_CONNECTION_PATH>;
+
 /// The greatest size of a request to the Connection Manager, in bytes: service, path size and path 6, a large open 40
-/// and its path 4.
-const LONGEST_MANAGER_REQUEST: usize = 50;
+/// and its path.
+const LONGEST_MANAGER_REQUEST: usize = 46 + LONGEST_CONNECTION_PATH;
 
 /// A request to the Connection Manager.
 pub(crate) type ManagerRequest = ArrayVec<u8, LONGEST_MANAGER_REQUEST>;
+
+/// A request over a route, as it is sent to the first router.
+pub(crate) type RoutedRequest = ArrayVec<u8, UNCONNECTED_LIMIT>;
 
 /// Writes the header of a frame with `size` bytes of data.
 pub(crate) fn begin_frame(command: Command, session: u32, number: u64, size: usize, sent: &mut Sent)
@@ -147,24 +161,40 @@ pub(crate) fn open_service(wants: &Wants) -> ManagerService
     }
 }
 
-/// A request to open a connection.
-pub(crate) fn open_request(wants: &Wants) -> ManagerRequest
-    ensures { result.items ≡ open_request wants.now }
+/// A request to open a connection over a route.
+pub(crate) fn open_request(wants: &Wants, route: &Route) -> ManagerRequest
+    ensures { result.items ≡ open_request_over route.now wants.now }
 {
+    let path = connection_path(route);
     if is_large(wants) {
-        large_open_request(wants)
+        large_open_request(wants, path.as_slice())
     } else {
-        small_open_request(wants)
+        small_open_request(wants, path.as_slice())
     }
 }
 
+/// The path of a connection over a route: the route, and the path of the message router.
+fn connection_path(route: &Route) -> ConnectionPath
+    ensures path { result.items ≡ router_over route.now }
+    ensures whole_words { array_vec_len result % 2 ≡ 0 }
+    ensures size { array_vec_len result ≤ LONGEST_CONNECTION_PATH }
+{
+    let mut path = ConnectionPath::new();
+    let _ = path.try_extend_from_slice(route.as_slice());
+    let _ = path.try_extend_from_slice(&ROUTER_PATH);
+    path
+}
+
 /// A Forward_Open.
-fn small_open_request(wants: &Wants) -> ManagerRequest
-    ensures { result.items ≡ open_request_in small wants.now }
+fn small_open_request(wants: &Wants, path: &[u8]) -> ManagerRequest
+    requires whole_words { length path.now % 2 ≡ 0 }
+    requires size { length path.now ≤ LONGEST_CONNECTION_PATH }
+    ensures { result.items ≡ open_request_on path.now small wants.now }
 {
     let mut request = begin_manager_request(ManagerService::ForwardOpen);
     let asked = asked(
         wants,
+        path,
         parameters(wants.o_to_t_size),
         parameters(wants.t_to_o_size),
     );
@@ -173,12 +203,15 @@ fn small_open_request(wants: &Wants) -> ManagerRequest
 }
 
 /// A Large_Forward_Open.
-fn large_open_request(wants: &Wants) -> ManagerRequest
-    ensures { result.items ≡ open_request_in large wants.now }
+fn large_open_request(wants: &Wants, path: &[u8]) -> ManagerRequest
+    requires whole_words { length path.now % 2 ≡ 0 }
+    requires size { length path.now ≤ LONGEST_CONNECTION_PATH }
+    ensures { result.items ≡ open_request_on path.now large wants.now }
 {
     let mut request = begin_manager_request(ManagerService::LargeForwardOpen);
     let asked = asked(
         wants,
+        path,
         large_parameters(wants.o_to_t_size),
         large_parameters(wants.t_to_o_size),
     );
@@ -186,11 +219,16 @@ fn large_open_request(wants: &Wants) -> ManagerRequest
     request
 }
 
-/// The fields of an open, with the parameters of both directions.
-fn asked<P>(wants: &Wants, o_to_t_parameters: P, t_to_o_parameters: P) -> OpenRequest<'static, P>
+/// The fields of an open, with the path and the parameters of both directions.
+fn asked<'a, P>(
+    wants: &Wants,
+    path: &'a [u8],
+    o_to_t_parameters: P,
+    t_to_o_parameters: P,
+) -> OpenRequest<'a, P>
     ensures asked { (bits : P → ℕ) →
-        view_by bits result ≡ asked_by (bits o_to_t_parameters) (bits t_to_o_parameters) wants.now }
-    ensures path { result.path.now ≡ message_router }
+        view_by bits result ≡ asked_on path.now (bits o_to_t_parameters) (bits t_to_o_parameters) wants.now }
+    ensures path { result.path.now ≡ path.now }
 {
     OpenRequest {
         priority_and_tick_time: PRIORITY_AND_TICK_TIME,
@@ -208,7 +246,7 @@ fn asked<P>(wants: &Wants, o_to_t_parameters: P, t_to_o_parameters: P) -> OpenRe
         transport: Transport {
             bits: SERVER_CLASS_3,
         },
-        path: &ROUTER_PATH,
+        path,
     }
 }
 
@@ -219,10 +257,11 @@ fn is_large(wants: &Wants) -> bool
     wants.o_to_t_size > LARGEST_FORWARD_OPEN_SIZE || wants.t_to_o_size > LARGEST_FORWARD_OPEN_SIZE
 }
 
-/// A request to close the connection.
-pub(crate) fn close_request(wants: &Wants) -> ManagerRequest
-    ensures { result.items ≡ close_request wants.now }
+/// A request to close the connection, over the route of its opening.
+pub(crate) fn close_request(wants: &Wants, route: &Route) -> ManagerRequest
+    ensures { result.items ≡ close_request_over route.now wants.now }
 {
+    let path = connection_path(route);
     let mut request = begin_manager_request(ManagerService::ForwardClose);
     let asked = CloseRequest {
         priority_and_tick_time: PRIORITY_AND_TICK_TIME,
@@ -230,10 +269,32 @@ pub(crate) fn close_request(wants: &Wants) -> ManagerRequest
         connection_serial: wants.connection_serial,
         originator_vendor: wants.originator_vendor,
         originator_serial: wants.originator_serial,
-        path: &ROUTER_PATH,
+        path: path.as_slice(),
     };
     let _ = asked.write(&mut request);
     request
+}
+
+/// A request as it is sent over a route: in an Unconnected_Send. `None` if that is longer than an unconnected request may
+/// be.
+pub(crate) fn routed_request(route: &Route, request: &[u8]) -> Option<RoutedRequest>
+    requires { length request.now ≤ UNCONNECTED_LIMIT }
+    ensures fits { IsSome result ↔ (length (send_request route.now request.now) ≤ UNCONNECTED_LIMIT) }
+    ensures routed { IfSome result (λ routed. routed.items ≡ send_request route.now request.now) }
+{
+    let mut routed = RoutedRequest::new();
+    let _ = routed.try_extend_from_slice(&[UNCONNECTED_SEND, 2]);
+    let _ = routed.try_extend_from_slice(&MANAGER_PATH);
+    let send = UnconnectedSend {
+        priority_and_tick_time: PRIORITY_AND_TICK_TIME,
+        timeout_ticks: ROUTE_TIMEOUT_TICKS,
+        message: request,
+        route: route.as_slice(),
+    };
+    match send.write(&mut routed) {
+        Ok(()) => Some(routed),
+        Err(_) => None,
+    }
 }
 
 /// The service, the path size in words and the path of a request to the Connection Manager.

@@ -56,6 +56,8 @@ pub(crate) enum Awaited {
     Connection,
     /// The reply to an unconnected request of this service.
     Reply(u8),
+    /// The reply to an unconnected request of this service over a route.
+    Routed(u8),
     /// The reply to Forward_Close.
     End,
 }

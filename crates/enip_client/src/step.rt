@@ -13,6 +13,7 @@ use crate::client::Client;
 use crate::fault::{AskFault, ClientFault};
 use crate::hearing::Heard;
 use cip_objects::{REPLY_LIMIT, ReplyBuf};
+use cip_route::Route;
 use enip_wire::{Sink, write_all};
 
 /// Which reply is awaited.
@@ -57,9 +58,10 @@ impl Call {
     }
 }
 
-/// A request, and whether it goes on a connection.
+/// A request, its route, and whether it goes on a connection.
 #[derive(Clone, Copy)]
 pub(crate) struct Asked<'a> {
+    pub(crate) route: &'a Route,
     pub(crate) request: &'a [u8],
     pub(crate) connected: bool,
 }
@@ -120,7 +122,7 @@ pub(crate) fn advance<W: Sink>(
 ///
 /// # Errors
 ///
-/// `Client` if an open or a close was refused, or a reply is too long.
+/// `Client` if an open, a close or a request on a route was refused, or a reply is too long.
 fn next_call(
     step: Step,
     connected: bool,
@@ -136,7 +138,7 @@ fn next_call(
         (Step::Registering, Heard::Registered) | (Step::Opening, Heard::Opened) => {
             Ok(Some(Call::Request))
         }
-        (Step::Opening | Step::Closing, Heard::Refused(status, extended)) => {
+        (Step::Opening | Step::Requesting | Step::Closing, Heard::Refused(status, extended)) => {
             Err(AskFault::Client(ClientFault::Refused(status, extended)))
         }
         (Step::Requesting, Heard::Reply(bytes) | Heard::Accepted(bytes)) => {
@@ -179,15 +181,16 @@ fn perform<W: Sink>(
 ) -> Result<(), AskFault>
     requires { W.failures writer.old < u64.MAX }
     ensures state { client.new ≡ with_state client.old (after_lending client.old.state
-        (called call client.old.state asked.entry.request.now asked.entry.connected)) }
+        (called asked.entry.route.now call client.old.state asked.entry.request.now asked.entry.connected)) }
     ensures not_read { read_faults result ≡ 0 }
-    ensures performed { IsPerformed (called call client.old.state asked.entry.request.now asked.entry.connected)
+    ensures performed { IsPerformed
+        (called asked.entry.route.now call client.old.state asked.entry.request.now asked.entry.connected)
         (W.written writer.old) (W.written writer.new) result }
     ensures failures { W.failures writer.new ≡ W.failures writer.old + write_faults result }
 {
     match call {
         Call::Open => {
-            let frame = client.open()?;
+            let frame = client.open_over(asked.route)?;
             send(frame, writer)
         }
         Call::Request if asked.connected => {
@@ -195,11 +198,11 @@ fn perform<W: Sink>(
             send(frame, writer)
         }
         Call::Request => {
-            let frame = client.unconnected(asked.request)?;
+            let frame = client.unconnected_over(asked.route, asked.request)?;
             send(frame, writer)
         }
         Call::Close => {
-            let frame = client.close()?;
+            let frame = client.close_over(asked.route)?;
             send(frame, writer)
         }
         Call::Leave => {

@@ -1,42 +1,63 @@
 //! `enip serve --log`: a line for each connection that begins or ends, and for each frame.
 
 use crate::frame_summary::{AnswerStatus, RequestSummary};
+use crate::log_event::{LogClock, LogEvent, LogLine, LogStyle, LogTime};
 use crate::logged_wire::LoggedWire;
 use crate::observer::Observer;
 use enip_wire::{Held, parse_frame};
 use mio::net::TcpStream;
 use std::alloc::Global;
-use std::fmt::Display;
 use std::net::SocketAddr;
 use std::rt::Clock;
-use std::time::Instant;
+use std::time::{Instant, UNIX_EPOCH};
 
-/// The microseconds of a second.
-const SECOND: u128 = 1_000_000;
-
-/// A log on standard error. Its times count from `start`.
+/// A log on standard error. Its times count from `start`, or are those of the day.
 #[derive(Drop)]
 pub(crate) struct FrameLog<'a, R> {
     rt: &'a R,
     alloc: Global,
     start: Instant,
+    style: LogStyle,
+    clock: LogClock,
 }
 
 impl<'a, R: Eprint + Clock> FrameLog<'a, R> {
-    pub(crate) fn new(rt: &'a R, alloc: Global, start: Instant) -> FrameLog<'a, R> {
-        FrameLog { rt, alloc, start }
+    pub(crate) fn new(
+        rt: &'a R,
+        alloc: Global,
+        start: Instant,
+        style: LogStyle,
+        clock: LogClock,
+    ) -> FrameLog<'a, R> {
+        FrameLog {
+            rt,
+            alloc,
+            start,
+            style,
+            clock,
+        }
     }
 
-    /// Writes a line about a client: the seconds since the start, its address, and the event. A line that cannot be
-    /// written is dropped.
-    pub(crate) fn write_line<D: Display>(&self, address: SocketAddr, event: &D) {
-        let Ok(elapsed) = self.start.elapsed(self.rt) else {
+    /// Writes a line about a client. A line that cannot be written is dropped.
+    pub(crate) fn write(&self, address: SocketAddr, event: LogEvent) {
+        let elapsed = match self.clock {
+            LogClock::Start => self.start.elapsed(self.rt),
+            LogClock::Utc => UNIX_EPOCH.elapsed(self.rt),
+        };
+        let Ok(elapsed) = elapsed else {
             return;
         };
-        let microseconds = elapsed.as_micros();
-        let (seconds, rest) = (microseconds / SECOND, microseconds % SECOND);
-        if let Ok(line) = format!(in self.alloc; "{seconds}.{rest:06} {address} {event}\n") {
-            let _ = self.rt.eprint(line.as_str());
+        let line = LogLine {
+            style: self.style,
+            time: LogTime {
+                clock: self.clock,
+                microseconds: u64::try_from(elapsed.as_micros()).unwrap_or(u64::MAX),
+            },
+            address,
+            event,
+        };
+        if let Ok(text) = format!(in self.alloc; "{line}") {
+            let _ = self.rt.eprint(text.as_str());
         }
     }
 }
@@ -48,11 +69,17 @@ impl<'a, R: Eprint + Clock> Observer for &'a FrameLog<'a, R> {
         LoggedWire::new(*self, self.alloc, stream)
     }
 
-    fn turned_away(&self, stream: TcpStream) {
+    fn turned_away(&mut self, _now: u64, stream: TcpStream) {
         if let Ok(address) = stream.peer_addr() {
-            self.write_line(address, &"turned away: all peer slots are taken");
+            self.write(address, LogEvent::TurnedAway);
         }
     }
+
+    fn next_report(&self) -> Option<u64> {
+        None
+    }
+
+    fn report(&mut self, _now: u64) {}
 
     fn answered(&self, sender: SocketAddr, datagram: &[u8], answer: &[u8]) {
         if let (Held::Frame(request), Held::Frame(answer)) = (
@@ -60,7 +87,7 @@ impl<'a, R: Eprint + Clock> Observer for &'a FrameLog<'a, R> {
             parse_frame(answer),
         ) {
             let (request, status) = (RequestSummary::of(request), AnswerStatus::of(answer));
-            self.write_line(sender, &format_args!("datagram {request}: {status}"));
+            self.write(sender, LogEvent::Datagram(request, status));
         }
     }
 }

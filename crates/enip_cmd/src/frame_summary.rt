@@ -41,6 +41,16 @@ impl RequestSummary {
         }
     }
 
+    /// Of a class 3 item: the connection ID and the sequence count.
+    pub(crate) fn item(&self) -> Option<(u32, u16)> {
+        self.item
+    }
+
+    /// Whether it unregisters the session.
+    pub(crate) fn unregisters(&self) -> bool {
+        matches!(Command::of(self.command), Some(Command::UnRegisterSession))
+    }
+
     /// Whether a frame is the answer: it has the same command, context and sequence count.
     pub(crate) fn is_answered_by(&self, frame: FrameView<'_>) -> bool {
         let count = self.item.map(|(_, count)| count);
@@ -160,6 +170,13 @@ impl AnswerStatus {
             }),
             _ => AnswerStatus::Encapsulation(frame.header.status),
         }
+    }
+}
+
+impl AnswerStatus {
+    /// Whether it is that of a reply of the message router.
+    pub(crate) fn is_reply(&self) -> bool {
+        matches!(self, AnswerStatus::Reply(_))
     }
 }
 

@@ -3,9 +3,11 @@
 use crate::argument_error::{ArgumentError, parse_seconds};
 use crate::listing::list_request;
 use crate::reason::{CLOCK, CommandError, Reason, SystemError};
+use clap::ArgMatches;
 use enip_client::ListCommand;
 use std::io::{self, ErrorKind};
 use std::net::{HostAddrs, IpAddr, SocketAddr, TcpListener, TcpStream, ToSocketAddrs, UdpSocket};
+use std::rt::Clock;
 use std::time::{Duration, Instant};
 
 /// The registered port of EtherNet/IP. (Volume 2, TCP.)
@@ -32,6 +34,11 @@ impl<'a> HostPort<'a> {
     /// The argument, for messages.
     pub(crate) fn text(self) -> &'a str {
         self.text
+    }
+
+    /// The port, 0 for any.
+    pub(crate) fn port(self) -> u16 {
+        self.port
     }
 
     /// The addresses of the host.
@@ -68,6 +75,9 @@ impl<'a> HostPort<'a> {
             match timeout.connect(rt, address, start) {
                 Ok(stream) => return Ok(stream),
                 Err(error) => last = timeout.reason(self.text, error),
+            }
+            if let Some(deadline) = timeout.deadline_over(rt) {
+                return Err(CommandError::of_reason(Reason::DeadlineOver(self.text, deadline)));
             }
         }
         Err(CommandError::of_reason(last))
@@ -138,6 +148,17 @@ pub(crate) struct Timeout<'a> {
     text: &'a str,
     /// `None` is no limit.
     limit: Option<Duration>,
+    /// `None` if the command has no deadline.
+    deadline: Option<Deadline<'a>>,
+}
+
+/// The end of the time that a whole command has.
+#[derive(Clone, Copy)]
+struct Deadline<'a> {
+    /// The seconds as the argument gives them, for messages.
+    text: &'a str,
+    start: Instant,
+    limit: Duration,
 }
 
 impl<'a> Timeout<'a> {
@@ -149,7 +170,61 @@ impl<'a> Timeout<'a> {
         } else {
             Some(seconds)
         };
-        Ok(Timeout { text, limit })
+        Ok(Timeout {
+            text,
+            limit,
+            deadline: None,
+        })
+    }
+
+    /// The timeout that the arguments give, with the deadline of the command. Its time begins now.
+    pub(crate) fn from_matches(
+        rt: &HostRuntime,
+        matches: &ArgMatches<'a>,
+    ) -> Result<Timeout<'a>, ArgumentError<'a>> {
+        let timeout = Timeout::parse(matches.get_str("timeout").unwrap_or(""))?;
+        let Some(text) = matches.get_str("deadline") else {
+            return Ok(timeout);
+        };
+        let limit = parse_seconds("deadline", text)?;
+        if limit.is_zero() {
+            return Ok(timeout);
+        }
+        let Ok(start) = Instant::now(rt) else {
+            return Err(ArgumentError::Seconds("deadline", text));
+        };
+        Ok(Timeout {
+            deadline: Some(Deadline { text, start, limit }),
+            ..timeout
+        })
+    }
+
+    /// How long the next step may take: the timeout, or less if the deadline is nearer. `Some` of no time once the
+    /// deadline is over.
+    pub(crate) fn next_limit<C: Clock>(self, clock: &C) -> Option<Duration> {
+        match (self.limit, self.left(clock)) {
+            (Some(limit), Some(left)) => Some(limit.min(left)),
+            (limit, left) => limit.or(left),
+        }
+    }
+
+    /// What is left until the deadline, if there is one. Without a clock it is over.
+    fn left<C: Clock>(self, clock: &C) -> Option<Duration> {
+        let deadline = self.deadline?;
+        match deadline.start.elapsed(clock) {
+            Ok(elapsed) => Some(deadline.limit.saturating_sub(elapsed)),
+            Err(_) => Some(Duration::ZERO),
+        }
+    }
+
+    /// The seconds of the deadline, for messages, if it is over.
+    pub(crate) fn deadline_over<C: Clock>(self, clock: &C) -> Option<&'a str> {
+        let left = self.left(clock)?;
+        if left.is_zero() {
+            Some(self.deadline?.text)
+        } else {
+            None
+        }
     }
 
     /// How long a read may take. `None` is no limit.
@@ -164,14 +239,32 @@ impl<'a> Timeout<'a> {
         address: SocketAddr,
         start: Instant,
     ) -> io::Result<TcpStream> {
-        let Some(limit) = self.limit else {
-            return TcpStream::connect(rt, address);
+        let until_timeout = match self.limit {
+            Some(limit) => Some(limit.saturating_sub(start.elapsed(rt)?)),
+            None => None,
         };
-        let left = limit.saturating_sub(start.elapsed(rt)?);
+        let left = match (until_timeout, self.left(rt)) {
+            (Some(timeout), Some(deadline)) => timeout.min(deadline),
+            (Some(left), None) | (None, Some(left)) => left,
+            (None, None) => return TcpStream::connect(rt, address),
+        };
         if left.is_zero() {
             return Err(io::Error::from(ErrorKind::TimedOut));
         }
         TcpStream::connect_timeout(rt, &address, left)
+    }
+
+    /// Whether the command has a deadline.
+    pub(crate) fn has_deadline(self) -> bool {
+        self.deadline.is_some()
+    }
+
+    /// Why a connection failed at the deadline.
+    pub(crate) fn deadline_reason(self, address: &'a str) -> Reason<'a> {
+        match self.deadline {
+            Some(deadline) => Reason::DeadlineOver(address, deadline.text),
+            None => Reason::TimedOut(address, self.text),
+        }
     }
 
     /// Why a connection failed. If the system itself gave up, its error has a number, and this timeout is not over.

@@ -11,7 +11,7 @@ use crate::reason::{CommandError, Reason};
 use enip_cli::{LastRound, OsArg, RoundFile, can_update, option_file_name, resolved};
 use enip_keep::{KeepError, Keeper, Numbered, RoundNote};
 use enip_keep_sqlite::{Rows, make_file, open};
-use sqlite::{FileFrom, FileStore, Wary};
+use sqlite::{FileFrom, FileStore, Unknown};
 use std::alloc::Global;
 use std::fs::metadata;
 use std::io::{self, ErrorKind};
@@ -20,7 +20,7 @@ use std::io::{self, ErrorKind};
 const HEADER: u64 = 100;
 
 /// The rows of a database.
-pub(crate) type FileRows = Rows<FileStore<FileFrom<Wary>>>;
+pub(crate) type FileRows = Rows<FileStore<FileFrom<Unknown>>>;
 
 /// FILE, once it is open.
 #[derive(Drop)]
@@ -126,7 +126,7 @@ impl<'a> KeptFile<'a> {
             return Err(self.state_refused(Reason::NotAState(self.name)));
         }
         if last == 0 || !exists {
-            make_file(rt, path, Wary).map_err(|error| self.refused(error))?;
+            make_file(rt, path, Unknown).map_err(|error| self.refused(error))?;
         }
         let rows = self.rows(rt, path)?;
         match self.note(rt, path, file, last) {
@@ -139,7 +139,7 @@ impl<'a> KeptFile<'a> {
     fn rows(self, rt: &HostRuntime, path: &str) -> Result<FileRows, CommandError<'a>>
         ensures { IfOk result (λ k. ⟦<FileRows as Keeper>⟧.doubt k ≡ 0 → ⟦<FileRows as Keeper>⟧.is_up k) }
     {
-        match open(rt, path, Wary) {
+        match open(rt, path, Unknown) {
             Ok(rows) => Ok(rows),
             Err(error) => Err(self.refused(error)),
         }

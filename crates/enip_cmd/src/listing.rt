@@ -36,7 +36,7 @@ pub(crate) fn run_list<'a>(
     let start = Instant::now(rt).map_err(|error| CommandError::of_system(CLOCK, error))?;
     let stream = device.connect(rt, timeout)?;
     let mut output = ErrorKeeping::new(rt.stdout());
-    let mut source = SocketSource::new(&stream, rt, start);
+    let mut source = SocketSource::new(&stream, rt, start, timeout);
     let mut sink = SocketSink::new(&stream);
     let listed = if is_json {
         identities_over(rt.alloc(), &mut source, &mut sink, &mut output)

@@ -4,7 +4,9 @@
 mod acceptor;
 pub mod answer;
 mod argument_error;
+mod batch;
 mod checking;
+mod connection_options;
 mod discovery;
 mod error_keeping;
 pub mod fault;
@@ -12,12 +14,18 @@ mod file_identity;
 mod frame_log;
 mod frame_summary;
 mod host_port;
+mod inspect;
+mod inspected;
 mod keeping;
 mod kept_file;
 mod kept_values;
+mod line_request;
 mod listing;
+mod log_event;
 mod logged_wire;
 mod named_file;
+mod number_argument;
+mod objects_help;
 mod observer;
 mod once;
 mod owner;
@@ -26,27 +34,36 @@ mod readiness;
 mod reason;
 pub mod replay;
 pub mod report;
+mod reported_address;
 mod request;
 mod retry;
+mod route_option;
 pub mod serve;
 mod serve_command;
 mod serving;
 pub mod show;
 pub mod socket;
+mod watch;
+mod watch_table;
 mod wire;
 
 use answer::answer;
 use argument_error::ArgumentError;
+use batch::run_batch;
 use checking::print_device;
 use clap::ArgMatches;
 use clap::error::ErrorKind;
 use enip_cli::{OsArg, PROGRAM, arguments_after, os_args, program, reserve_streams};
 use enip_client::ListCommand;
+use enip_config::EXAMPLE;
 use error_keeping::ErrorKeeping;
 use fault::Fault;
 use host_port::Timeout;
+use inspect::run_inspect;
 use listing::{run_discovery, run_list};
-use named_file::{NamedFile, error_of_run};
+use named_file::{NamedFile, error_of_run, is_input};
+use number_argument::service_of;
+use objects_help::{is_help_of_objects, run_help_of_objects};
 use once::{OnceOptions, run_once};
 use polling::{PollOptions, run_polling};
 use reason::{CommandError, Reason};
@@ -56,6 +73,7 @@ use request::{Device, Request, run_request};
 use serve_command::{print_kept_values, run_serve};
 use show::show;
 use std::process::ExitCode;
+use watch::run_watch;
 
 /// The exit status if the arguments are refused.
 const ARGUMENTS_REFUSED: u8 = 2;
@@ -66,6 +84,10 @@ const GET_ATTRIBUTES_ALL: u8 = 0x01;
 const GET_ATTRIBUTE_SINGLE: u8 = 0x0e;
 
 const SET_ATTRIBUTE_SINGLE: u8 = 0x10;
+
+const GET_MEMBER: u8 = 0x18;
+
+const SET_MEMBER: u8 = 0x19;
 
 /// What messages call the program's streams.
 const INPUT: &str = "standard input";
@@ -93,8 +115,11 @@ fn run_command<'a>(
         "services" => return run_query(rt, Query::List(ListCommand::Services), matches),
         "discover" => return run_query(rt, Query::Discovery, matches),
         "get" => return run_client(rt, args, Some(service_of_get(matches)), matches),
-        "set" => return run_client(rt, args, Some(SET_ATTRIBUTE_SINGLE), matches),
-        "call" => return run_client(rt, args, matches.get_one("SERVICE"), matches),
+        "set" => return run_client(rt, args, Some(service_of_set(matches)), matches),
+        "call" => return run_call(rt, args, matches),
+        "batch" => return run_batch(rt, matches),
+        "watch" => return run_watch(rt, matches),
+        "inspect" => return run_inspect(rt, matches),
         _ => {}
     }
     Ok(ARGUMENTS_REFUSED)
@@ -106,7 +131,10 @@ fn run_answer<'a>(
     args: &[OsArg],
     matches: &ArgMatches<'a>,
 ) -> Result<u8, CommandError<'a>> {
-    let config = NamedFile::read(rt.alloc(), args, matches, "CONFIG")?;
+    if is_input(matches, "CONFIG") {
+        return Ok(print_argument_error(rt, ArgumentError::InputOfLines));
+    }
+    let config = NamedFile::read_config(rt, args, matches)?;
     let text = config.config_text(rt.alloc())?;
     let mut input = ErrorKeeping::new(rt.stdin());
     let mut output = ErrorKeeping::new(rt.stdout());
@@ -127,9 +155,12 @@ fn run_replay<'a>(
     args: &[OsArg],
     matches: &ArgMatches<'a>,
 ) -> Result<u8, CommandError<'a>> {
-    let config = NamedFile::read(rt.alloc(), args, matches, "CONFIG")?;
-    let rest = arguments_after(args, config.name());
-    let script = NamedFile::read(rt.alloc(), rest, matches, "SCRIPT")?;
+    if is_input(matches, "CONFIG") && is_input(matches, "SCRIPT") {
+        return Ok(print_argument_error(rt, ArgumentError::InputTwice));
+    }
+    let config = NamedFile::read_config(rt, args, matches)?;
+    let rest = arguments_after(args, matches.get_str("CONFIG").unwrap_or(""));
+    let script = NamedFile::read(rt, rest, matches, "SCRIPT")?;
     replay_files(rt, &config, &script, matches.get_flag("ladder"))
 }
 
@@ -193,7 +224,7 @@ fn run_query<'a>(
     query: Query,
     matches: &ArgMatches<'a>,
 ) -> Result<u8, CommandError<'a>> {
-    let timeout = match Timeout::parse(matches.get_str("timeout").unwrap_or("")) {
+    let timeout = match Timeout::from_matches(rt, matches) {
         Ok(timeout) => timeout,
         Err(error) => return Ok(print_argument_error(rt, error)),
     };
@@ -205,11 +236,35 @@ fn run_query<'a>(
     }
 }
 
-/// The service of `enip get`: without ATTRIBUTE that of all attributes.
+/// The service of `enip get`: with `--member` that of a member, without ATTRIBUTE that of all attributes.
 fn service_of_get(matches: &ArgMatches<'_>) -> u8 {
-    match matches.get_one::<u16>("ATTRIBUTE") {
-        Some(_) => GET_ATTRIBUTE_SINGLE,
-        None => GET_ATTRIBUTES_ALL,
+    if matches.contains_id("member") {
+        GET_MEMBER
+    } else if matches.contains_id("ATTRIBUTE") {
+        GET_ATTRIBUTE_SINGLE
+    } else {
+        GET_ATTRIBUTES_ALL
+    }
+}
+
+/// The service of `enip set`: with `--member` that of a member.
+fn service_of_set(matches: &ArgMatches<'_>) -> u8 {
+    if matches.contains_id("member") {
+        SET_MEMBER
+    } else {
+        SET_ATTRIBUTE_SINGLE
+    }
+}
+
+/// `enip call`.
+fn run_call<'a>(
+    rt: &HostRuntime,
+    args: &[OsArg],
+    matches: &ArgMatches<'a>,
+) -> Result<u8, CommandError<'a>> {
+    match service_of(matches) {
+        Ok(service) => run_client(rt, args, service, matches),
+        Err(error) => Ok(print_argument_error(rt, error)),
     }
 }
 
@@ -219,7 +274,11 @@ fn run_check<'a>(
     args: &[OsArg],
     matches: &ArgMatches<'a>,
 ) -> Result<u8, CommandError<'a>> {
-    let config = NamedFile::read(rt.alloc(), args, matches, "CONFIG")?;
+    if matches.get_flag("example") {
+        print!(rt; "{EXAMPLE}").map_err(|error| CommandError::of_system(OUTPUT, error))?;
+        return Ok(0);
+    }
+    let config = NamedFile::read_config(rt, args, matches)?;
     let configuration = config.configuration(rt.alloc())?;
     print_device(rt.alloc(), &configuration, rt.stdout()).map_err(|error| CommandError::of_system(
         OUTPUT, error,
@@ -238,13 +297,17 @@ fn run_client<'a>(
     service: Option<u8>,
     matches: &ArgMatches<'a>,
 ) -> Result<u8, CommandError<'a>> {
-    if let Some(options) = OnceOptions::from_matches(matches) {
-        return match command_of(service, matches) {
+    let once = match OnceOptions::from_matches(matches) {
+        Ok(once) => once,
+        Err(error) => return Ok(print_argument_error(rt, error)),
+    };
+    if let Some(options) = once {
+        return match command_of(rt, service, matches) {
             Ok((device, request)) => run_once(rt, args, device, request, options),
             Err(error) => Ok(print_argument_error(rt, error)),
         };
     }
-    match request_of(service, matches) {
+    match request_of(rt, service, matches) {
         Ok((request, None)) => run_request(rt, request),
         Ok((request, Some(options))) => run_polling(rt, request, options),
         Err(error) => Ok(print_argument_error(rt, error)),
@@ -253,23 +316,25 @@ fn run_client<'a>(
 
 /// The request for a service that the arguments describe, and how often it is sent if more than once.
 fn request_of<'a, 'm>(
+    rt: &HostRuntime,
     service: Option<u8>,
     matches: &'m ArgMatches<'a>,
 ) -> Result<(Request<'a, 'm>, Option<PollOptions>), ArgumentError<'a>> {
-    let timeout = Timeout::parse(matches.get_str("timeout").unwrap_or(""))?;
+    let timeout = Timeout::from_matches(rt, matches)?;
     let options = PollOptions::from_matches(matches)?;
     Ok((Request::from_matches(service, matches, timeout)?, options))
 }
 
 /// The device and the request that the arguments describe. No request if all its arguments are left out.
 fn command_of<'a, 'm>(
+    rt: &HostRuntime,
     service: Option<u8>,
     matches: &'m ArgMatches<'a>,
 ) -> Result<(Device<'a>, Option<Request<'a, 'm>>), ArgumentError<'a>> {
-    let timeout = Timeout::parse(matches.get_str("timeout").unwrap_or(""))?;
+    let timeout = Timeout::from_matches(rt, matches)?;
     let is_left_out = !matches.contains_id("SERVICE") && !matches.contains_id("CLASS");
     if is_left_out {
-        return Ok((Device::from_matches(service, matches, timeout)?, None));
+        return Ok((Device::from_matches(matches, timeout)?, None));
     }
     let request = Request::from_matches(service, matches, timeout)?;
     Ok((request.device, Some(request)))
@@ -287,6 +352,12 @@ fn run_program(rt: &HostRuntime) -> u8 {
     let (Ok(args), Ok(program)) = (os_args(rt, alloc, PROGRAM), program(alloc)) else {
         return CommandError::of_memory().print(rt);
     };
+    if is_help_of_objects(args.as_slice()) {
+        return match run_help_of_objects(rt) {
+            Ok(status) => status,
+            Err(error) => error.print(rt),
+        };
+    }
     match program.try_get_matches_from(args.as_slice()) {
         Ok(matches) => match run_command(rt, args.as_slice(), &matches) {
             Ok(status) => status,

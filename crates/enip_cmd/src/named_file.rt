@@ -1,5 +1,6 @@
 //! Files that arguments name, and why one is refused.
 
+use crate::INPUT;
 use crate::fault::Fault;
 use crate::owner::owner_need;
 use crate::reason::{CommandError, ConfigurationReason, Reason};
@@ -8,6 +9,18 @@ use enip_adapter::Adapter;
 use enip_cli::{OsArg, read_file};
 use enip_config::{Configuration, ConfigurationRefusal, adapter_from, adapter_in_life, explain};
 use std::alloc::Global;
+use std::io::Read;
+
+/// The argument that stands for standard input.
+const DASH: &str = "-";
+
+/// The most bytes of a configuration: 1 MiB (ours). The largest device has some 100 KiB.
+const MOST_OF_A_CONFIG: u64 = 1 << 20;
+
+/// Whether the argument of this ID is standard input.
+pub(crate) fn is_input(matches: &ArgMatches<'_>, id: &str) -> bool {
+    matches.get_str(id) == Some(DASH)
+}
 
 /// A file that an argument names, and its content.
 #[derive(Drop)]
@@ -17,15 +30,48 @@ pub(crate) struct NamedFile<'a> {
 }
 
 impl<'a> NamedFile<'a> {
-    /// Reads the file that the argument of this ID names.
+    /// Reads the file that the argument of this ID names. `-` is standard input.
     pub(crate) fn read(
-        alloc: Global,
+        rt: &HostRuntime,
         args: &[OsArg],
         matches: &ArgMatches<'a>,
         id: &str,
     ) -> Result<NamedFile<'a>, CommandError<'a>> {
-        let name = matches.get_str(id).unwrap_or("");
-        match read_file(alloc, args, name) {
+        NamedFile::read_front(rt, args, matches.get_str(id).unwrap_or(""), u64::MAX)
+    }
+
+    /// Reads the configuration that the argument CONFIG names. A long one is refused without reading all of it.
+    pub(crate) fn read_config(
+        rt: &HostRuntime,
+        args: &[OsArg],
+        matches: &ArgMatches<'a>,
+    ) -> Result<NamedFile<'a>, CommandError<'a>> {
+        let name = matches.get_str("CONFIG").unwrap_or("");
+        let file = NamedFile::read_front(rt, args, name, MOST_OF_A_CONFIG + 1)?;
+        if file.bytes.len() as u64 <= MOST_OF_A_CONFIG {
+            return Ok(file);
+        }
+        Err(CommandError::new(
+            Fault::Configuration(ConfigurationRefusal::NotToml),
+            Reason::Configuration(file.name, ConfigurationReason::TooLong),
+        ))
+    }
+
+    /// Reads at most so many bytes of the file with this name.
+    fn read_front(
+        rt: &HostRuntime,
+        args: &[OsArg],
+        name: &'a str,
+        most: u64,
+    ) -> Result<NamedFile<'a>, CommandError<'a>> {
+        let (name, read) = if name == DASH {
+            let mut bytes = Vec::new(rt.alloc());
+            let read = rt.stdin().take(most).read_to_end(&mut bytes);
+            (INPUT, read.map(|_| bytes))
+        } else {
+            (name, read_file(rt.alloc(), args, name, most))
+        };
+        match read {
             Ok(bytes) => Ok(NamedFile { name, bytes }),
             Err(error) => Err(CommandError::of_system(name, error)),
         }

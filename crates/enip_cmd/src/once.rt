@@ -3,9 +3,11 @@
 //! FILE has the commander: the originator, the device's life, the last number, and the command while it is pending. A
 //! command is written to FILE before it is sent, and settled there once its reply is printed.
 
+use crate::argument_error::ArgumentError;
 use crate::error_keeping::ErrorKeeping;
 use crate::fault::Fault;
 use crate::host_port::HostPort;
+use crate::number_argument::NumberArgument;
 use crate::reason::{CLOCK, CommandError, Note, OwnedDigits, Reason, print_reason};
 use crate::request::{Device, Request, error_of_failure, print_refusal};
 use crate::socket::{SocketSink, SocketSource};
@@ -17,7 +19,7 @@ use enip_cli::{LockedFile, OsArg, exists, option_file_name};
 use enip_client::ClientFault;
 use enip_commands::{
     LIFE_REQUEST, LedgerRefusal, LifeFault, OnceRefusal, PendingChoice, RequestFailure, WANTS,
-    begin_once, check_once, exchange_over, read_commander, read_life, show_reply, write_commander,
+    begin_once, check_once, exchange_with, read_commander, read_life, show_reply, write_commander,
 };
 use std::io::{self, ErrorKind};
 use std::random::RandomSource;
@@ -25,6 +27,9 @@ use std::thread;
 use std::time::{Duration, Instant};
 
 const OUTPUT: &str = "standard output";
+
+/// How many tries a request has, unless `--tries` says otherwise (ours).
+const DEFAULT_TRIES: u64 = 3;
 
 /// How long to wait before a file in use is tried again, in milliseconds (ours).
 const LOCK_INTERVAL: u64 = 20;
@@ -48,7 +53,12 @@ pub(crate) struct OnceOptions<'a> {
 
 impl<'a> OnceOptions<'a> {
     /// The options in the arguments. `None` without `--once`.
-    pub(crate) fn from_matches(matches: &ArgMatches<'a>) -> Option<OnceOptions<'a>> {
+    pub(crate) fn from_matches(
+        matches: &ArgMatches<'a>,
+    ) -> Result<Option<OnceOptions<'a>>, ArgumentError<'a>> {
+        let Some(file) = matches.get_str("once") else {
+            return Ok(None);
+        };
         let choice = if matches.get_flag("pending") {
             PendingChoice::Send
         } else if matches.get_flag("abandon") {
@@ -56,11 +66,13 @@ impl<'a> OnceOptions<'a> {
         } else {
             PendingChoice::Same
         };
-        Some(OnceOptions {
-            file: matches.get_str("once")?,
-            tries: matches.get_one::<u32>("tries").map_or(0, u64::from),
+        Ok(Some(OnceOptions {
+            file,
+            tries: NumberArgument::TRIES
+                .value(matches)?
+                .unwrap_or(DEFAULT_TRIES),
             choice,
-        })
+        }))
     }
 }
 
@@ -175,10 +187,14 @@ impl<'a> OnceRun<'a, '_> {
 
     /// Prints the reply to a command. Returns the exit status.
     fn print(&self, reply: &[u8]) -> Result<u8, CommandError<'a>> {
+        if let Some(outcome) = self.device.quiet_outcome(reply) {
+            print_refusal(self.rt, self.device, outcome);
+            return Ok(outcome.exit_status());
+        }
         let mut output = ErrorKeeping::new(self.rt.stdout());
         match show_reply(self.rt.alloc(), &mut output, self.device.style, reply) {
             Ok(outcome) => {
-                print_refusal(self.rt, outcome);
+                print_refusal(self.rt, self.device, outcome);
                 Ok(outcome.exit_status())
             }
             Err(failure) => {
@@ -230,7 +246,7 @@ impl<'a> OnceRun<'a, '_> {
     ) -> Result<(), CommandError<'a>> {
         for number in 1..u64::MAX {
             match self.exchange_once(request, connected, reply) {
-                Err(error) if number != self.options.tries && error.may_pass() => {
+                Err(error) if number != self.options.tries && self.may_try_again(&error) => {
                     print_reason(self.rt, &error.into_reason());
                     thread::sleep(self.rt, Duration::from_millis(RETRY_DELAY));
                 }
@@ -238,6 +254,11 @@ impl<'a> OnceRun<'a, '_> {
             }
         }
         Err(CommandError::of_reason(Reason::Failed(self.device.address)))
+    }
+
+    /// Whether an error may pass before the deadline.
+    fn may_try_again(&self, error: &CommandError<'a>) -> bool {
+        error.may_pass() && self.device.timeout.deadline_over(self.rt).is_none()
     }
 
     /// Connects and sends a request with a new client.
@@ -248,12 +269,26 @@ impl<'a> OnceRun<'a, '_> {
         reply: &mut ReplyBuf,
     ) -> Result<(), CommandError<'a>> {
         let (address, timeout) = (self.device.address, self.device.timeout);
+        let route = self.device.route.route()?;
         let start = self.now()?;
         let stream = self.address.connect(self.rt, timeout)?;
-        let mut source = SocketSource::new(&stream, self.rt, start);
+        let wants = self
+            .device
+            .connection
+            .wants(self.rt, WANTS.timeout_multiplier)?;
+        let mut source = SocketSource::new(&stream, self.rt, start, timeout);
         let mut sink = SocketSink::new(&stream);
         let alloc = self.rt.alloc();
-        match exchange_over(alloc, &mut source, &mut sink, request, connected, reply) {
+        match exchange_with(
+            alloc,
+            &wants,
+            &mut source,
+            &mut sink,
+            &route,
+            request,
+            connected,
+            reply,
+        ) {
             Ok(()) => Ok(()),
             Err(failure) => {
                 let reason = match source.fault().or(sink.fault()) {
@@ -277,6 +312,9 @@ impl<'a> OnceRun<'a, '_> {
             let elapsed = start
                 .elapsed(self.rt)
                 .map_err(|error| CommandError::of_system(CLOCK, error))?;
+            if self.device.timeout.deadline_over(self.rt).is_some() {
+                break;
+            }
             if let Some(limit) = self.device.timeout.limit() {
                 if elapsed >= limit {
                     break;
@@ -315,7 +353,7 @@ impl<'a> OnceRun<'a, '_> {
     /// Checks that a connection of the size that is opened holds the pending command.
     fn check_size(&self, commander: &Commander) -> Result<(), CommandError<'a>> {
         let message = commander.pending().unwrap_or(&[]);
-        let most = usize::from(WANTS.o_to_t_size).saturating_sub(COUNT_SIZE);
+        let most = usize::from(self.device.connection.size()).saturating_sub(COUNT_SIZE);
         if self.device.connected && message.len() > most {
             return Err(too_long());
         }

@@ -2,12 +2,15 @@
 
 use crate::argument_error::{ArgumentError, parse_seconds};
 use crate::error_keeping::ErrorKeeping;
-use crate::host_port::HostPort;
+use crate::host_port::{HostPort, Timeout};
+use crate::number_argument::NumberArgument;
 use crate::reason::{CLOCK, CommandError, Reason, print_reason};
-use crate::request::{Request, error_of_failure, print_refusal};
+use crate::request::{Request, ask, error_of_failure, print_refusal};
 use crate::socket::{SocketSink, SocketSource};
 use clap::ArgMatches;
-use enip_commands::{DeviceSession, Readings, ReplyOutcome, RequestFailure, print_reading};
+use enip_commands::{
+    DeviceSession, LONG_LIVED, Readings, ReplyOutcome, RequestFailure, print_reading,
+};
 use std::rt::Clock;
 use std::thread;
 use std::time::{Duration, Instant};
@@ -43,7 +46,7 @@ impl PollOptions {
         Ok(Some(PollOptions {
             interval: parse_seconds("every", seconds)?,
             // Without --count there is no end: more replies than there can be.
-            count: matches.get_one::<u32>("count").map_or(u64::MAX, u64::from),
+            count: NumberArgument::REPLIES.value(matches)?.unwrap_or(u64::MAX),
             print_all: matches.get_flag("all"),
         }))
     }
@@ -51,7 +54,7 @@ impl PollOptions {
 
 /// Why a session ends before all replies were taken.
 #[derive(Drop)]
-enum SessionEnd<'a> {
+pub(crate) enum SessionEnd<'a> {
     /// The device is lost, and may return.
     DeviceLost(Reason<'a>),
     /// The command fails.
@@ -103,14 +106,7 @@ pub(crate) fn run_polling<'a>(
             Ok(()) => thread::sleep(rt, options.interval),
             Err(SessionEnd::DeviceLost(reason)) => {
                 print_reason(rt, &reason);
-                thread::sleep(
-                    rt,
-                    request
-                        .device
-                        .timeout
-                        .limit()
-                        .unwrap_or(Duration::from_secs(RECONNECT_DELAY)),
-                );
+                thread::sleep(rt, pause_after_loss(request.device.timeout));
             }
             Err(SessionEnd::Fatal(error)) => return Err(error),
         }
@@ -118,28 +114,55 @@ pub(crate) fn run_polling<'a>(
     Ok(poller.last.exit_status())
 }
 
+/// How long to wait before a lost device is tried again.
+pub(crate) fn pause_after_loss(timeout: Timeout<'_>) -> Duration {
+    timeout
+        .limit()
+        .unwrap_or(Duration::from_secs(RECONNECT_DELAY))
+}
+
 impl<'a> Poller<'a, '_, '_> {
     /// Sends the request in one session until all replies were taken, or once if the interval is too long for a session.
     fn run_session(&mut self) -> Result<(), SessionEnd<'a>> {
-        let device = HostPort::parse(self.request.device.address).map_err(SessionEnd::Fatal)?;
-        let stream = device
+        let address = HostPort::parse(self.request.device.address).map_err(SessionEnd::Fatal)?;
+        let route = self
+            .request
+            .device
+            .route
+            .route()
+            .map_err(SessionEnd::Fatal)?;
+        let stream = address
             .connect(self.rt, self.request.device.timeout)
             .map_err(session_end_of)?;
-        let mut source = SocketSource::new(&stream, self.rt, self.start);
+        let (device, timeout) = (self.request.device, self.request.device.timeout);
+        let mut source = SocketSource::new(&stream, self.rt, self.start, timeout);
         let mut sink = SocketSink::new(&stream);
-        let begun = DeviceSession::begin(
+        let wants = device
+            .connection
+            .wants(self.rt, LONG_LIVED.timeout_multiplier)
+            .map_err(SessionEnd::Fatal)?;
+        let begun = DeviceSession::begin_with(
             self.rt.alloc(),
+            &wants,
             &mut source,
             &mut sink,
-            self.request.device.connected,
+            route,
+            device.connected,
         );
         let mut session = match begun {
             Ok(session) => session,
             Err(failure) => return Err(self.session_end(failure, &source, &sink)),
         };
         for _ in 0..u64::MAX {
-            match session.ask(&mut source, &mut sink, self.bytes) {
-                Ok(reply) => self.take_reply(reply)?,
+            match ask(
+                self.rt,
+                &mut session,
+                &mut source,
+                &mut sink,
+                device,
+                self.bytes,
+            ) {
+                Ok(()) => self.take_reply(session.reply())?,
                 Err(failure) => return Err(self.session_end(failure, &source, &sink)),
             }
             if self.taken >= self.options.count
@@ -162,7 +185,7 @@ impl<'a> Poller<'a, '_, '_> {
         }
         let outcome = self.print_timed(reply).map_err(SessionEnd::Fatal)?;
         if is_new {
-            print_refusal(self.rt, outcome);
+            print_refusal(self.rt, self.request.device, outcome);
         }
         self.last = outcome;
         Ok(())
@@ -170,6 +193,9 @@ impl<'a> Poller<'a, '_, '_> {
 
     /// Prints a reply on standard output, with the time since the start.
     fn print_timed(&self, reply: &[u8]) -> Result<ReplyOutcome, CommandError<'a>> {
+        if let Some(outcome) = self.request.device.quiet_outcome(reply) {
+            return Ok(outcome);
+        }
         let moment = self.moment()?;
         let mut output = ErrorKeeping::new(self.rt.stdout());
         let printed = print_reading(
@@ -209,11 +235,16 @@ impl<'a> Poller<'a, '_, '_> {
     }
 }
 
-/// The end of a session by the error that a single request would end with. Only a lack of memory is fatal. After any
+/// The end of a session by the error that a single request would end with. Only a lack of memory and the
+/// deadline are fatal. After any
 /// other error the device is tried again.
-fn session_end_of<'a>(error: CommandError<'a>) -> SessionEnd<'a> {
+pub(crate) fn session_end_of<'a>(error: CommandError<'a>) -> SessionEnd<'a> {
     match error.into_reason() {
         Reason::Memory => SessionEnd::Fatal(CommandError::of_memory()),
+        Reason::DeadlineOver(address, seconds) => {
+            let reason = Reason::DeadlineOver(address, seconds);
+            SessionEnd::Fatal(CommandError::of_reason(reason))
+        }
         reason => SessionEnd::DeviceLost(reason),
     }
 }

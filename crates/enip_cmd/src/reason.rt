@@ -3,6 +3,7 @@
 use crate::fault::Fault;
 use crate::owner::OwnerNeed;
 use cip_bytes::StatusText;
+use cip_route::RouteFailure;
 use cip_values::{ValueFault, ValueType};
 use enip_client::ClientFault;
 use enip_commands::{
@@ -33,6 +34,9 @@ pub(crate) enum Reason<'a> {
     /// The device at the address did not answer within so many seconds.
     #[error("{0}: no answer within {1} s")]
     TimedOut(&'a str, &'a str),
+    /// The device at the address did not answer before the deadline of so many seconds.
+    #[error("{0}: not done within {1} s (--deadline)")]
+    DeadlineOver(&'a str, &'a str),
     /// The device at the address closed the connection.
     #[error("{0}: the device closed the connection before it replied")]
     Disconnected(&'a str),
@@ -72,6 +76,12 @@ pub(crate) enum Reason<'a> {
     /// The device refused the request with this general status.
     #[error("{0}")]
     Refused(StatusText),
+    /// A router on the route did not pass the request on.
+    #[error("{0}")]
+    Route(RouteFailure),
+    /// The device refused the connection, since it has one with these serial numbers.
+    #[error("{0} (see --connection-serial)")]
+    SerialInUse(StatusText),
     /// A line of a command file is refused.
     #[error("{0}, line {1}: {2}")]
     CommandFile(&'a str, u64, CommandFileFault),
@@ -137,6 +147,9 @@ pub(crate) enum ConfigurationReason {
     /// A check of the configuration fails.
     #[error("{0}")]
     Check(Explanation),
+    /// It is longer than any device needs.
+    #[error("over 1 MiB")]
+    TooLong,
     /// It has too few slots, handles or connection IDs for a replay.
     #[error("no capacity for two sessions and a connection")]
     NoCapacity,
@@ -163,6 +176,9 @@ pub(crate) enum Note {
     /// The ledger refused the command, and it may have executed it before.
     #[error("the command may have been executed, and is still pending")]
     StillPending,
+    /// The request was sent once or more, and no reply came.
+    #[error("the request may have been executed (see --once)")]
+    NoReply,
     /// The device has replied, and its reply could not be printed, or the command could not be settled.
     #[error("the command was executed, and `--pending` prints its reply again")]
     Executed,
@@ -208,6 +224,17 @@ impl fmt::Display for SystemError {
             ErrorKind::TimedOut => f.write_str("no answer"),
             _ if self.0.raw_os_error() == Some(libc::EBADF) => f.write_str("is not open"),
             _ => write!(f, "{kind}"),
+        }
+    }
+}
+
+impl Reason<'_> {
+    /// The reason of a refusal: what these statuses mean. A router reports by them why it did not pass a request on.
+    pub(crate) fn of_refusal(status: u8, extended: u16) -> Self {
+        match RouteFailure::of(status, extended) {
+            // a device refuses a connection by the same status, and the text is of its path
+            Some(RouteFailure::Segment) | None => Reason::Refused(StatusText { status, extended }),
+            Some(failure) => Reason::Route(failure),
         }
     }
 }

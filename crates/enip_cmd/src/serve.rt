@@ -246,7 +246,7 @@ impl<O: Observer + Drop, S: Serving<O::Wire> + Drop> Server<O, S> {
         if self.last_round.ready {
             return Some(Duration::ZERO);
         }
-        let mut next = self.last_round.next;
+        let mut next = earlier(self.last_round.next, self.observer.next_report());
         if let Some(acceptor) = &self.acceptor {
             next = earlier(next, acceptor.readiness().next_try());
         }
@@ -275,6 +275,7 @@ impl<O: Observer + Drop, S: Serving<O::Wire> + Drop> Server<O, S> {
             }
         }
         self.accept_one(now);
+        self.observer.report(now);
         Ok(())
     }
 
@@ -328,7 +329,7 @@ impl<O: Observer + Drop, S: Serving<O::Wire> + Drop> Server<O, S> {
     {
         let mut stream = stream;
         let Some(slot) = self.peers.first_free() else {
-            self.observer.turned_away(stream);
+            self.observer.turned_away(now, stream);
             return false;
         };
         let interests = Interest::READABLE | Interest::WRITABLE;

@@ -2,17 +2,21 @@
 
 ghost use Rattle.std.specs.Prelude.{◌≡◌, ◌<◌, ◌≤◌, ◌*◌, ◌-◌, ◌^◌, IfSome, IfOk, IsTrue};
 
+use crate::argument_error::ArgumentError;
 use crate::frame_log::FrameLog;
 use crate::host_port::HostPort;
 use crate::keeping::Keeping;
 use crate::kept_file::{KeptFile, OpenFile};
 use crate::kept_values::KeptValues;
+use crate::log_event::{LogClock, LogStyle};
 use crate::named_file::NamedFile;
-use crate::observer::{NoObserver, Observer};
+use crate::number_argument::{NumberArgument, u16_of};
+use crate::observer::{Observer, TurnedAwayReport};
 use crate::reason::{CLOCK, CommandError, Reason};
+use crate::reported_address::ReportedAddress;
 use crate::serve::{Sockets, serve_connections};
 use crate::serving::{ServeFault, Serving};
-use crate::{ARGUMENTS_REFUSED, ERRORS, OUTPUT};
+use crate::{ERRORS, OUTPUT, print_argument_error};
 use clap::ArgMatches;
 use enip_adapter::{Adapter, Limits, Listen};
 use enip_cli::OsArg;
@@ -43,24 +47,39 @@ struct ServeOptions<'a> {
     idle_timeout: u64,
     /// Where its state is kept.
     keep: Option<KeptFile<'a>>,
+    /// Where discovery reports it.
+    reported: Option<ReportedAddress<'a>>,
 }
 
 impl<'a> ServeOptions<'a> {
-    /// The options in the arguments. `None` if one has no value.
-    fn from_matches(matches: &ArgMatches<'a>) -> Option<ServeOptions<'a>> {
-        let seconds = matches.get_one("idle")?;
+    /// The options in the arguments.
+    fn from_matches(matches: &ArgMatches<'a>) -> Result<ServeOptions<'a>, ArgumentError<'a>> {
+        let Some(seconds) = NumberArgument::IDLE.value(matches)? else {
+            return Err(ArgumentError::Missing);
+        };
         let accepts_older = matches.get_flag("accept-older");
-        Some(ServeOptions {
+        Ok(ServeOptions {
             address: matches.get_str("ADDRESS").unwrap_or(""),
             discovery: matches.get_flag("discovery"),
             // Without --count there is no end: more connections than there can be.
-            count: matches.get_one::<u16>("count").map_or(u64::MAX, u64::from),
-            idle_timeout: idle_timeout_of(seconds),
+            count: NumberArgument::CONNECTIONS
+                .value(matches)?
+                .unwrap_or(u64::MAX),
+            idle_timeout: idle_timeout_of(u16_of(seconds)),
             keep: match matches.get_str("keep") {
                 Some(name) => Some(KeptFile::new(name, accepts_older)),
                 None => None,
             },
+            reported: None,
         })
+    }
+
+    /// The same, with what a configuration has for discovery.
+    fn with_reported(self, config: &'a str, listen: Listen) -> ServeOptions<'a> {
+        ServeOptions {
+            reported: Some(ReportedAddress { config, listen }),
+            ..self
+        }
     }
 }
 
@@ -70,15 +89,25 @@ pub(crate) fn run_serve<'a>(
     args: &[OsArg],
     matches: &ArgMatches<'a>,
 ) -> Result<u8, CommandError<'a>> {
-    let Some(options) = ServeOptions::from_matches(matches) else {
-        return Ok(ARGUMENTS_REFUSED);
+    let options = match ServeOptions::from_matches(matches) {
+        Ok(options) => options,
+        Err(error) => return Ok(print_argument_error(rt, error)),
     };
-    let config = NamedFile::read(rt.alloc(), args, matches, "CONFIG")?;
-    if !matches.get_flag("log") {
-        return serve_config(rt, args, &config, options, NoObserver);
-    }
+    let config = NamedFile::read_config(rt, args, matches)?;
+    let style = match matches.get_str("log") {
+        None => {
+            let report = TurnedAwayReport::new(rt, rt.alloc());
+            return serve_config(rt, args, &config, options, report);
+        }
+        Some("json") => LogStyle::Json,
+        Some(_) => LogStyle::Text,
+    };
     let start = Instant::now(rt).map_err(|error| CommandError::of_system(CLOCK, error))?;
-    let log = FrameLog::new(rt, rt.alloc(), start);
+    let clock = match matches.get_str("log-time") {
+        Some("utc") => LogClock::Utc,
+        _ => LogClock::Start,
+    };
+    let log = FrameLog::new(rt, rt.alloc(), start, style, clock);
     serve_config(rt, args, &config, options, &log)
 }
 
@@ -91,12 +120,14 @@ fn serve_config<'a, O: Observer + Drop>(
     observer: O,
 ) -> Result<u8, CommandError<'a>> {
     let Some(file) = options.keep else {
-        let adapter = adapter_to_serve(rt, config)?;
+        let (adapter, listen) = adapter_to_serve(rt, config)?;
         let peers = Peers::new(rt.alloc(), adapter, options.idle_timeout)?;
+        let options = options.with_reported(config.name(), listen);
         return listen_and_serve(rt, options, peers, observer);
     };
     let start = adapter_start(rt, config, file.accepts_older(), options.idle_timeout)?;
     let opened = file.open(rt, args)?;
+    let options = options.with_reported(config.name(), start.listen);
     serve_kept(rt, file, opened, &start, options, observer)
 }
 
@@ -178,7 +209,9 @@ fn listen_and_serve<'a, O: Observer + Drop, S: Serving<O::Wire> + Drop>(
 {
     let address = HostPort::parse(options.address)?;
     let sockets = bind(rt, address, options.discovery)?;
-    print_listening(rt, &sockets).map_err(|error| CommandError::of_system(ERRORS, error))?;
+    print_listening(rt, &sockets, options.reported, address.port()).map_err(
+        |error| CommandError::of_system(ERRORS, error),
+    )?;
     match serve_connections(rt, rt.alloc(), sockets, peers, options.count, observer) {
         Ok(()) => Ok(0),
         Err(fault) => Err(serve_error(options, address, fault)),
@@ -201,17 +234,22 @@ fn serve_error<'a>(
     }
 }
 
-/// The adapter of a configuration whose device needs no owner. A command ledger gets another life with each start,
-/// because it is empty then.
+/// The adapter of a configuration whose device needs no owner, and where discovery reports it. A command ledger gets
+/// another life with each start, because it is empty then.
 fn adapter_to_serve<'a>(
     rt: &HostRuntime,
     config: &NamedFile<'a>,
-) -> Result<Adapter, CommandError<'a>> {
+) -> Result<(Adapter, Listen), CommandError<'a>> {
     let configuration = config.configuration_to_serve(rt.alloc())?;
-    if configuration.ledger.is_none() {
-        return config.adapter(rt.alloc());
-    }
-    config.adapter_in_life(rt.alloc(), life_now(rt)?)
+    let listen = Listen {
+        address: configuration.address,
+        port: configuration.port,
+    };
+    let adapter = match configuration.ledger {
+        None => config.adapter(rt.alloc())?,
+        Some(_) => config.adapter_in_life(rt.alloc(), life_now(rt)?)?,
+    };
+    Ok((adapter, listen))
 }
 
 /// What the adapter of a configuration is started from, whose device needs no owner and keeps its state. A ledger of
@@ -306,10 +344,20 @@ fn life_now<'a>(rt: &HostRuntime) -> Result<u64, CommandError<'a>> {
     }
 }
 
-/// Prints the address at which the device listens.
-fn print_listening(rt: &HostRuntime, sockets: &Sockets) -> io::Result<()> {
-    let listening = sockets.listener.local_addr()?;
-    eprintln!(rt; "listening on {listening}")
+/// Prints the address at which the device listens, and a warning if discovery reports another one. `asked_port` is the
+/// port in the arguments, 0 for any.
+fn print_listening(
+    rt: &HostRuntime,
+    sockets: &Sockets,
+    reported: Option<ReportedAddress<'_>>,
+    asked_port: u16,
+) -> io::Result<()> {
+    let bound = sockets.listener.local_addr()?;
+    eprintln!(rt; "listening on {bound}")?;
+    match reported.and_then(|reported| reported.warning(asked_port, bound)) {
+        Some(warning) => eprintln!(rt; "{warning}"),
+        None => Ok(()),
+    }
 }
 
 /// The idle timeout of so many seconds, in microseconds. 0 is no limit.

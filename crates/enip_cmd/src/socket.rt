@@ -1,6 +1,6 @@
 //! A client's TCP connection as a source and a sink of bytes. The calls block.
 
-ghost use Rattle.std.specs.Prelude.{◌≡◌, None};
+ghost use Rattle.std.specs.Prelude.{◌≡◌, ◌≤◌, None, IfOk, length};
 
 use crate::host_port::Timeout;
 use crate::reason::Reason;
@@ -18,6 +18,8 @@ pub(crate) enum StreamFault {
     Ended,
     /// The system reports an error.
     Failed(io::Error),
+    /// The deadline of the command is over.
+    DeadlineOver,
 }
 
 impl StreamFault {
@@ -26,6 +28,7 @@ impl StreamFault {
         match self {
             StreamFault::Ended => Reason::Disconnected(address),
             StreamFault::Failed(error) => timeout.reason(address, error),
+            StreamFault::DeadlineOver => timeout.deadline_reason(address),
         }
     }
 }
@@ -36,6 +39,7 @@ pub(crate) struct SocketSource<'a, C> {
     stream: &'a TcpStream,
     clock: &'a C,
     start: Instant,
+    timeout: Timeout<'a>,
     moment: u64,
     reads: u64,
     failures: u64,
@@ -43,8 +47,13 @@ pub(crate) struct SocketSource<'a, C> {
 }
 
 impl<'a, C: Clock> SocketSource<'a, C> {
-    /// The reading side of a new connection.
-    pub(crate) fn new(stream: &'a TcpStream, clock: &'a C, start: Instant) -> SocketSource<'a, C>
+    /// The reading side of a new connection, with this timeout of each read.
+    pub(crate) fn new(
+        stream: &'a TcpStream,
+        clock: &'a C,
+        start: Instant,
+        timeout: Timeout<'a>,
+    ) -> SocketSource<'a, C>
         ensures failures { result.failures ≡ 0 }
         ensures reads { result.reads ≡ 0 }
     {
@@ -52,6 +61,7 @@ impl<'a, C: Clock> SocketSource<'a, C> {
             stream,
             clock,
             start,
+            timeout,
             moment: 0,
             reads: 0,
             failures: 0,
@@ -63,6 +73,56 @@ impl<'a, C: Clock> SocketSource<'a, C> {
     pub(crate) fn fault(&self) -> Option<StreamFault> {
         self.fault
     }
+
+    /// Whether the last read took as long as the timeout.
+    pub(crate) fn is_timed_out(&self) -> bool {
+        match self.fault {
+            Some(StreamFault::Failed(error)) => is_timeout(&error),
+            _ => false,
+        }
+    }
+
+    /// Reads once, within the timeout and before the deadline.
+    fn read_in_time(&self, into: &mut [u8]) -> Result<usize, StreamFault>
+        ensures { IfOk result (λ n. n ≤ length into.new) }
+    {
+        self.set_timeout()?;
+        let mut stream = self.stream;
+        match read_some(&mut stream, into) {
+            Ok(count) => Ok(count),
+            Err(error) => Err(self.fault_of(error)),
+        }
+    }
+
+    /// Sets the timeout of the next read, if there is a deadline. Without one it is that of the connection.
+    fn set_timeout(&self) -> Result<(), StreamFault> {
+        if !self.timeout.has_deadline() {
+            return Ok(());
+        }
+        if self.timeout.deadline_over(self.clock).is_some() {
+            return Err(StreamFault::DeadlineOver);
+        }
+        match self
+            .stream
+            .set_read_timeout(self.timeout.next_limit(self.clock))
+        {
+            Ok(()) => Ok(()),
+            Err(error) => Err(self.fault_of(error)),
+        }
+    }
+
+    /// What an error of the system means: an error after the deadline is its end.
+    fn fault_of(&self, error: io::Error) -> StreamFault {
+        match self.timeout.deadline_over(self.clock) {
+            Some(_) => StreamFault::DeadlineOver,
+            None => StreamFault::Failed(error),
+        }
+    }
+}
+
+/// Whether an error of the system is the end of a timeout.
+fn is_timeout(error: &io::Error) -> bool {
+    matches!(error.kind(), ErrorKind::WouldBlock | ErrorKind::TimedOut)
 }
 
 impl<C: Clock> Source for SocketSource<'_, C> {
@@ -76,8 +136,7 @@ impl<C: Clock> Source for SocketSource<'_, C> {
 
     fn read(&mut self, into: &mut [u8]) -> Result<usize, Failed> {
         self.reads += 1;
-        let mut stream = self.stream;
-        let count = read_some(&mut stream, into);
+        let count = self.read_in_time(into);
         match (count, self.start.elapsed(self.clock)) {
             (Ok(0), _) => {
                 self.fault = Some(StreamFault::Ended);
@@ -87,7 +146,12 @@ impl<C: Clock> Source for SocketSource<'_, C> {
                 self.moment = u64::try_from(elapsed.as_micros()).unwrap_or(u64::MAX);
                 Ok(count)
             }
-            (Err(error), _) | (Ok(_), Err(error)) => {
+            (Err(fault), _) => {
+                self.fault = Some(fault);
+                self.failures += 1;
+                Err(Failed)
+            }
+            (Ok(_), Err(error)) => {
                 self.fault = Some(StreamFault::Failed(error));
                 self.failures += 1;
                 Err(Failed)

@@ -5,7 +5,7 @@ use Rattle.json.specs.Lex.{tokens}
 use Rattle.json.specs.Print.{print}
 use Rattle.serde_json.specs.Read.{read, max_depth}
 use Rattle.std.proofs.lemmas.List.{take_more, take_all, map-append}
-use Rattle.cip_values.specs.Values.{Value, Truth, Signed, Unsigned, Bits, Real, Text, value_in}
+use Rattle.cip_values.specs.Values.{Value, Truth, Signed, Unsigned, Bits, Real, Text, Lreal, Wide, Path, Day, Clock, Instant, value_in}
 use Rattle.cip_values.specs.declared.element.ValueType.{ValueType}
 use Rattle.cip_values.specs.declared.value.Value.{Value as ValueInCode}
 use Rattle.serde_json.specs.Data.{Data, null, boolean, number, string, array, object, Items, no_items, item, depth, items_depth}
@@ -49,6 +49,12 @@ told_flat (Unsigned n) d h = ap depth h
 told_flat (Bits n) d h = ap depth h
 told_flat (Real bits) d h = h
 told_flat (Text bytes) d h = ap depth h
+told_flat (Lreal bits) d h = h
+told_flat (Wide bytes) d h = ap depth h
+told_flat (Path bytes) d h = ap depth h
+told_flat (Day date) d h = ap depth h
+told_flat (Clock clock) d h = ap depth h
+told_flat (Instant date clock) d h = ap depth h
 
 each_flat : (values : List Value) (items : Items) → EachJsonOf values items → items_depth items ≡ 0
 each_flat [] no_items h = refl

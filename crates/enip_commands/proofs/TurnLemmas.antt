@@ -4,17 +4,21 @@ use Rattle.std.specs.List.{list_any}
 use Rattle.std.proofs.lemmas.List.{take-append-drop}
 use Rattle.std.proofs.KnownBytes.{Consumes-nil, Consumes-trans}
 use Rattle.std.specs.Io.KnownBytes.{Appends, Consumes}
-use Rattle.enip_wire.specs.Frames.{frame}
-use Rattle.enip_client.specs.Asking.{lends}
+use Rattle.std.specs.Option.{option_map}
+use Rattle.enip_wire.specs.Frames.{Frame, frame}
+use Rattle.enip_client.specs.Asking.{lends, client_failure}
 use Rattle.enip_client.specs.Calls.{Lent, after_lending, bytes_lent}
 use Rattle.enip_client.specs.Client.{ClientState, fed, with_state}
 use Rattle.enip_client.specs.Hears.{HeardEvent}
 use Rattle.enip_client.specs.declared.fault.AskFault.{AskFault}
 use Rattle.enip_client.specs.declared.fault.AskFault.TheVariants as ask
 use Rattle.enip_client.specs.declared.fault.ClientFault.{ClientFault}
+use Rattle.enip_client.specs.declared.fault.ClientFault.TheVariants as client
+use Rattle.enip_client.specs.declared.state.State.{State}
 use Rattle.enip_client.proofs.AskedLemmas.{lent_ok}
 use Rattle.enip_commands.specs.declared.turns.Turn.{Turn}
-use Rattle.enip_commands.specs.Sessions.{SessionEnds, session_ends, is_answer, kept_after, last_kept, Hearing, IsWritten}
+use Rattle.enip_commands.specs.declared.turns.Turn.TheVariants as turns
+use Rattle.enip_commands.specs.Sessions.{SessionEnds, session_ends, is_answer, kept_after, last_kept, Hearing, IsWritten, lent_again}
 use Rattle.enip_commands.specs.Sessions.{IsSent, IsAnswered, EndsWith, IsCause, IsUnanswered, IsAwaited, IsAwaitedIf, IsTurn, IsWrittenBy}
 use Rattle.enip_commands.specs.Sessions.{IsReadBy, HearsWhole, HearsFront, IsFaultHeard}
 use Rattle.enip_commands.specs.Sessions.Hearing.{Start, More}
@@ -239,3 +243,25 @@ sent_by failure r old new left reads read_failures before after failures later r
 pub turn_sent : (lent : Result Lent AskFault) (turn : Turn) (old mid new : SessionEnds) (result : Result (Unit {0}) AskFault)
     → IsSent lent old mid (Ok tt) → IsAwaited turn mid new result → IsTurn lent turn old new result
 turn_sent lent turn old mid new result s a = record { sent = Ok tt; mid = mid; sending = s; awaiting = a }
+
+-- ---- the waiting request, once more
+
+pub again_lent : (s : State) (o : Option Frame) (bytes : List ℕ) → Some bytes ≡ option_map frame o → Ok bytes ≡ bytes_lent (lent_again s o)
+again_lent s (Some again) bytes is = cc
+again_lent s None bytes is = absurd (let no : Some bytes ≡ None = is in cc)
+
+pub again_stays : (c : ClientState) (o : Option Frame) → with_state c (after_lending c.state (lent_again c.state o)) ≡ c
+again_stays c (Some again) = refl
+again_stays c None = refl
+
+-- no request waited
+pub again_refused : (s : State) (o : Option Frame) (old new : SessionEnds) → None ≡ option_map frame o → new ≡ old
+    → IsTurn (lends client_failure (lent_again s o)) turns.Request old new (Err (ask.Client client.State))
+again_refused s None old new is same =
+    record { sent = Err (ask.Client client.State); mid = old; sending = (refl, refl); awaiting = (refl, same) }
+again_refused s (Some again) old new is same = absurd (let no : None ≡ Some (frame again) = is in cc)
+
+-- the frame was not written
+pub turn_not_sent : (lent : Result Lent AskFault) (turn : Turn) (old new : SessionEnds) (fault : AskFault)
+    → IsSent lent old new (Err fault) → IsTurn lent turn old new (Err fault)
+turn_not_sent lent turn old new fault s = record { sent = Err fault; mid = new; sending = s; awaiting = (refl, refl) }

@@ -1,17 +1,17 @@
 -- One request to a device, and how its reply is reported.
-use Rattle.std.specs.Prelude.{⊤, ◌≡◌, ◌==◌, ◌⊎◌, ℕ, Bool, if◌then◌else◌, List, slice_get, Some, None, is_some, true, unwrap_or}
+use Rattle.std.specs.Prelude.{⊤, ◌≡◌, ◌==◌, ◌⊎◌, ℕ, Bool, if◌then◌else◌, List, [], slice_get, Some, None, is_some, true, unwrap_or}
 use Rattle.std.specs.Prelude.{Result, Ok, Err}
 use Rattle.cip_message.specs.PathWriting.{short}
 use Rattle.cip_message.specs.Request.{request}
 use Rattle.cip_message.specs.Reply.{Reply, reply_of}
-use Rattle.enip_client.specs.Asking.{Ends, IsAsked}
+use Rattle.enip_client.specs.Asking.{Ends, IsAskedOver}
 use Rattle.enip_client.specs.Client.{ClientState, new_client}
 use Rattle.enip_client.specs.State.{is_registered}
 use Rattle.enip_client.specs.declared.fault.AskFault.{AskFault}
 use Rattle.enip_client.specs.declared.fault.AskFault.TheVariants as ask
 use Rattle.enip_client.specs.declared.fault.ClientFault.TheVariants as client
 use Rattle.enip_commands.specs.declared.asking.DeviceRequest.{DeviceRequest}
-use Rattle.enip_commands.specs.declared.asking.TheConstants.{WANTS}
+use Rattle.enip_client.specs.declared.wants.Wants.{Wants}
 use Rattle.enip_commands.specs.declared.asking.ReplyOutcome.{ReplyOutcome}
 use Rattle.enip_commands.specs.declared.asking.ReplyOutcome.TheVariants.{Done, Refused}
 use Rattle.enip_commands.specs.declared.asking.RequestFailure.{RequestFailure}
@@ -52,17 +52,22 @@ exchange_result (Err (ask.Client (client.Status status))) registered =
 exchange_result (Err fault) registered = Err (stop_of fault)
 
 -- No client could be made: nothing was read, written or changed.
-abbrev pub IsWithoutClient : (ClientState → Ends) → (ClientState → Ends) → Result (Unit {0}) RequestFailure → Type 0
-IsWithoutClient old new result = (result ≡ Err (Program Memory)) × (new (new_client WANTS) ≡ old (new_client WANTS))
+abbrev pub IsWithoutClient : Wants → (ClientState → Ends) → (ClientState → Ends) → Result (Unit {0}) RequestFailure → Type 0
+IsWithoutClient wants old new result = (result ≡ Err (Program Memory)) × (new (new_client wants) ≡ old (new_client wants))
 
--- One exchange of a new client, whose ends are these for each state of the client.
-abbrev pub IsExchanged : List ℕ → Bool → (ClientState → Ends) → (ClientState → Ends)
+-- One exchange of a new client that wants this connection, over a route, whose ends are these for each state of the client.
+abbrev pub IsExchangedOver : Wants → List ℕ → List ℕ → Bool → (ClientState → Ends) → (ClientState → Ends)
     → Result (Unit {0}) RequestFailure → Type 0
-IsExchanged request connected old new result =
-    IsWithoutClient old new result
+IsExchangedOver wants route request connected old new result =
+    IsWithoutClient wants old new result
     ⊎ ((asked : Result (Unit {0}) AskFault) × ((left : ClientState)
-    × (IsAsked request connected (old (new_client WANTS)) (new left) asked
+    × (IsAskedOver route request connected (old (new_client wants)) (new left) asked
     × (result ≡ exchange_result asked (is_registered left.state.registration)))))
+
+-- The same without a route.
+abbrev pub IsExchanged : Wants → List ℕ → Bool → (ClientState → Ends) → (ClientState → Ends)
+    → Result (Unit {0}) RequestFailure → Type 0
+IsExchanged wants request connected old new result = IsExchangedOver wants [] request connected old new result
 
 -- A device or memory failed.
 abbrev pub IsOfDevice : RequestFailure → Type 0

@@ -3,9 +3,9 @@ use Rattle.std.specs.Prelude.{ℕ, ◌-◌, ◌+◌, ◌^◌, ◌≡◌, ◌⊎�
 use Rattle.std.specs.Prelude.{◌++◌, length, take, Option, Some, None, Result, Ok, Err}
 use Rattle.std.specs.List.{list_any}
 use Rattle.std.specs.Io.KnownBytes.{Appends, Consumes, IsAtEnd}
-use Rattle.enip_wire.specs.Frames.{frame}
-use Rattle.enip_client.specs.Asking.{LONGEST_REPLY, lends_call, requests}
-use Rattle.enip_client.specs.Calls.{Lent, registers, opens, closes, unregisters}
+use Rattle.enip_wire.specs.Frames.{Frame, frame}
+use Rattle.enip_client.specs.Asking.{LONGEST_REPLY, lends_call, requests_over}
+use Rattle.enip_client.specs.Calls.{Lent, lending, registers, opens_over, closes_over, unregisters, resends}
 use Rattle.enip_client.specs.Client.{ClientState, fed, new_client, with_state}
 use Rattle.enip_client.specs.Hears.{HeardEvent}
 use Rattle.enip_client.specs.Hears.HeardEvent.{Registered, Opened, Replied, Accepted, Refused, Closed}
@@ -13,12 +13,13 @@ use Rattle.enip_client.specs.declared.fault.AskFault.{AskFault}
 use Rattle.enip_client.specs.declared.fault.AskFault.TheVariants as ask
 use Rattle.enip_client.specs.declared.fault.ClientFault.{ClientFault}
 use Rattle.enip_client.specs.declared.fault.ClientFault.TheVariants as client
+use Rattle.enip_client.specs.declared.state.State.{State}
+use Rattle.enip_client.specs.declared.wants.Wants.{Wants}
 use Rattle.enip_commands.specs.Asking.{stop_of}
 use Rattle.enip_commands.specs.declared.asking.RequestFailure.{RequestFailure}
 use Rattle.enip_commands.specs.declared.asking.RequestFailure.TheVariants.{Session, Program}
 use Rattle.enip_commands.specs.declared.fault.ProgramFault.TheVariants.{Memory}
 use Rattle.enip_commands.specs.declared.session.DeviceSession.{DeviceSession}
-use Rattle.enip_commands.specs.declared.session.TheConstants.{LONG_LIVED}
 use Rattle.enip_commands.specs.declared.turns.Turn.{Turn}
 use Rattle.enip_commands.specs.declared.turns.Turn.TheVariants as turns
 
@@ -59,10 +60,12 @@ is_answer turn event = false
 abbrev pub fault_of_length : List ℕ → Option ClientFault
 fault_of_length bytes = if nat_lt LONGEST_REPLY (length bytes) then Some client.Malformed else None
 
--- What ends a turn with a fault, although the client has none: a refused open or close, and a reply that is too long.
+-- What ends a turn with a fault, although the client has none: a refused open or close, a request that a router refused,
+-- and a reply that is too long.
 abbrev pub fault_heard : Turn → HeardEvent → Option ClientFault
 fault_heard turns.Open (Refused status extended) = Some (client.Refused status extended)
 fault_heard turns.Close (Refused status extended) = Some (client.Refused status extended)
+fault_heard turns.Request (Refused status extended) = Some (client.Refused status extended)
 fault_heard turns.Request (Replied bytes) = fault_of_length bytes
 fault_heard turns.Request (Accepted bytes) = fault_of_length bytes
 fault_heard turn event = None
@@ -221,31 +224,44 @@ abbrev pub reported : Result (Unit {0}) AskFault → Result (Unit {0}) RequestFa
 reported (Ok done) = Ok done
 reported (Err fault) = Err (stop_of fault)
 
--- The connection is opened, if one is wanted and the session is registered.
-abbrev pub IsOpenedIf : Bool → Result (Unit {0}) AskFault → SessionEnds → SessionEnds → Result (Unit {0}) RequestFailure → Type 0
-IsOpenedIf connected (Err fault) mid new result = (result ≡ Err (begin_failure fault)) × (new ≡ mid)
-IsOpenedIf false (Ok done) mid new result = (result ≡ Ok done) × (new ≡ mid)
-IsOpenedIf true (Ok done) mid new result =
-    (opened : Result (Unit {0}) AskFault) × IsTurn (lends_call (opens mid.client.state)) turns.Open mid new opened
+-- The connection is opened over the route, if one is wanted and the session is registered.
+abbrev pub IsOpenedIf : List ℕ → Bool → Result (Unit {0}) AskFault → SessionEnds → SessionEnds → Result (Unit {0}) RequestFailure → Type 0
+IsOpenedIf route connected (Err fault) mid new result = (result ≡ Err (begin_failure fault)) × (new ≡ mid)
+IsOpenedIf route false (Ok done) mid new result = (result ≡ Ok done) × (new ≡ mid)
+IsOpenedIf route true (Ok done) mid new result =
+    (opened : Result (Unit {0}) AskFault) × IsTurn (lends_call (opens_over route mid.client.state)) turns.Open mid new opened
     × (result ≡ reported opened)
 
 -- A session is registered, and a connection is opened if one is wanted.
-pub record IsBegun (connected : Bool) (old new : SessionEnds) (result : Result (Unit {0}) RequestFailure) : Type 0 where
+pub record IsBegun (route : List ℕ) (connected : Bool) (old new : SessionEnds) (result : Result (Unit {0}) RequestFailure) : Type 0 where
   pub registered : Result (Unit {0}) AskFault
   pub mid : SessionEnds
   pub registering : IsTurn (lends_call (registers old.client.state)) turns.Register old mid registered
-  pub opening : IsOpenedIf connected registered mid new result
+  pub opening : IsOpenedIf route connected registered mid new result
 
--- A request is sent, on the connection if there is one, and the reply to it is kept.
-abbrev pub IsAskedInSession : List ℕ → Bool → SessionEnds → SessionEnds → Result (Unit {0}) RequestFailure → Type 0
-IsAskedInSession request connected old new result =
+-- A request is sent, on the connection if there is one, otherwise over the route, and the reply to it is kept.
+abbrev pub IsAskedInSession : List ℕ → List ℕ → Bool → SessionEnds → SessionEnds → Result (Unit {0}) RequestFailure → Type 0
+IsAskedInSession route request connected old new result =
     (asked : Result (Unit {0}) AskFault)
-    × IsTurn (requests old.client.state request connected) turns.Request old new asked × (result ≡ reported asked)
+    × IsTurn (requests_over route old.client.state request connected) turns.Request old new asked × (result ≡ reported asked)
+
+-- The frame of the request that waits on the connection, once more. The client stays as it is. If no request waits, the
+-- call is refused.
+abbrev pub lent_again : State → Option Frame → Result Lent ClientFault
+lent_again s (Some again) = Ok (lending again s)
+lent_again s None = Err client.State
+
+-- The request that waits is sent once more, and the reply to it is kept.
+abbrev pub IsAskedAgain : SessionEnds → SessionEnds → Result (Unit {0}) RequestFailure → Type 0
+IsAskedAgain old new result =
+    (asked : Result (Unit {0}) AskFault)
+    × IsTurn (lends_call (lent_again old.client.state (resends old.client.state))) turns.Request old new asked
+    × (result ≡ reported asked)
 
 -- The connection is closed, if there is one.
-abbrev pub IsClosedIf : Bool → SessionEnds → SessionEnds → Result (Unit {0}) AskFault → Type 0
-IsClosedIf true old new result = IsTurn (lends_call (closes old.client.state)) turns.Close old new result
-IsClosedIf false old new result = (result ≡ Ok tt) × (new ≡ old)
+abbrev pub IsClosedIf : List ℕ → Bool → SessionEnds → SessionEnds → Result (Unit {0}) AskFault → Type 0
+IsClosedIf route true old new result = IsTurn (lends_call (closes_over route old.client.state)) turns.Close old new result
+IsClosedIf route false old new result = (result ≡ Ok tt) × (new ≡ old)
 
 -- The session is unregistered, unless the connection was not closed.
 abbrev pub IsUnregisteredIf : Result (Unit {0}) AskFault → SessionEnds → SessionEnds → Result (Unit {0}) RequestFailure → Type 0
@@ -255,32 +271,46 @@ IsUnregisteredIf (Ok done) mid new result =
     × (result ≡ reported sent)
 
 -- A session ends: the connection is closed, if there is one, and the session is unregistered.
-pub record IsEnded (connected : Bool) (old new : SessionEnds) (result : Result (Unit {0}) RequestFailure) : Type 0 where
+pub record IsEnded (route : List ℕ) (connected : Bool) (old new : SessionEnds) (result : Result (Unit {0}) RequestFailure) : Type 0 where
   pub closed : Result (Unit {0}) AskFault
   pub mid : SessionEnds
-  pub closing : IsClosedIf connected old mid closed
+  pub closing : IsClosedIf route connected old mid closed
   pub leaving : IsUnregisteredIf closed mid new result
 
 -- No client could be made: nothing was read, written or changed.
-abbrev pub IsWithoutSession : (ClientState → List ℕ → SessionEnds) → (ClientState → List ℕ → SessionEnds) → RequestFailure → Type 0
-IsWithoutSession old new failure =
-    (failure ≡ Program Memory) × (new (new_client LONG_LIVED) [] ≡ old (new_client LONG_LIVED) [])
+abbrev pub IsWithoutSession : Wants → (ClientState → List ℕ → SessionEnds) → (ClientState → List ℕ → SessionEnds)
+    → RequestFailure → Type 0
+IsWithoutSession wants old new failure =
+    (failure ≡ Program Memory) × (new (new_client wants) [] ≡ old (new_client wants) [])
 
--- A session of a new client, whose ends are these for each state of the client and each reply that is kept.
-abbrev pub IsSessionBegun : Bool → (ClientState → List ℕ → SessionEnds) → (ClientState → List ℕ → SessionEnds)
+-- A session of a new client that wants this connection, over a route, whose ends are these for each state of the client
+-- and each reply that is kept.
+abbrev pub IsSessionBegunOver : Wants → List ℕ → Bool → (ClientState → List ℕ → SessionEnds) → (ClientState → List ℕ → SessionEnds)
     → Result DeviceSession RequestFailure → Type 0
-IsSessionBegun connected old new (Ok session) =
-    (session.connected ≡ connected)
-    × IsBegun connected (old (new_client LONG_LIVED) []) (new session.client session.reply.items) (Ok tt)
-IsSessionBegun connected old new (Err failure) =
-    IsWithoutSession old new failure
+IsSessionBegunOver wants route connected old new (Ok session) =
+    (session.connected ≡ connected) × (session.route ≡ route)
+    × IsBegun route connected (old (new_client wants) []) (new session.client session.reply.items) (Ok tt)
+IsSessionBegunOver wants route connected old new (Err failure) =
+    IsWithoutSession wants old new failure
     ⊎ ((left : ClientState) × ((kept : List ℕ)
-    × IsBegun connected (old (new_client LONG_LIVED) []) (new left kept) (Err failure)))
+    × IsBegun route connected (old (new_client wants) []) (new left kept) (Err failure)))
 
--- A request was asked, and what is lent is the reply that is kept, as it is after some state of the client.
-abbrev pub IsReplyLent : List ℕ → Bool → SessionEnds → (ClientState → List ℕ → SessionEnds)
+-- The same without a route.
+abbrev pub IsSessionBegun : Wants → Bool → (ClientState → List ℕ → SessionEnds) → (ClientState → List ℕ → SessionEnds)
+    → Result DeviceSession RequestFailure → Type 0
+IsSessionBegun wants connected old new result = IsSessionBegunOver wants [] connected old new result
+
+-- A request was asked, by this relation of the ends before and after, and what is lent is the reply that is kept, as it is
+-- after some state of the client.
+abbrev pub IsLentAfter : (SessionEnds → Result (Unit {0}) RequestFailure → Type 0) → (ClientState → List ℕ → SessionEnds)
     → Result (List ℕ) RequestFailure → Type 0
-IsReplyLent request connected old new (Ok reply) =
-    (left : ClientState) × IsAskedInSession request connected old (new left reply) (Ok tt)
-IsReplyLent request connected old new (Err failure) =
-    (left : ClientState) × ((kept : List ℕ) × IsAskedInSession request connected old (new left kept) (Err failure))
+IsLentAfter IsAsked new (Ok reply) = (left : ClientState) × IsAsked (new left reply) (Ok tt)
+IsLentAfter IsAsked new (Err failure) = (left : ClientState) × ((kept : List ℕ) × IsAsked (new left kept) (Err failure))
+
+abbrev pub IsReplyLent : List ℕ → List ℕ → Bool → SessionEnds → (ClientState → List ℕ → SessionEnds)
+    → Result (List ℕ) RequestFailure → Type 0
+IsReplyLent route request connected old new result =
+    IsLentAfter (IsAskedInSession route request connected old) new result
+
+abbrev pub IsReplyLentAgain : SessionEnds → (ClientState → List ℕ → SessionEnds) → Result (List ℕ) RequestFailure → Type 0
+IsReplyLentAgain old new result = IsLentAfter (IsAskedAgain old) new result

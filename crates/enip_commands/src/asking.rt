@@ -1,11 +1,12 @@
 //! `enip get`, `enip set` and `enip call`: one request and its reply.
 
-ghost use Rattle.std.specs.Prelude.{◌≡◌, ◌<◌, None, IfOk, IfErr};
+ghost use Rattle.std.specs.Prelude.{◌≡◌, ◌<◌, ◌≤◌, None, IfOk, IfErr};
+ghost use Rattle.cip_bytes.specs.declared.protocol.TheConstants.{LARGEST_CONNECTION_SIZE};
 ghost use Rattle.cip_message.specs.PathWriting.{short};
 ghost use Rattle.cip_message.specs.Request.{request};
 ghost use Rattle.enip_client.specs.Asking.{ends};
 ghost use Rattle.enip_commands.specs.Asking.{IsRequested, IsReplyPrinted, IsNotPrinted, IsOfDevice, IsOfExchange};
-ghost use Rattle.enip_commands.specs.Asking.{IsExchanged, IsNotMade, exchange_result};
+ghost use Rattle.enip_commands.specs.Asking.{IsExchanged, IsExchangedOver, IsNotMade, exchange_result};
 ghost use Rattle.enip_commands.specs.Statuses.{asking_status, replied_status, request_failure_status};
 
 use crate::digits::decode;
@@ -16,8 +17,9 @@ use crate::style::{Style, data_object, print_data};
 use arrayvec::ArrayVec;
 use cip_message::{Path, ReplyView, write_path};
 use cip_objects::ReplyBuf;
+use cip_route::Route;
 use cip_values::{ValueFault, ValueType};
-use enip_client::{AskFault, Client, ClientFault, Wants, ask};
+use enip_client::{AskFault, Client, ClientFault, Wants};
 use enip_wire::{Sink, Source};
 use std::alloc::{AllocError, Global};
 use std::io::{self, BufWriter, Write};
@@ -254,16 +256,57 @@ pub fn exchange_over<R: Source, W: Sink>(
 ) -> Result<(), RequestFailure>
     requires reads { R.failures reader.old < u64.MAX }
     requires writes { W.failures writer.old < u64.MAX }
-    ensures exchanged { IsExchanged request.now connected
+    ensures exchanged { IsExchanged WANTS request.now connected
         (λ client. ends client (R.left reader.old) (R.reads reader.old) (W.written writer.old) reply.old.items)
         (λ client. ends client (R.left reader.new) (R.reads reader.new) (W.written writer.new) reply.new.items) result }
     ensures failed { IfErr result IsOfExchange }
 {
-    let mut client = match Client::new(alloc, &WANTS) {
+    let route = Route::new();
+    exchange_with(
+        alloc, &WANTS, reader, writer, &route, request, connected, reply,
+    )
+}
+
+/// As [`exchange_over`], with a client that wants this connection, to a device at the end of a route. The session is the
+/// first router's.
+///
+/// # Errors
+///
+/// Those of [`exchange_over`]. It is `Client` with `Refused` as well if a router did not pass the request on.
+pub fn exchange_with<R: Source, W: Sink>(
+    alloc: Global,
+    wants: &Wants,
+    reader: &mut R,
+    writer: &mut W,
+    route: &Route,
+    request: &[u8],
+    connected: bool,
+    reply: &mut ReplyBuf,
+) -> Result<(), RequestFailure>
+    requires o_to_t_from { 4 ≤ wants.now.o_to_t_size }
+    requires o_to_t_to { wants.now.o_to_t_size ≤ LARGEST_CONNECTION_SIZE }
+    requires t_to_o_from { 10 ≤ wants.now.t_to_o_size }
+    requires t_to_o_to { wants.now.t_to_o_size ≤ LARGEST_CONNECTION_SIZE }
+    requires reads { R.failures reader.old < u64.MAX }
+    requires writes { W.failures writer.old < u64.MAX }
+    ensures exchanged { IsExchangedOver wants.now route.now request.now connected
+        (λ client. ends client (R.left reader.old) (R.reads reader.old) (W.written writer.old) reply.old.items)
+        (λ client. ends client (R.left reader.new) (R.reads reader.new) (W.written writer.new) reply.new.items) result }
+    ensures failed { IfErr result IsOfExchange }
+{
+    let mut client = match Client::new(alloc, wants) {
         Ok(client) => client,
         Err(fault) => return Err(RequestFailure::from(AskFault::Client(fault))),
     };
-    let asked = ask(&mut client, reader, writer, request, connected, reply);
+    let asked = enip_client::ask_over(
+        &mut client,
+        reader,
+        writer,
+        route,
+        request,
+        connected,
+        reply,
+    );
     session_refusal(asked, client.is_registered())
 }
 
@@ -320,6 +363,27 @@ pub fn show_reply<O: Write + Drop>(
 {
     let mut output = BufWriter::new(alloc, output)?;
     let replied = print_reply(alloc, &mut output, style, bytes)?;
+    output.flush()?;
+    Ok(replied)
+}
+
+/// Prints a refusal of the connection on `output` in a style, as `ask_over` does.
+///
+/// # Errors
+///
+/// `Program` if the output failed or memory was refused.
+pub fn show_refusal<O: Write + Drop>(
+    alloc: Global,
+    output: O,
+    style: Style,
+    status: u8,
+    extended: u16,
+) -> Result<ReplyOutcome, RequestFailure>
+    ensures rendered { IfOk result (λ replied. replied ≡ ReplyOutcome.Refused status extended) }
+    ensures not_printed { IfErr result IsOfDevice }
+{
+    let mut output = BufWriter::new(alloc, output)?;
+    let replied = print_refusal(alloc, &mut output, style, status, extended)?;
     output.flush()?;
     Ok(replied)
 }

@@ -45,8 +45,8 @@ mod typed;
 
 pub use answering::answer;
 pub use asking::{
-    DeviceRequest, ReplyOutcome, RequestFailure, WANTS, ask_over, exchange_over, report_outcome,
-    show_reply,
+    DeviceRequest, ReplyOutcome, RequestFailure, WANTS, ask_over, exchange_over, exchange_with,
+    report_outcome, show_refusal, show_reply,
 };
 pub use command_file::{CommandFile, CommandFileFault, read_commander, write_commander};
 pub use digits::{Digits, decode};
@@ -61,7 +61,7 @@ pub use once::{
     read_life,
 };
 pub use reading::{Readings, print_reading};
-pub use session::DeviceSession;
+pub use session::{DeviceSession, LONG_LIVED};
 pub use showing::show_frames;
 pub use style::{DIGITS, Style};
 pub use typed::TypedRequest;

@@ -8,8 +8,12 @@ ghost use Rattle.enip_commands.specs.Statuses.{IsOfDevices, IsStopOfDevices};
 use crate::digits::{decode, print_digits};
 use crate::fault::ProgramFault;
 use crate::input_lines::{TakeLines, read_lines};
-use cip_bytes::protocol::Command;
-use cip_message::{PathFault, ReplyFault, ReplyView, RequestFault, RequestView, read_path};
+use cip_bytes::protocol::{CONNECTION_MANAGER, Command, ManagerService};
+use cip_message::{
+    CloseRequest, LengthFault, OpenRequest, Path, PathFault, ReplyFault, ReplyView, RequestFault,
+    RequestView, read_path,
+};
+use cip_route::{HopFault, HopView, UNCONNECTED_SEND, UnconnectedSend, read_hop};
 use enip_wire::{CpfFault, FrameReader, FrameView, Header, Held, cpf_items, rr_body, unit_body};
 use std::alloc::Global;
 use std::io::{self, BufWriter, Read, Write};
@@ -17,6 +21,9 @@ use thiserror::Error;
 
 /// How many bytes precede the items of a packet: interface and timeout. (Volume 2, SendRRData.)
 const BEFORE_ITEMS: usize = 6;
+
+/// The lowest first byte of a segment that is not a port segment. (Volume 1, segment types.)
+const OTHER_SEGMENT: u8 = 0x20;
 
 /// Prints the fields of frames, which the input has in hexadecimal, one per line.
 ///
@@ -63,6 +70,12 @@ enum ShowFailure {
     /// The message is not a reply.
     #[error("reply {}", .0.number())]
     Reply(ReplyFault),
+    /// The data of an Unconnected_Send are too short or too long.
+    #[error("send {}", .0.number())]
+    Send(LengthFault),
+    /// A hop of a route is not a port segment.
+    #[error("hop {}", .0.number())]
+    Hop(HopFault),
     /// The program itself failed.
     #[error("{0}")]
     Program(ProgramFault),
@@ -115,6 +128,22 @@ impl From<ReplyFault> for ShowFailure {
 
     fn from(fault: ReplyFault) -> ShowFailure {
         ShowFailure::Reply(fault)
+    }
+}
+
+impl From<LengthFault> for ShowFailure {
+    ghost from_gives = { λ _ stop. IsStopOfDevices stop };
+
+    fn from(fault: LengthFault) -> ShowFailure {
+        ShowFailure::Send(fault)
+    }
+}
+
+impl From<HopFault> for ShowFailure {
+    ghost from_gives = { λ _ stop. IsStopOfDevices stop };
+
+    fn from(fault: HopFault) -> ShowFailure {
+        ShowFailure::Hop(fault)
     }
 }
 
@@ -243,12 +272,122 @@ fn show_message<W: Write>(output: &mut W, message: &[u8]) -> Result<(), ShowFail
     }
 }
 
-/// Prints a request and its path.
+/// Prints a request, and the route in it if it is one of the Connection Manager.
 fn show_request<W: Write>(output: &mut W, message: &[u8]) -> Result<(), ShowFailure>
     ensures { IfErr result IsStopOfDevices }
 {
     let request = RequestView::read(message)?;
     let path = read_path(request.path)?;
+    print_request(output, &request, &path)?;
+    if path.class == CONNECTION_MANAGER && path.instance == 1 {
+        return show_managed(output, request.service, request.data);
+    }
+    Ok(())
+}
+
+/// Prints the route in the data of a request of the Connection Manager, if it has one.
+fn show_managed<W: Write>(output: &mut W, service: u8, bytes: &[u8]) -> Result<(), ShowFailure>
+    ensures { IfErr result IsStopOfDevices }
+{
+    if service == UNCONNECTED_SEND {
+        return show_send(output, bytes);
+    }
+    match connection_path(service, bytes) {
+        Some(path) => show_hops(output, route_in(path)),
+        None => Ok(()),
+    }
+}
+
+/// The path in the data of a request that opens or closes a connection.
+fn connection_path(service: u8, bytes: &[u8]) -> Option<&[u8]> {
+    match ManagerService::of(service)? {
+        ManagerService::ForwardOpen => match OpenRequest::read(bytes) {
+            Ok(open) => Some(open.path),
+            Err(_) => None,
+        },
+        ManagerService::LargeForwardOpen => match OpenRequest::read_large(bytes) {
+            Ok(open) => Some(open.path),
+            Err(_) => None,
+        },
+        ManagerService::ForwardClose => match CloseRequest::read(bytes) {
+            Ok(close) => Some(close.path),
+            Err(_) => None,
+        },
+    }
+}
+
+/// The port segments at the front of a path. Bytes that begin one and do not end it are included.
+fn route_in(path: &[u8]) -> &[u8] {
+    let mut rest = path;
+    while let [first, ..] = rest {
+        if *first >= OTHER_SEGMENT {
+            break;
+        }
+        match read_hop(rest) {
+            Ok((_hop, after)) => rest = after,
+            Err(_) => return path,
+        }
+    }
+    &path[..path.len() - rest.len()]
+}
+
+/// Prints an Unconnected_Send: how long routers try, the request in it, and the hops of its route.
+fn show_send<W: Write>(output: &mut W, bytes: &[u8]) -> Result<(), ShowFailure>
+    ensures { IfErr result IsStopOfDevices }
+{
+    let send = UnconnectedSend::read(bytes)?;
+    writeln!(
+        output,
+        "send tick 0x{:02x} ticks {} message {} route {}",
+        send.priority_and_tick_time,
+        send.timeout_ticks,
+        send.message.len(),
+        send.route.len()
+    )?;
+    let request = RequestView::read(send.message)?;
+    let path = read_path(request.path)?;
+    print_request(output, &request, &path)?;
+    show_hops(output, send.route)
+}
+
+/// Prints the hops of a route, one per line.
+fn show_hops<W: Write>(output: &mut W, route: &[u8]) -> Result<(), ShowFailure>
+    ensures { IfErr result IsStopOfDevices }
+{
+    let mut rest = route;
+    while !rest.is_empty() {
+        match read_hop(rest) {
+            Ok((hop, after)) => {
+                print_hop(output, hop)?;
+                rest = after;
+            }
+            Err(fault) => return Err(ShowFailure::Hop(fault)),
+        }
+    }
+    Ok(())
+}
+
+/// Prints a hop as `--route` takes it: a link of one byte as a number, a longer one as text. A link that is no text is
+/// hexadecimal.
+fn print_hop<W: Write>(output: &mut W, hop: HopView<'_>) -> io::Result<()> {
+    write!(output, "hop {}/", hop.port)?;
+    match hop.link {
+        [number] => write!(output, "{number}")?,
+        text if text.iter().all(|byte| byte.is_ascii_graphic()) => output.write_all(text)?,
+        bytes => {
+            output.write_all(b"0x")?;
+            print_digits(output, bytes)?;
+        }
+    }
+    output.write_all(b"\n")
+}
+
+/// Prints a request and its path.
+fn print_request<W: Write>(
+    output: &mut W,
+    request: &RequestView<'_>,
+    path: &Path,
+) -> io::Result<()> {
     write!(
         output,
         "request 0x{:02x} class {} instance {} attribute ",
@@ -259,8 +398,7 @@ fn show_request<W: Write>(output: &mut W, message: &[u8]) -> Result<(), ShowFail
     print_number(output, path.member)?;
     output.write_all(b" data ")?;
     print_bytes(output, request.data)?;
-    output.write_all(b"\n")?;
-    Ok(())
+    output.write_all(b"\n")
 }
 
 /// Prints a reply. Each additional status word has four digits.

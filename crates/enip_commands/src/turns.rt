@@ -2,13 +2,14 @@
 
 ghost use Rattle.std.specs.Prelude.{◌≡◌, ◌≤◌, ◌<◌, ◌+◌, ◌++◌, ℕ, length, take, Option, List, Some, None, false, IfOk, MatchResult};
 ghost use Rattle.std.specs.Io.KnownBytes.{Appends};
-ghost use Rattle.enip_client.specs.Asking.{lends, lends_call, submit_failure, requests};
-ghost use Rattle.enip_client.specs.Calls.{registers, opens, asks, submits, closes, unregisters};
+ghost use Rattle.enip_client.specs.Asking.{lends, lends_call, submit_failure, requests_over};
+ghost use Rattle.enip_client.specs.Calls.{registers, opens_over, asks_over, submits, closes_over, unregisters, resends};
 ghost use Rattle.enip_client.specs.Client.{heard_event_in};
-ghost use Rattle.enip_commands.specs.Sessions.{SessionEnds, session_ends, is_answer, fault_heard, kept_after};
+ghost use Rattle.enip_commands.specs.Sessions.{SessionEnds, session_ends, is_answer, fault_heard, kept_after, lent_again};
 ghost use Rattle.enip_commands.specs.Sessions.{IsSent, IsAwaited, IsTurn, IsReadBy, IsHeard, IsFaultHeard, IsWrittenBy};
 
 use cip_objects::{REPLY_LIMIT, ReplyBuf};
+use cip_route::Route;
 use enip_client::{AskFault, Client, ClientFault, Heard};
 use enip_wire::{Sink, Source, write_all};
 
@@ -50,7 +51,7 @@ pub(crate) fn register<R: Source, W: Sink>(
     await_answer(client, Turn::Register, reader, reply)
 }
 
-/// Opens the connection.
+/// Opens the connection over a route.
 ///
 /// # Errors
 ///
@@ -59,20 +60,21 @@ pub(crate) fn open<R: Source, W: Sink>(
     client: &mut Client,
     reader: &mut R,
     writer: &mut W,
+    route: &Route,
     reply: &mut ReplyBuf,
 ) -> Result<(), AskFault>
-    ensures { IsTurn (lends_call (opens client.old.state)) Turn.Open
+    ensures { IsTurn (lends_call (opens_over route.now client.old.state)) Turn.Open
         (session_ends client.old (R.left reader.old) (R.reads reader.old) (R.failures reader.old)
         (W.written writer.old) (W.failures writer.old) reply.old.items)
         (session_ends client.new (R.left reader.new) (R.reads reader.new) (R.failures reader.new)
         (W.written writer.new) (W.failures writer.new) reply.new.items) result }
 {
-    let frame = client.open()?;
+    let frame = client.open_over(route)?;
     send(writer, frame)?;
     await_answer(client, Turn::Open, reader, reply)
 }
 
-/// Sends a request, on the connection if there is one, and keeps the reply.
+/// Sends a request, on the connection if there is one, otherwise over a route, and keeps the reply.
 ///
 /// # Errors
 ///
@@ -81,11 +83,12 @@ pub(crate) fn ask_once<R: Source, W: Sink>(
     client: &mut Client,
     reader: &mut R,
     writer: &mut W,
+    route: &Route,
     request: &[u8],
     connected: bool,
     reply: &mut ReplyBuf,
 ) -> Result<(), AskFault>
-    ensures { IsTurn (requests client.old.state request.now connected) Turn.Request
+    ensures { IsTurn (requests_over route.now client.old.state request.now connected) Turn.Request
         (session_ends client.old (R.left reader.old) (R.reads reader.old) (R.failures reader.old)
         (W.written writer.old) (W.failures writer.old) reply.old.items)
         (session_ends client.new (R.left reader.new) (R.reads reader.new) (R.failures reader.new)
@@ -94,7 +97,7 @@ pub(crate) fn ask_once<R: Source, W: Sink>(
     if connected {
         submit(client, reader, writer, request, reply)
     } else {
-        ask_unconnected(client, reader, writer, request, reply)
+        ask_unconnected(client, reader, writer, route, request, reply)
     }
 }
 
@@ -117,26 +120,51 @@ fn submit<R: Source, W: Sink>(
     await_answer(client, Turn::Request, reader, reply)
 }
 
-/// Sends an unconnected request, and keeps the reply.
+/// Sends an unconnected request over a route, and keeps the reply.
 fn ask_unconnected<R: Source, W: Sink>(
     client: &mut Client,
     reader: &mut R,
     writer: &mut W,
+    route: &Route,
     request: &[u8],
     reply: &mut ReplyBuf,
 ) -> Result<(), AskFault>
-    ensures { IsTurn (lends_call (asks client.old.state request.now)) Turn.Request
+    ensures { IsTurn (lends_call (asks_over route.now client.old.state request.now)) Turn.Request
         (session_ends client.old (R.left reader.old) (R.reads reader.old) (R.failures reader.old)
         (W.written writer.old) (W.failures writer.old) reply.old.items)
         (session_ends client.new (R.left reader.new) (R.reads reader.new) (R.failures reader.new)
         (W.written writer.new) (W.failures writer.new) reply.new.items) result }
 {
-    let frame = client.unconnected(request)?;
+    let frame = client.unconnected_over(route, request)?;
     send(writer, frame)?;
     await_answer(client, Turn::Request, reader, reply)
 }
 
-/// Closes the connection.
+/// Sends the request that waits on the connection once more, and keeps the reply.
+///
+/// # Errors
+///
+/// Those of `send` and `await_answer`, or `Client` with `State` if no request waits.
+pub(crate) fn ask_again<R: Source, W: Sink>(
+    client: &mut Client,
+    reader: &mut R,
+    writer: &mut W,
+    reply: &mut ReplyBuf,
+) -> Result<(), AskFault>
+    ensures { IsTurn (lends_call (lent_again client.old.state (resends client.old.state))) Turn.Request
+        (session_ends client.old (R.left reader.old) (R.reads reader.old) (R.failures reader.old)
+        (W.written writer.old) (W.failures writer.old) reply.old.items)
+        (session_ends client.new (R.left reader.new) (R.reads reader.new) (R.failures reader.new)
+        (W.written writer.new) (W.failures writer.new) reply.new.items) result }
+{
+    let Some(frame) = client.resend() else {
+        return Err(AskFault::Client(ClientFault::State));
+    };
+    send(writer, frame)?;
+    await_answer(client, Turn::Request, reader, reply)
+}
+
+/// Closes the connection over the route of its opening.
 ///
 /// # Errors
 ///
@@ -145,15 +173,16 @@ pub(crate) fn close<R: Source, W: Sink>(
     client: &mut Client,
     reader: &mut R,
     writer: &mut W,
+    route: &Route,
     reply: &mut ReplyBuf,
 ) -> Result<(), AskFault>
-    ensures { IsTurn (lends_call (closes client.old.state)) Turn.Close
+    ensures { IsTurn (lends_call (closes_over route.now client.old.state)) Turn.Close
         (session_ends client.old (R.left reader.old) (R.reads reader.old) (R.failures reader.old)
         (W.written writer.old) (W.failures writer.old) reply.old.items)
         (session_ends client.new (R.left reader.new) (R.reads reader.new) (R.failures reader.new)
         (W.written writer.new) (W.failures writer.new) reply.new.items) result }
 {
-    let frame = client.close()?;
+    let frame = client.close_over(route)?;
     send(writer, frame)?;
     await_answer(client, Turn::Close, reader, reply)
 }
@@ -195,8 +224,8 @@ fn send<W: Sink>(writer: &mut W, frame: &[u8]) -> Result<(), AskFault>
 ///
 /// # Errors
 ///
-/// `Read`, `Ended` or `Spent`. `Client` with `Refused` if an open or a close was refused, with `Malformed` if a reply is
-/// too long, or with another fault of the client.
+/// `Read`, `Ended` or `Spent`. `Client` with `Refused` if an open, a close or a request on a route was refused, with
+/// `Malformed` if a reply is too long, or with another fault of the client.
 fn await_answer<R: Source>(
     client: &mut Client,
     turn: Turn,
@@ -274,7 +303,7 @@ fn feed_piece(
 ///
 /// # Errors
 ///
-/// `Client` with `Refused` if an open or a close was refused, or with `Malformed` if a reply is too long.
+/// `Client` with `Refused` if an open, a close or a request on a route was refused, or with `Malformed` if a reply is too long.
 fn keep(turn: Turn, heard: Heard<'_>, reply: &mut ReplyBuf) -> Result<bool, AskFault>
     ensures { MatchResult result
         (λ is_heard. (is_heard ≡ is_answer turn (heard_event_in heard.entry))
@@ -286,7 +315,7 @@ fn keep(turn: Turn, heard: Heard<'_>, reply: &mut ReplyBuf) -> Result<bool, AskF
         (Turn::Register, Heard::Registered)
         | (Turn::Open, Heard::Opened)
         | (Turn::Close, Heard::Closed) => Ok(true),
-        (Turn::Open | Turn::Close, Heard::Refused(status, extended)) => {
+        (Turn::Open | Turn::Request | Turn::Close, Heard::Refused(status, extended)) => {
             Err(AskFault::Client(ClientFault::Refused(status, extended)))
         }
         (Turn::Request, Heard::Reply(bytes) | Heard::Accepted(bytes)) => {

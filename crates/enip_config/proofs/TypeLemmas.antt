@@ -7,12 +7,12 @@ use Rattle.cip_bytes.specs.Numbers.{le}
 use Rattle.cip_values.specs.Types.{name_of}
 use Rattle.cip_values.specs.declared.element.ElementaryType.{ElementaryType}
 use Rattle.cip_values.specs.declared.element.ElementaryType.TheVariants as elements
-use Rattle.enip_config.specs.Types.{every_element, element_among, element_named, element_bits, width_of, all_bytes}
+use Rattle.enip_config.specs.Types.{every_element, element_among, known_element, element_bits, width_of, all_bytes}
 use Rattle.enip_config.proofs.KeyLemmas.{not_same}
 
 -- Each elementary type is the one with its name, and no other name is one's.
-pub element_with_name : (e : ElementaryType) → element_named (name_of e) ≡ Some e
-unfolding element_named
+pub element_with_name : (e : ElementaryType) → known_element (name_of e) ≡ Some e
+unfolding known_element
 element_with_name elements.Bool = refl
 element_with_name elements.Sint = refl
 element_with_name elements.Int = refl
@@ -28,15 +28,24 @@ element_with_name elements.Dword = refl
 element_with_name elements.Lword = refl
 element_with_name elements.Real = refl
 element_with_name elements.ShortString = refl
+element_with_name elements.Lreal = refl
+element_with_name elements.String = refl
+element_with_name elements.String2 = refl
+element_with_name elements.Epath = refl
+element_with_name elements.Date = refl
+element_with_name elements.TimeOfDay = refl
+element_with_name elements.DateAndTime = refl
+element_with_name elements.Time = refl
+element_with_name elements.Ltime = refl
 
 none_among : (es : List ElementaryType) (name : List ℕ) → ((e : ElementaryType) → name_of e ≡ name → ⊥) → element_among es name ≡ None
 none_among [] name never = refl
 none_among (e ∷ es) name never = rw (not_same name (name_of e) (λ same. never e (sym same))) (none_among es name never)
 
 pub element_found : (name : List ℕ) (found : Option ElementaryType) → IfSome found (λ e. name_of e ≡ name)
-    → (found ≡ None → (e : ElementaryType) → name_of e ≡ name → ⊥) → found ≡ element_named name
-unfolding element_named
-element_found name (Some e) named other = sym (ap element_named (sym named) ∙ element_with_name e)
+    → (found ≡ None → (e : ElementaryType) → name_of e ≡ name → ⊥) → found ≡ known_element name
+unfolding known_element
+element_found name (Some e) named other = sym (ap known_element (sym named) ∙ element_with_name e)
 element_found name None named other = sym (none_among every_element name (other refl))
 
 -- One more value is read.

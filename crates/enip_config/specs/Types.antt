@@ -3,7 +3,7 @@ use Rattle.std.specs.Prelude.{ℕ, suc, pos, negsuc, ◌+◌, ◌-◌, ◌*◌, 
 use Rattle.std.specs.Prelude.{if◌then◌else◌, min, List, [], ◌∷◌, ◌++◌, length, replicate, codes, bytes_eq, Option, Some, None}
 use Rattle.std.specs.Prelude.{option_map, option_and_then, unwrap_or, to_bits}
 use Rattle.std.specs.List.{position_or_len, before_first, after_first}
-use Rattle.std.specs.Float.{Float, binary32, float_is_infinite, round_to_format}
+use Rattle.std.specs.Float.{Float, binary32, binary64, float_is_infinite, round_to_format}
 use Rattle.std.specs.Float.Ieee.{of_int}
 use Rattle.toml.specs.Data.{Data, string, integer, float, boolean, array, Items, no_items, item, Members, get_member}
 use Rattle.toml.specs.Data.{as_str}
@@ -28,7 +28,8 @@ abbrev pub every_element : List ElementaryType
 every_element =
     elements.Bool ∷ elements.Sint ∷ elements.Int ∷ elements.Dint ∷ elements.Lint ∷ elements.Usint ∷ elements.Uint
     ∷ elements.Udint ∷ elements.Ulint ∷ elements.Byte ∷ elements.Word ∷ elements.Dword ∷ elements.Lword
-    ∷ elements.Real ∷ elements.ShortString ∷ []
+    ∷ elements.Real ∷ elements.ShortString ∷ elements.Lreal ∷ elements.String ∷ elements.String2 ∷ elements.Epath
+    ∷ elements.Date ∷ elements.TimeOfDay ∷ elements.DateAndTime ∷ elements.Time ∷ elements.Ltime ∷ []
 
 -- the first of these types with this name
 abbrev pub element_among : List ElementaryType → List ℕ → Option ElementaryType
@@ -36,8 +37,21 @@ element_among [] name = None
 element_among (element ∷ others) name =
     if bytes_eq name (name_of element) then Some element else element_among others name
 
-unfoldable pub element_named : List ℕ → Option ElementaryType
-element_named name = element_among every_element name
+unfoldable pub known_element : List ℕ → Option ElementaryType
+known_element name = element_among every_element name
+
+-- strings with longer counts, paths, dates and times of day are no types of attributes
+abbrev pub own_element : ElementaryType → Option ElementaryType
+own_element elements.String = None
+own_element elements.String2 = None
+own_element elements.Epath = None
+own_element elements.Date = None
+own_element elements.TimeOfDay = None
+own_element elements.DateAndTime = None
+own_element element = Some element
+
+abbrev pub element_named : List ℕ → Option ElementaryType
+element_named name = option_and_then own_element (known_element name)
 
 -- a count with one more decimal digit, up to 16 bits
 abbrev pub with_digit : ℕ → ℕ → Option ℕ
@@ -102,6 +116,11 @@ real_bits (float number) = rounded_bits number (round_to_format binary32 number)
 real_bits (integer number) = Some (to_bits binary32 (of_int binary32 number))
 real_bits _ = None
 
+abbrev pub lreal_bits : Data → Option ℕ
+lreal_bits (float number) = Some (to_bits binary64 number)
+lreal_bits (integer number) = Some (to_bits binary64 (of_int binary64 number))
+lreal_bits _ = None
+
 -- The bits of a value of an elementary type: the number that its bytes spell, least first.
 abbrev pub element_bits : ElementaryType → Data → Option ℕ
 element_bits elements.Bool value = truth_bits value
@@ -118,7 +137,10 @@ element_bits elements.Word value = number_in 0 0xffff value
 element_bits elements.Dword value = number_in 0 0xffff_ffff value
 element_bits elements.Lword value = number_in 0 0xffff_ffff_ffff_ffff value
 element_bits elements.Real value = real_bits value
-element_bits elements.ShortString value = None
+element_bits elements.Lreal value = lreal_bits value
+element_bits elements.Time value = signed_bits 0x8000_0000 value
+element_bits elements.Ltime value = signed_bits 0x8000_0000_0000_0000 value
+element_bits element value = None
 
 -- the bytes of one value
 abbrev pub width_of : ElementaryType → ℕ
@@ -173,6 +195,9 @@ number_type elements.Uint = Some numbers.Uint
 number_type elements.Udint = Some numbers.Udint
 number_type elements.Ulint = Some numbers.Ulint
 number_type elements.Real = Some numbers.Real
+number_type elements.Lreal = Some numbers.Lreal
+number_type elements.Time = Some numbers.Dint
+number_type elements.Ltime = Some numbers.Lint
 number_type element = None
 
 -- the bits of the least and of the greatest number of a type

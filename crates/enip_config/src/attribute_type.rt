@@ -2,7 +2,7 @@
 //! Text: docs/PROGRAM.md, "The configuration".
 
 ghost use Rattle.std.specs.Prelude.{◌≡◌, ◌≤◌};
-ghost use Rattle.enip_config.specs.Types.{element_named, with_digit, count_from, counted_element, counted_type};
+ghost use Rattle.enip_config.specs.Types.{element_named, known_element, own_element, with_digit, count_from, counted_element, counted_type};
 ghost use Rattle.enip_config.specs.Types.{single_type, type_named, width_of, fixed_size, kind_of};
 
 use cip_application::{AttributeKind, NumberRange};
@@ -77,7 +77,25 @@ impl fmt::Display for AttributeType {
 fn element_named(name: &str) -> Option<ElementaryType>
     ensures { result ≡ element_named name.now }
 {
+    own_element(known_element(name)?)
+}
+
+/// The elementary type with this name, whether an attribute can have it or not.
+fn known_element(name: &str) -> Option<ElementaryType>
+    ensures { result ≡ known_element name.now }
+{
     ElementaryType::from_name(name)
+}
+
+/// The type if an attribute can have it.
+fn own_element(element: ElementaryType) -> Option<ElementaryType>
+    ensures { result ≡ own_element element }
+{
+    match element {
+        ElementaryType::String | ElementaryType::String2 | ElementaryType::Epath => None,
+        ElementaryType::Date | ElementaryType::TimeOfDay | ElementaryType::DateAndTime => None,
+        element => Some(element),
+    }
 }
 
 /// The type whose name has this part before the bracket, and this count in brackets.
@@ -145,17 +163,20 @@ fn with_digit(count: u16, byte: u8) -> Option<u16>
     Some(more as u16)
 }
 
-/// The size of a value in bytes. For a SHORT_STRING this is the size of the length byte alone.
+/// The size of a value in bytes. Of a string or a path it is the size of its count alone.
 pub(crate) fn width_of(element: ElementaryType) -> u16
     ensures value { result ≡ width_of element }
     ensures most { result ≤ 8 }
 {
     match element {
-        ElementaryType::Bool | ElementaryType::ShortString => 1,
+        ElementaryType::Bool | ElementaryType::ShortString | ElementaryType::Epath => 1,
         ElementaryType::Sint | ElementaryType::Usint | ElementaryType::Byte => 1,
         ElementaryType::Int | ElementaryType::Uint | ElementaryType::Word => 2,
+        ElementaryType::String | ElementaryType::String2 | ElementaryType::Date => 2,
         ElementaryType::Dint | ElementaryType::Udint | ElementaryType::Dword => 4,
-        ElementaryType::Real => 4,
+        ElementaryType::Real | ElementaryType::Time | ElementaryType::TimeOfDay => 4,
+        ElementaryType::DateAndTime => 6,
         ElementaryType::Lint | ElementaryType::Ulint | ElementaryType::Lword => 8,
+        ElementaryType::Lreal | ElementaryType::Ltime => 8,
     }
 }

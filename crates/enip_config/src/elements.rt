@@ -4,7 +4,7 @@ ghost use Rattle.std.specs.Prelude.{◌≡◌, ◌≤◌, ◌++◌, IfOk, IfErr,
 ghost use Rattle.toml.specs.Data.{float};
 ghost use Rattle.cip_bytes.specs.Numbers.{le};
 ghost use Rattle.toml.specs.View.{view, items_view};
-ghost use Rattle.enip_config.specs.Types.{element_bits, signed_bits, truth_bits, real_bits};
+ghost use Rattle.enip_config.specs.Types.{element_bits, signed_bits, truth_bits, real_bits, lreal_bits};
 ghost use Rattle.enip_config.specs.Types.{element_bytes, all_bytes};
 ghost use Rattle.enip_config.specs.Documents.{IsBad, IsBadOrMemory};
 
@@ -13,7 +13,10 @@ use crate::fault::LoadFault;
 use crate::values::{BAD_VALUE, number_in};
 use cip_values::ElementaryType;
 use std::alloc::{AllocError, Global};
-use std::num::{f32_to_bits_with_nan, nearest_f64_to_f32_with_nan, nearest_i64_to_f32};
+use std::num::{
+    f32_to_bits_with_nan, f64_to_bits_with_nan, nearest_f64_to_f32_with_nan, nearest_i64_to_f32,
+    nearest_i64_to_f64,
+};
 use toml::Value;
 
 /// Reads values of an elementary type, and returns their bytes, one value after the other.
@@ -72,7 +75,10 @@ pub(crate) fn element_bits(element: ElementaryType, value: &Value) -> Result<u64
         ElementaryType::Udint | ElementaryType::Dword => number_in(value, 0, 0xffff_ffff),
         ElementaryType::Ulint | ElementaryType::Lword => number_in(value, 0, u64::MAX),
         ElementaryType::Real => real_bits(value),
-        ElementaryType::ShortString => Err(BAD_VALUE),
+        ElementaryType::Lreal => lreal_bits(value),
+        ElementaryType::Time => signed_bits(0x8000_0000, value),
+        ElementaryType::Ltime => signed_bits(0x8000_0000_0000_0000, value),
+        _ => Err(BAD_VALUE),
     }
 }
 
@@ -116,6 +122,18 @@ fn real_bits(value: &Value) -> Result<u64, LoadFault>
         Value::Integer(number) => {
             Ok(u64::from(f32_to_bits_with_nan(nearest_i64_to_f32(*number))))
         }
+        _ => Err(BAD_VALUE),
+    }
+}
+
+/// Reads a number as the nearest double-precision number.
+fn lreal_bits(value: &Value) -> Result<u64, LoadFault>
+    ensures read { IfOk result (λ bits. lreal_bits (view value.now) ≡ Some bits) }
+    ensures refused { IfErr result (IsBad (lreal_bits (view value.now))) }
+{
+    match value {
+        Value::Float(number) => Ok(f64_to_bits_with_nan(*number)),
+        Value::Integer(number) => Ok(f64_to_bits_with_nan(nearest_i64_to_f64(*number))),
         _ => Err(BAD_VALUE),
     }
 }

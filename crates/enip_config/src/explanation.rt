@@ -6,6 +6,7 @@ ghost use Rattle.enip_config.specs.Explained.{IsExplained, refusal_of};
 use crate::attribute_problems::AttributeProblem;
 use crate::configuration::Configuration;
 use crate::fault::{ConfigurationRefusal, LoadFault};
+use crate::missing_keys::MissingKeys;
 use crate::object_problems::object_problem;
 use crate::own_problems::{ObjectProblem, ServiceProblem};
 use crate::text_problems::{no_toml, unknown_key};
@@ -51,14 +52,22 @@ impl fmt::Display for Explanation {
 pub(crate) enum Problem {
     #[error("{}", .0.message())]
     NoToml(toml::de::Error),
+    #[error("missing comma between array elements, expected `,` or `]`")]
+    NoComma,
     #[error("unknown key {0}")]
     NoKey(String),
+    #[error("unknown key {0} (did you mean {1}?)")]
+    NearKey(String, &'static str),
     #[error("{0} contains keys (none allowed)")]
     Keys(String),
     #[error("{0} is missing")]
     Missing(&'static str),
+    #[error("{0}")]
+    MissingKeys(MissingKeys),
     #[error("{0} is {1} (allowed: {2} to {3})")]
     Range(&'static str, i64, u64, u64),
+    #[error("{0} is {1}, which is not an integer")]
+    Float(&'static str, Value),
     #[error("{0} is not {1}")]
     Type(&'static str, &'static str),
     #[error("{0} is neither true nor false")]

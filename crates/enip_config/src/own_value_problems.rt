@@ -3,7 +3,7 @@
 use crate::explanation::{Location, Problem};
 use crate::key::{ATTRIBUTE_NUMBER, CLASS, INSTANCE, REPLY, SERVICE_NUMBER};
 use crate::known::TableKind;
-use crate::value_problems::{bad_flag, bad_number, out_of_range};
+use crate::value_problems::{bad_flag, bad_number, missing_in, out_of_range};
 use toml::{Table, Value};
 
 /// The first bad value of the own objects, object by object.
@@ -29,6 +29,9 @@ pub(crate) fn bad_objects(text: &Table) -> Option<(Location<'static>, Problem)> 
 
 /// The first bad value of an object: of its own keys, of its attributes, of its services.
 fn bad_object(place: usize, table: &Table) -> Option<(Location<'static>, Problem)> {
+    if let Some((_, problem)) = missing_in(table, &[CLASS.name, INSTANCE.name]) {
+        return Some((Location::Object(place), problem));
+    }
     for row in [CLASS, INSTANCE] {
         if let Some(problem) = bad_number(table, row) {
             let spot = match table.get(row.name) {
@@ -90,6 +93,9 @@ fn bad_parts(
 
 /// What is wrong with a table `object.attribute`, and at which key.
 fn bad_attribute(table: &Table) -> Option<(&'static str, Problem)> {
+    if let Some(found) = missing_in(table, &[ATTRIBUTE_NUMBER.name, "type"]) {
+        return Some(found);
+    }
     if let Some(problem) = bad_number(table, ATTRIBUTE_NUMBER) {
         return Some((ATTRIBUTE_NUMBER.name, problem));
     }
@@ -107,6 +113,14 @@ fn bad_attribute(table: &Table) -> Option<(&'static str, Problem)> {
 
 /// What is wrong with a table `object.service`, and at which key.
 fn bad_service(table: &Table) -> Option<(&'static str, Problem)> {
+    let sizes = if table.get("sizes").is_some() {
+        "sizes"
+    } else {
+        "size"
+    };
+    if let Some(found) = missing_in(table, &[SERVICE_NUMBER.name, sizes]) {
+        return Some(found);
+    }
     if let Some(problem) = bad_number(table, SERVICE_NUMBER) {
         return Some((SERVICE_NUMBER.name, problem));
     }

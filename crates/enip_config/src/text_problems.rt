@@ -7,8 +7,26 @@ use toml::{Table, Value};
 
 /// Why a text is not TOML, and the line of the error.
 pub(crate) fn no_toml(bytes: &[u8], error: toml::de::Error) -> (Option<usize>, Problem) {
-    let line = error.span().map(|span| line_at(bytes, span.start));
+    let Some(span) = error.span() else {
+        return (None, Problem::NoToml(error));
+    };
+    let line = Some(line_at(bytes, span.start));
+    if is_two_elements(bytes, span.start) {
+        return (line, Problem::NoComma);
+    }
     (line, Problem::NoToml(error))
+}
+
+/// Whether two numbers without a comma between them are at an index, as elements of an array. TOML takes them for one
+/// value, a date with a time.
+fn is_two_elements(bytes: &[u8], place: usize) -> bool {
+    let (before, rest) = bytes.split_at(place.min(bytes.len()));
+    let is_in_array = matches!(before.trim_ascii_end().last(), Some(b'[' | b','));
+    let digits = rest.iter().take_while(|byte| byte.is_ascii_digit()).count();
+    let after = &rest[digits..];
+    let next = after.trim_ascii_start();
+    let is_apart = digits > 0 && next.len() < after.len();
+    is_in_array && is_apart && next.first().is_some_and(|byte| byte.is_ascii_digit())
 }
 
 /// The line, from 1, of the byte at an index.
@@ -170,7 +188,11 @@ fn unknown_at(
 ) -> Result<Option<Problem>, AllocError> {
     let dot = if table.is_empty() { "" } else { "." };
     if !kind.knows(key) {
-        return Ok(Some(Problem::NoKey(format!(in alloc; "{table}{dot}{key}")?)));
+        let name = format!(in alloc; "{table}{dot}{key}")?;
+        return Ok(Some(match kind.nearest(alloc, key)? {
+            Some(near) => Problem::NearKey(name, near),
+            None => Problem::NoKey(name),
+        }));
     }
     if has_key(value) {
         return Ok(Some(Problem::Keys(format!(in alloc; "{table}{dot}{key}")?)));

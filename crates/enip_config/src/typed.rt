@@ -211,6 +211,9 @@ pub(crate) fn number_type(element: ElementaryType) -> Option<NumberType>
         ElementaryType::Udint => Some(NumberType::Udint),
         ElementaryType::Ulint => Some(NumberType::Ulint),
         ElementaryType::Real => Some(NumberType::Real),
+        ElementaryType::Lreal => Some(NumberType::Lreal),
+        ElementaryType::Time => Some(NumberType::Dint),
+        ElementaryType::Ltime => Some(NumberType::Lint),
         _ => None,
     }
 }

@@ -3,13 +3,28 @@
 use crate::explanation::{Location, Problem};
 use crate::key::{INSTANCE, LIFE, NumberKey, ORIGINATORS, Row};
 use crate::known::TEXT_NUMBERS;
+use crate::missing_keys::MissingKeys;
 use crate::own_value_problems::bad_objects;
 use crate::values::number_in;
 use toml::{Table, Value};
 
-/// The first bad value, in this order: the numbers, the name, the address, the counter, the assemblies, the ledger, the
-/// own objects.
+/// The keys at the top level that have no default.
+const REQUIRED: [&str; 7] = [
+    "vendor",
+    "device_type",
+    "product_code",
+    "major",
+    "minor",
+    "serial",
+    "name",
+];
+
+/// The required keys that are missing, if there are any. Otherwise the first bad value, in this order: the numbers, the
+/// name, the address, the counter, the assemblies, the ledger, the own objects.
 pub(crate) fn bad_value(text: &Table) -> Option<(Location<'static>, Problem)> {
+    if let Some((key, problem)) = missing_in(text, &REQUIRED) {
+        return Some((Location::Text(key), problem));
+    }
     for key in &TEXT_NUMBERS {
         let row = key.row();
         if let Some(problem) = bad_number(text, row) {
@@ -34,6 +49,21 @@ pub(crate) fn bad_value(text: &Table) -> Option<(Location<'static>, Problem)> {
     bad_objects(text)
 }
 
+/// The first of these keys that a table does not have, and a problem that names all that it does not have.
+pub(crate) fn missing_in(
+    table: &Table,
+    required: &[&'static str],
+) -> Option<(&'static str, Problem)> {
+    let mut missing = MissingKeys::new();
+    for key in required {
+        if table.get(*key).is_none() {
+            missing.push(*key);
+        }
+    }
+    let first = missing.first()?;
+    Some((first, Problem::MissingKeys(missing)))
+}
+
 /// What is wrong with the number of a key.
 pub(crate) fn bad_number(table: &Table, row: Row) -> Option<Problem> {
     match table.get(row.name) {
@@ -53,10 +83,24 @@ pub(crate) fn out_of_range(
     if number_in(value, least, greatest).is_ok() {
         return None;
     }
+    let (least, greatest) = accepted_range(name, least, greatest);
     Some(match value {
         Value::Integer(number) => Problem::Range(name, *number, least, greatest),
+        Value::Float(number) => Problem::Float(name, Value::Float(*number)),
         _ => Problem::Type(name, "an integer"),
     })
+}
+
+/// The range of a number in an assembly or an own object that all checks together accept. The check of the value itself
+/// accepts all numbers that fit, from `least` to `greatest`.
+fn accepted_range(name: &str, least: u64, greatest: u64) -> (u64, u64) {
+    match name {
+        "number" if greatest == u64::from(u8::MAX) => (50, 99),
+        "class" | "instance" | "number" => (1, greatest),
+        "a size in members" => (1, 3900),
+        "size" | "a size in sizes" | "reply" => (0, 480),
+        _ => (least, greatest),
+    }
 }
 
 fn bad_name(text: &Table) -> Option<Problem> {
@@ -153,6 +197,9 @@ fn bad_assemblies(text: &Table) -> Option<(Location<'static>, Problem)> {
 
 /// What is wrong with a table `assembly`, and at which key.
 fn bad_assembly(table: &Table) -> Option<(&'static str, Problem)> {
+    if let Some(found) = missing_in(table, &[INSTANCE.name, "members"]) {
+        return Some(found);
+    }
     if let Some(problem) = bad_number(table, INSTANCE) {
         return Some((INSTANCE.name, problem));
     }

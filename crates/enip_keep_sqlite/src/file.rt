@@ -38,7 +38,8 @@ pub fn make_file<S: Start>(rt: &HostRuntime, path: &str, start: S) -> Result<(),
 
 /// Opens a file that has the table, whatever a crash left of it. It mends what a crash left half done.
 ///
-/// `start` is what the library assumes of the file: `Wary` syncs twice in a commit, `Unknown` once.
+/// `start` is what the library assumes of the file. `Unknown` assumes that a write which a power cut tears leaves each
+/// byte as it was or as it was written, and syncs most commits once. `Wary` does not, and syncs each commit twice.
 ///
 /// # Errors
 ///

@@ -27,7 +27,7 @@ use Rattle.kept_adapter.proofs.PutBack.{put_two}
 
 -- ---- the key of an entry of the ledger
 
-of_ledger : (n : ℕ) → n < 2 ^ 16 → is_ledger_key (ledger_key n) ≡ true
+pub of_ledger : (n : ℕ) → n < 2 ^ 16 → is_ledger_key (ledger_key n) ≡ true
 of_ledger n h = eq-eqb (ledger_key n / 2 ^ 32) (2 ^ 16 + 101) (omega (arith, h))
 
 own_key : (n : ℕ) → n < 2 ^ 16 → device_key (ledger_key n) ≡ Some (key_of LEDGER n 0)

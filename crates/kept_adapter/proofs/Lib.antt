@@ -8,3 +8,6 @@ pub mod StepLemmas
 pub mod NewLives
 pub mod ValuesBack
 pub mod RequestBytes
+pub mod ValuesStay
+pub mod NothingWaits
+pub mod CompareLemmas

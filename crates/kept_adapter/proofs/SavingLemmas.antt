@@ -71,7 +71,7 @@ get_within [] i x e = absurd (cc)
 get_within (y ∷ xs) zero x e = omega arith
 get_within (y ∷ xs) (suc i) x e = let h = get_within xs i x e in omega arith
 
-get_map : {A B : Type 0} (f : A → B) (xs : List A) (i : ℕ) (x : A) → Some x ≡ slice_get xs i → Some (f x) ≡ slice_get (map f xs) i
+pub get_map : {A B : Type 0} (f : A → B) (xs : List A) (i : ℕ) (x : A) → Some x ≡ slice_get xs i → Some (f x) ≡ slice_get (map f xs) i
 get_map f [] i x e = absurd (cc)
 get_map f (y ∷ xs) zero x e = let same : x ≡ y = cc in ap (λ z. Some (f z)) same
 get_map f (y ∷ xs) (suc i) x e = get_map f xs i x e

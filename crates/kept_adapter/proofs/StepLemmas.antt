@@ -1,6 +1,6 @@
 -- The device of an adapter over restarts, and the adapter of a server that keeps its state.
 use Rattle.std.proofs.Common.{◌≡◌, ℕ, ◌<◌, ◌≤◌, ◌==◌, ◌&&◌, nat_lt, not, Bool, true, false, if◌then◌else◌, Option, Some}
-use Rattle.std.proofs.Common.{None, List, [], ◌∷◌, ◌++◌, map, refl, ap, sym, ◌∙◌, subst, arith, ◌⊎◌, inl, inr}
+use Rattle.std.proofs.Common.{None, List, [], ◌∷◌, ◌++◌, drop, map, refl, ap, sym, ◌∙◌, subst, arith, ◌⊎◌, inl, inr}
 use Rattle.std.specs.Prelude.{is_some, Result, Ok, Err, OnOk}
 use Rattle.std.specs.List.{AllByRecursion}
 use Rattle.std.proofs.lemmas.Bool.{eq-eqb, ne_eqb, ltb-true, le-ltb, and_parts}
@@ -21,9 +21,10 @@ use Rattle.enip_keep.specs.Kept.{Kept, set, set_all}
 use Rattle.enip_keep.specs.declared.lives.Event.{Event}
 use Rattle.enip_keep.specs.declared.lives.Event.TheVariants.{Round, Restart}
 use Rattle.enip_keep.specs.Lives.{Step, Executed, Restarted, IsStepOf, AreStepsOf}
-use Rattle.kept_server.specs.Changes.{keys_of, rise, rise_above}
+use Rattle.kept_server.specs.Changes.{is_marked, keys_of, rise, rise_above, same_first, still_waiting, waiting_for}
+use Rattle.kept_server.specs.Changes.{without_waiting}
 use Rattle.kept_server.specs.declared.round.RoundInput.{RoundInput}
-use Rattle.kept_server.specs.Rounds.{DeviceContents, RoundRequests, after_round, contents_with, kept_of}
+use Rattle.kept_server.specs.Rounds.{DeviceContents, RoundRequests, after_round, contents_after_calls, kept_of}
 use Rattle.kept_adapter.specs.declared.adapter_start.AdapterStart.{AdapterStart}
 use Rattle.kept_adapter.specs.declared.adapter_start.LedgerStart.{LedgerStart}
 use Rattle.kept_adapter.specs.declared.progress.Progress.{Progress}
@@ -31,12 +32,14 @@ use Rattle.kept_adapter.specs.Keys.{device_key}
 use Rattle.kept_adapter.specs.Restarts.{LifeStep, Does, after_life_steps}
 use Rattle.kept_adapter.specs.Restarts.{AdapterStep, adapter_after, steps_over_restarts, contents_after, adapter_step}
 use Rattle.kept_adapter.specs.Restarts.{IsServing, HasTables, KeepsTables, RestartsTables, brings_input, MayBeLeft}
-use Rattle.kept_adapter.specs.Restarts.{IsKeptOfAdapter}
+use Rattle.kept_adapter.specs.Restarts.{IsKeptOfAdapter, AreValueNames, started_contents}
 use Rattle.kept_adapter.specs.SameKeys.{device_keys, keys_stay, steps_alike}
 use Rattle.kept_adapter.specs.Saved.{saved_adapter, adapter_keys}
 use Rattle.kept_adapter.specs.Started.{is_free_slot, by_device_key, beginning, put_back, put_all_back}
-use Rattle.kept_adapter.specs.Started.{new_ledger, configured, put_back_in, trusted_ledger, started}
+use Rattle.kept_adapter.specs.Started.{new_ledger, configured, put_back_in, trusted_ledger, started, waiting_keys}
+use Rattle.kept_adapter.proofs.NothingWaits.{nothing_waits}
 use Rattle.kept_adapter.proofs.PutBack.{shapes_back}
+use Rattle.kept_adapter.proofs.ValuesStay.{calls_values, values_back}
 
 -- ---- the device of an adapter
 
@@ -112,9 +115,42 @@ by_found : (entries found : Kept) → rise (keys_of entries) ≡ true
 by_found entries found rises (inl none) = ap (set_all entries) none ∙ over_none entries rises
 by_found entries found rises (inr same) = over_same entries found rises same
 
+-- ---- if no entry waits
+
+abbrev NoneWaits : List Bool → Type 0
+NoneWaits waits = AllByRecursion (λ waits. waits ≡ false) waits
+
+first_none : (waits : List Bool) → NoneWaits waits → is_marked waits ≡ false
+first_none [] none = refl
+first_none (w ∷ waits) none = none.0
+
+others_none : (waits : List Bool) → NoneWaits waits → NoneWaits (drop 1 waits)
+others_none [] none = tt
+others_none (w ∷ waits) none = none.1
+
+all_written : (waits : List Bool) (entries : Kept) → NoneWaits waits → without_waiting waits entries ≡ entries
+all_written waits [] none = refl
+all_written waits (e ∷ entries) none =
+    ap (λ t. if t then without_waiting (drop 1 waits) entries else e ∷ without_waiting (drop 1 waits) entries)
+    (first_none waits none)
+    ∙ ap (λ es. e ∷ es) (all_written (drop 1 waits) entries (others_none waits none))
+
+none_still : (waits : List Bool) (old new : Kept) → NoneWaits waits → NoneWaits (still_waiting waits old new)
+none_still [] old new none = tt
+none_still (w ∷ waits) old new none =
+    (ap (λ t. t && same_first old new) none.0, none_still waits (drop 1 old) (drop 1 new) none.1)
+
+none_for : (keys : List ℕ) (entries : Kept) → keys ≡ [] → NoneWaits (waiting_for keys entries)
+none_for keys entries no_key = subst (λ ks. NoneWaits (waiting_for ks entries)) (sym no_key) (for_none entries)
+  where
+    for_none : (entries : Kept) → NoneWaits (waiting_for [] entries)
+    for_none [] = tt
+    for_none (e ∷ entries) = (refl, for_none entries)
+
 kept_is_saved : (c : DeviceContents) → IsServing c → kept_of c ≡ saved_adapter c.adapter
 kept_is_saved c is =
-    ap (λ entries. set_all entries c.found) is.saved ∙ by_found (saved_adapter c.adapter) c.found is.rising is.found
+    ap (λ entries. set_all entries c.found) (all_written c.waits c.saved is.none_waits ∙ is.saved)
+    ∙ by_found (saved_adapter c.adapter) c.found is.rising is.found
 
 -- ---- whether there is a ledger
 
@@ -197,7 +233,7 @@ calls_alike a calls =
     )
 
 after_a_round : (device : Device) (c : DeviceContents) (calls : List Call) → IsOf device c
-    → IsOf device (contents_with saved_adapter c.found (after_calls c.adapter calls))
+    → IsOf device (contents_after_calls saved_adapter c calls)
 after_a_round device c calls of =
     let keys = keys_stay c.adapter calls in
     let alike = calls_alike c.adapter calls in
@@ -207,6 +243,9 @@ after_a_round device c calls of =
         rising = ap rise keys ∙ of.is.rising;
         found = same_found c.found (adapter_keys c.adapter) (adapter_keys (after_calls c.adapter calls)) (sym keys)
             of.is.found;
+        none_waits = none_still c.waits c.saved (saved_adapter (after_calls c.adapter calls)) of.is.none_waits;
+        names = subst AreValueNames (sym alike.0) of.is.names;
+        values = calls_values c.adapter calls of.is.values;
       };
       same = (alike.0 ∙ of.same.0, alike.1 ∙ of.same.1);
     }
@@ -217,16 +256,22 @@ after_a_round device c calls of =
     same_found found old new e (inr same) = inr (same ∙ e)
 
 after_a_start : (device : Device) (c : DeviceContents) (start : AdapterStart) → HasTables device start → IsOf device c
-    → IsOf device (contents_with saved_adapter (kept_of c) (started start (kept_of c)))
+    → IsOf device (started_contents start (kept_of c))
 after_a_start device c start has of =
     let new = started start (kept_of c) in
     let tables = started_tables device start (kept_of c) has in
-    let keys = same_keys c.adapter new (tables.0 ∙ sym of.same.0, tables.1 ∙ sym of.same.1) in
+    let shapes = tables.0 ∙ sym of.same.0 in
+    let keys = same_keys c.adapter new (shapes, tables.1 ∙ sym of.same.1) in
     record {
       is = record {
         saved = refl;
         rising = ap rise keys ∙ of.is.rising;
         found = inr (ap keys_of (kept_is_saved c of.is) ∙ sym keys);
+        none_waits = none_for (waiting_keys start (kept_of c)) (saved_adapter new)
+            (ap (waiting_keys start) (kept_is_saved c of.is)
+            ∙ nothing_waits start c.adapter (has.shapes ∙ sym of.same.0) of.is.names of.is.values);
+        names = subst AreValueNames (sym shapes) of.is.names;
+        values = values_back (beginning (configured start)) (kept_of c) has.values;
       };
       same = tables;
     }
@@ -238,7 +283,7 @@ ends_by device c [] of keep = refl
 ends_by device c (Executed requests ∷ steps) of keep =
     ends_by device (after_round saved_adapter c requests) steps (after_a_round device c requests.calls of) keep.1
 ends_by device c (Restarted start ∷ steps) of keep =
-    ends_by device (contents_with saved_adapter (kept_of c) (started start (kept_of c))) steps
+    ends_by device (started_contents start (kept_of c)) steps
     (after_a_start device c start keep.0 of) keep.1
     ∙ ap (λ kept. adapter_after (map adapter_step steps) (started start kept)) (kept_is_saved c of.is)
 
@@ -256,7 +301,7 @@ served_by device c [] of keep = of.is
 served_by device c (Executed requests ∷ steps) of keep =
     served_by device (after_round saved_adapter c requests) steps (after_a_round device c requests.calls of) keep.1
 served_by device c (Restarted start ∷ steps) of keep =
-    served_by device (contents_with saved_adapter (kept_of c) (started start (kept_of c))) steps
+    served_by device (started_contents start (kept_of c)) steps
     (after_a_start device c start keep.0 of) keep.1
 
 pub kept_end : {W : Type 0} (c : DeviceContents) (steps : List (Step (RoundRequests W) AdapterStart)) → IsServing c

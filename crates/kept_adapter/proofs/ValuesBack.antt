@@ -96,16 +96,19 @@ plain_entry s key class content h own other =
     else by_device_key s content (device_key key)) (not_of_ledger key h)
     ∙ ap (by_device_key s content) (plain_key key class h own other)
 
-value_back : (p : Progress) (m : Contents) (name : AttributeName) → p.objects.shapes ≡ m.shapes → IsKept m name
-    → (put_back p (pair_of (value_entry m name))).objects ≡ put m p.objects name
-value_back p m name same is =
+pub value_used : (p : Progress) (m : Contents) (name : AttributeName) → p.objects.shapes ≡ m.shapes → IsKept m name
+    → after_entry (state_of p.objects p.ledger) (key_of name.class name.instance name.attribute) (reads m name)
+    ≡ done (state_of (put m p.objects name) p.ledger) Used
+value_used p m name same is =
     let n = is.is_name in
-    let key = key_of name.class name.instance name.attribute in
-    ap (λ (d : Done State). d.after.objects)
-    (plain_entry (state_of p.objects p.ledger) key name.class (reads m name)
+    plain_entry (state_of p.objects p.ledger) (key_of name.class name.instance name.attribute) name.class (reads m name)
     (narrow_key name.class name.instance name.attribute n.class n.instance n.attribute)
     (class_back name.class name.instance name.attribute n.instance n.attribute) n.not_ledger
-    ∙ entry_put m p.objects p.ledger name same is)
+    ∙ entry_put m p.objects p.ledger name same is
+
+value_back : (p : Progress) (m : Contents) (name : AttributeName) → p.objects.shapes ≡ m.shapes → IsKept m name
+    → (put_back p (pair_of (value_entry m name))).objects ≡ put m p.objects name
+value_back p m name same is = ap (λ (d : Done State). d.after.objects) (value_used p m name same is)
 
 values_back : (p : Progress) (m : Contents) (names : List AttributeName) → p.objects.shapes ≡ m.shapes
     → AllByRecursion (IsKept m) names

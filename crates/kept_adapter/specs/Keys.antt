@@ -1,5 +1,6 @@
 -- The keys under which entries are kept: those of device_state, but the entries of the ledger come last.
-use Rattle.std.specs.Prelude.{ℕ, ◌+◌, ◌-◌, ◌/◌, ◌^◌, ◌==◌, ◌||◌, nat_le, Bool, if◌then◌else◌, Option, Some, None}
+use Rattle.std.specs.Prelude.{ℕ, ◌+◌, ◌-◌, ◌/◌, ◌^◌, ◌==◌, ◌&&◌, ◌||◌, not, nat_le, Bool, if◌then◌else◌, Option, Some, None}
+use Rattle.cip_bytes.specs.declared.protocol.TheConstants.{IDENTITY}
 use Rattle.cip_ledger.specs.declared.request.TheConstants.{LEDGER}
 use Rattle.device_state.specs.Keys.{key_of}
 
@@ -9,6 +10,10 @@ ledger_key number = 2 ^ 48 + key_of LEDGER number 0
 
 abbrev pub is_ledger_key : ℕ → Bool
 is_ledger_key key = key / 2 ^ 32 == 2 ^ 16 + LEDGER
+
+-- The key is that of a value: it is none of the ledger, and not the one that says which device it is.
+abbrev pub is_value_key : ℕ → Bool
+is_value_key key = not (is_ledger_key key) && not (key == key_of IDENTITY 1 0)
 
 -- The key that device_state has for the entry. None if no entry is kept under this key.
 abbrev pub device_key : ℕ → Option ℕ

@@ -9,8 +9,9 @@ use Rattle.cip_objects.specs.Contents.{value_at}
 use Rattle.cip_objects.specs.Kept.{name_of, kept_names}
 use Rattle.device_state.specs.Laws.{IsKept}
 use Rattle.enip_adapter.specs.Adapter.{new_adapter}
-use Rattle.enip_adapter.specs.Calls.{AdapterState}
+use Rattle.enip_adapter.specs.Calls.{AdapterState, Call}
 use Rattle.enip_adapter.specs.DeviceRuns.{Requested, objects_after, objects_answer}
+use Rattle.enip_adapter.specs.Runs.{after_calls}
 use Rattle.enip_keep.specs.declared.lives.Event.{Event}
 use Rattle.enip_keep.specs.Kept.{Kept}
 use Rattle.enip_keep.specs.Lives.{Step}
@@ -22,7 +23,7 @@ use Rattle.kept_adapter.specs.Restarts.{journal_over_restarts}
 use Rattle.kept_adapter.specs.Restarts.{AdapterStep, adapter_after, steps_over_restarts, contents_after, adapter_step}
 use Rattle.kept_adapter.specs.Restarts.{RestartsTables, IsKeptOfAdapter, MayBeLeft, HoldsBytes, IsAdapterStep}
 use Rattle.kept_adapter.specs.Restarts.{RestartsGoOn}
-use Rattle.kept_adapter.specs.Restarts.{IsServing, KeepsTables, HasObjects, IsRestartable, IsConfiguration, IsStep}
+use Rattle.kept_adapter.specs.Restarts.{HasValues, IsServing, KeepsTables, HasObjects, IsRestartable, IsConfiguration, IsStep}
 use Rattle.kept_adapter.specs.Restarts.{GoesOn}
 use Rattle.kept_adapter.specs.Restarts.{IsGoingOn}
 use Rattle.kept_adapter.specs.Restarts.{slots_of, IsLedgerAfter, SettlesNothingOf, IsOnceInEachLife, BeginNewLives}
@@ -62,6 +63,11 @@ others_begin_again_law =
     AllByRecursion (λ name. name ≢ name_of class instance attribute) (kept_names device.router.objects.shapes) →
     value_at (restarted start device).router.objects class instance attribute
     ≡ value_at (contents_of_config start.objects) class instance attribute
+
+-- Each value stays one that it can have, whatever calls there are.
+abbrev pub values_stay_law : Type 0
+values_stay_law = (a : AdapterState) (calls : List Call) → HasValues a.state.shared.objects.router.objects →
+    HasValues (after_calls a calls).state.shared.objects.router.objects
 
 -- ---- what holds of every device
 

@@ -1,9 +1,11 @@
 -- A device over restarts: its steps, and starts from what is kept of it.
-use Rattle.std.specs.Prelude.{◌≡◌, ◌≢◌, ◌⊎◌, ⊤, length, is_some, map, ℕ, ◌<◌, ◌≤◌, ◌^◌, Bool, true, false, Option, Some}
+use Rattle.std.specs.Prelude.{◌≡◌, ◌≢◌, ◌⊎◌, ⊤, length, is_some, map, ℕ, ◌<◌, ◌≤◌, ◌^◌, Bool, true, false, Option, Some, None}
 use Rattle.std.specs.Prelude.{option_map, IfSome, List, [], ◌∷◌, ◌++◌}
 use Rattle.std.specs.List.{AllByRecursion}
 use Rattle.cip_application.specs.declared.object.AttributeName.{AttributeName}
+use Rattle.cip_application.specs.Values.{is_whole}
 use Rattle.cip_bytes.specs.Numbers.{AreBytes}
+use Rattle.cip_bytes.specs.declared.protocol.TheConstants.{IDENTITY, ASSEMBLY, COUNTER}
 use Rattle.cip_ledger.specs.Device.{Device}
 use Rattle.cip_ledger.specs.Kept.{IsLedger}
 use Rattle.cip_ledger.specs.Ledger.{LedgerState}
@@ -11,7 +13,11 @@ use Rattle.cip_ledger.specs.Laws.{UntilFreed}
 use Rattle.cip_ledger.specs.Requests.{Command}
 use Rattle.cip_ledger.specs.Runs.{Event as LedgerEvent, Executed as CommandExecuted, Freed}
 use Rattle.cip_objects.specs.Configuration.{contents_of_config}
-use Rattle.cip_objects.specs.Kept.{kept_names}
+use Rattle.cip_objects.specs.Contents.{Contents, bytes_at}
+use Rattle.cip_objects.specs.Kept.{kept_names, kept_kind}
+use Rattle.cip_objects.specs.Members.{AreWhole}
+use Rattle.cip_objects.specs.Tables.{Shapes, object_at}
+use Rattle.device_state.specs.Laws.{IsName}
 use Rattle.device_state.specs.Saved.{identity_bytes}
 use Rattle.enip_adapter.specs.Calls.{AdapterState, Call, Held}
 use Rattle.enip_adapter.specs.Calls.Call.{Begins_peer, Feeds, Ends_peer, Ticks, Writes}
@@ -28,7 +34,7 @@ use Rattle.kept_server.specs.declared.round.RoundInput.{RoundInput}
 use Rattle.kept_server.specs.Rounds.{DeviceContents, RoundRequests, after_round, contents_with, kept_of}
 use Rattle.kept_adapter.specs.declared.adapter_start.AdapterStart.{AdapterStart}
 use Rattle.kept_adapter.specs.Saved.{saved_device, saved_adapter, adapter_keys}
-use Rattle.kept_adapter.specs.Started.{started, new_ledger}
+use Rattle.kept_adapter.specs.Started.{started, new_ledger, waiting_keys}
 
 -- ---- runs
 
@@ -80,27 +86,51 @@ steps_over_restarts a (Restarted start ∷ steps) =
 
 -- ---- runs of a server that keeps its state
 
+-- The contents of a server that starts with this configuration from what is found.
+abbrev pub started_contents : AdapterStart → Kept → DeviceContents
+started_contents start found = contents_with saved_adapter (waiting_keys start found) found (started start found)
+
 -- The contents after rounds and starts, from left to right.
 abbrev pub contents_after : {W : Type 0} → List (Step (RoundRequests W) AdapterStart) → DeviceContents → DeviceContents
-contents_after steps c =
-    after (after_round saved_adapter) kept_of (λ start found. contents_with saved_adapter found (started start found))
-    steps c
+contents_after steps c = after (after_round saved_adapter) kept_of started_contents steps c
 
 abbrev pub adapter_step : {W : Type 0} → Step (RoundRequests W) AdapterStart → AdapterStep
 adapter_step (Executed requests) = Executed requests.calls
 adapter_step (Restarted start) = Restarted start
 
--- The contents are those of a server once it serves: the entries of its adapter are saved, in rising order, and what it
--- found has the same keys, or nothing was found.
+-- Each value is one that it can have: its bytes have the size of its kind, and a text is not longer than its room. The
+-- data of an assembly have its size. No application object has the class of the counter.
+pub record HasValues (m : Contents) : Type 0 where
+  pub data_whole : AreWhole m
+  pub others : (class instance attribute : ℕ) → class ≢ IDENTITY → class ≢ ASSEMBLY
+      → IfSome (kept_kind m.shapes class instance attribute)
+      (λ kind. is_whole kind (bytes_at m class instance attribute) ≡ true)
+  pub counter_apart : m.shapes.has_counter ≡ true → (instance : ℕ)
+      → object_at COUNTER instance m.shapes.objects ≡ None
+
+-- A name under which a value is kept: there is a value of this name, and it is none of Identity or of the ledger.
+pub record IsValueName (shapes : Shapes) (name : AttributeName) : Type 0 where
+  pub is_name : IsName name
+  pub has_kind : is_some (kept_kind shapes name.class name.instance name.attribute) ≡ true
+
+abbrev pub AreValueNames : Shapes → Type 0
+AreValueNames shapes = AllByRecursion (IsValueName shapes) (kept_names shapes)
+
+-- The contents are those of a server once it serves: the entries of its adapter are saved, in rising order, and none of
+-- them waits. What it found has the same keys, or nothing was found. Each value is one that it can have.
 pub record IsServing (c : DeviceContents) : Type 0 where
   pub saved : c.saved ≡ saved_adapter c.adapter
   pub rising : rise (adapter_keys c.adapter) ≡ true
   pub found : (c.found ≡ []) ⊎ (keys_of c.found ≡ adapter_keys c.adapter)
+  pub none_waits : AllByRecursion (λ waits. waits ≡ false) c.waits
+  pub names : AreValueNames c.adapter.state.shared.objects.router.objects.shapes
+  pub values : HasValues c.adapter.state.shared.objects.router.objects
 
--- The configuration has the objects and a ledger as the device has.
+-- The configuration has the objects and a ledger as the device has, and values that these can have.
 pub record HasTables (device : Device) (start : AdapterStart) : Type 0 where
   pub shapes : (contents_of_config start.objects).shapes ≡ device.router.objects.shapes
   pub ledger : is_some start.ledger ≡ is_some device.ledger
+  pub values : HasValues (contents_of_config start.objects)
 
 -- The configuration is of the same device, with the same objects.
 pub record HasObjects (device : Device) (start : AdapterStart) : Type 0 where
@@ -122,8 +152,7 @@ brings_input input requests = requests.input ≡ input
 abbrev pub MayBeLeft : {W : Type 0} → DeviceContents → List (Event (RoundInput W) AdapterStart) → List Bool → Kept
     → Type 0
 MayBeLeft c events went left =
-    IsKeptAfter brings_input (after_round saved_adapter) kept_of
-    (λ start found. contents_with saved_adapter found (started start found)) events went c left
+    IsKeptAfter brings_input (after_round saved_adapter) kept_of started_contents events went c left
 
 -- These entries are what is kept of the adapter after steps of these events.
 abbrev pub IsKeptOfAdapter : {W : Type 0} → DeviceContents → List (Event (RoundInput W) AdapterStart) → List Bool → Kept

@@ -175,7 +175,7 @@ left_shapes m n text (inr x) =
     ∙ chosen_keeps m.shapes g.path.class g.path.instance g.request.service g.service g.is_chosen m g.path
     g.request.data x.0 g.is_performed
 
-executed_shapes : (m : Contents) (max_size : ℕ) (text : List ℕ) → (exec m max_size text).after.shapes ≡ m.shapes
+pub executed_shapes : (m : Contents) (max_size : ℕ) (text : List ℕ) → (exec m max_size text).after.shapes ≡ m.shapes
 executed_shapes m max_size text = left_shapes m (exec m max_size text).after text (exec_left m max_size text)
 
 -- ---- and so with a reply of the owner

@@ -1,6 +1,6 @@
 -- The adapter that starts from what was kept.
 use Rattle.std.specs.Prelude.{ℕ, ◌≡◌, ⊤, ◌==◌, Bool, IsTrue, true, false, not, ◌&&◌, ◌||◌, if◌then◌else◌}
-use Rattle.std.specs.Prelude.{List, [], ◌∷◌, length, Option, Some, None, option_map}
+use Rattle.std.specs.Prelude.{List, [], ◌∷◌, length, filter, Option, Some, None, option_map}
 use Rattle.cip_ledger.specs.Device.{device_of}
 use Rattle.cip_ledger.specs.Ledger.{LedgerState, empty_ledger}
 use Rattle.cip_objects.specs.Configuration.{contents_of_config}
@@ -17,7 +17,7 @@ use Rattle.kept_adapter.specs.declared.adapter_start.LedgerStart.{LedgerStart}
 use Rattle.kept_adapter.specs.declared.fault.StartFault.{StartFault}
 use Rattle.kept_adapter.specs.declared.fault.StartFault.TheVariants.{Memory, OtherDevice as Another, Order}
 use Rattle.kept_adapter.specs.declared.progress.Progress.{Progress}
-use Rattle.kept_adapter.specs.Keys.{ledger_key, is_ledger_key, device_key}
+use Rattle.kept_adapter.specs.Keys.{ledger_key, is_ledger_key, is_value_key, device_key}
 use Rattle.kept_adapter.specs.Saved.{adapter_keys}
 
 -- ---- one entry
@@ -124,3 +124,8 @@ unused_keys p [] = []
 unused_keys p (entry ∷ entries) =
     let later = unused_keys (put_back p entry) entries in
     if is_used (after_entry (state_of p.objects p.ledger) entry.0 entry.1).outcome then later else entry.0 ∷ later
+
+-- Those of values. What is kept under them stays until the value changes. If an entry of the ledger is not used, the
+-- ledger starts empty, and all its entries are new. If the identity is another one, nothing starts.
+abbrev pub waiting_keys : AdapterStart → Kept → List ℕ
+waiting_keys start kept = filter is_value_key (unused_keys (beginning (configured start)) kept)

@@ -1,8 +1,9 @@
 //! The keys under which entries are kept.
 ghost use Rattle.std.specs.Prelude.{◌≡◌, ◌<◌, ◌^◌};
-ghost use Rattle.kept_adapter.specs.Keys.{ledger_key, is_ledger_key, device_key};
+ghost use Rattle.kept_adapter.specs.Keys.{ledger_key, is_ledger_key, is_value_key, device_key};
 
 use cip_ledger::LEDGER;
+use device_state::identity_key;
 
 /// The entries of the ledger have keys from this one on.
 const LEDGER_KEYS: u64 = 0x1_0000_0000_0000;
@@ -24,6 +25,13 @@ pub(crate) fn is_ledger_key(key: u64) -> bool
     ensures { result ≡ is_ledger_key key }
 {
     key / 0x1_0000_0000 == 0x1_0000 + u64::from(LEDGER)
+}
+
+/// Whether an entry with this key is a value: it is none of the ledger, and not the one that says which device it is.
+pub(crate) fn is_value_key(key: u64) -> bool
+    ensures { result ≡ is_value_key key }
+{
+    !is_ledger_key(key) && key != identity_key()
 }
 
 /// The key that `device_state` has for an entry, or `None` if no entry is kept under this one.

@@ -6,6 +6,7 @@
 //! `live_adapter` states.
 
 ghost use Rattle.kept_adapter.specs.RestartLaws.{new_adapter_law, ledger_goes_on_law, ledger_or_new_law, values_go_on_law};
+ghost use Rattle.kept_adapter.specs.RestartLaws.{values_stay_law};
 ghost use Rattle.kept_adapter.specs.RestartLaws.{others_begin_again_law, first_device_law, device_stays_law};
 ghost use Rattle.kept_adapter.specs.RestartLaws.{device_over_restarts_law, server_law, server_kept_law, crash_law};
 ghost use Rattle.kept_adapter.specs.RestartLaws.{once_over_restarts_law, rising_over_restarts_law};
@@ -23,10 +24,12 @@ pub fn ledger_goes_on()
     ensures any { ledger_or_new_law }
 {}
 
-/// Each value that is kept is as it was before the restart, and each other value is as it is configured.
+/// Each value that is kept is as it was before the restart, and each other value is as it is configured. A value stays
+/// one that it can have.
 pub fn values_go_on()
     ensures kept { values_go_on_law }
     ensures others { others_begin_again_law }
+    ensures stay { values_stay_law }
 {}
 
 /// What the laws assume of a device holds of one that starts from nothing, and still holds after each step. What they

@@ -10,6 +10,7 @@
 #![tactic(auto)]
 
 mod adapter_start;
+mod comparing;
 mod entry_name;
 mod fault;
 mod keys;

@@ -16,7 +16,8 @@ use std::alloc::{AllocError, Global};
 /// Rounds of peers, crashes and starts of an adapter, in any order. Whatever a crash leaves at the end is what is kept of
 /// the adapter after the calls of rounds and the restarts, in order, with each round that went well among them, so that
 /// its answers left. The laws of `laws` hold of these steps. The premises are that what was found at first is nothing, or
-/// has the keys of the adapter, and that each configuration has the same tables.
+/// has the keys of the adapter, that no value waits at first, and that each configuration has the same tables, and values
+/// that its attributes can have.
 ///
 /// `went` says of each event whether it went well.
 ///

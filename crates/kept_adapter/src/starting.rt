@@ -6,10 +6,12 @@ ghost use Rattle.kept_server.specs.Changes.{rise};
 ghost use Rattle.kept_adapter.specs.SameKeys.{keys_stay};
 ghost use Rattle.kept_adapter.specs.Saved.{adapter_keys, saved_adapter};
 ghost use Rattle.kept_adapter.specs.Started.{beginning, configured, new_ledger, put_back_in, started, unused_keys, Refuses, IsStartFault};
-ghost use Rattle.kept_adapter.specs.Started.{started_from};
+ghost use Rattle.kept_adapter.specs.Started.{started_from, waiting_keys};
 
 use crate::adapter_start::AdapterStart;
+use crate::comparing::{are_of_ledger, behind_objects};
 use crate::fault::StartFault;
+use crate::keys::is_value_key;
 use crate::progress::Progress;
 use crate::saving::{do_keys_rise, save_ledger_if_any, save_objects};
 use cip_ledger::Ledger;
@@ -21,7 +23,8 @@ use std::alloc::{AllocError, Global};
 
 impl AdapterStart {
     /// The keys of the entries from which `start` takes nothing: they are of no value of this device, or the value has
-    /// another size. They stay kept. If an entry of the ledger is among them, the ledger starts empty.
+    /// another size. They stay kept, the latter until the value changes. If an entry of the ledger is among them, the
+    /// ledger starts empty.
     ///
     /// # Errors
     ///
@@ -132,6 +135,8 @@ impl KeptDevice for AdapterStart {
 
     ghost started = { started };
 
+    ghost waiting = { waiting_keys };
+
     ghost refuses = { Refuses };
 
     fn idle_timeout(&self) -> u64 {
@@ -143,6 +148,22 @@ impl KeptDevice for AdapterStart {
             Ok(adapter) => Ok(adapter),
             Err(StartFault::Memory) => Err(KeepError::Memory),
             Err(StartFault::OtherDevice | StartFault::Order) => Err(KeepError::Refused),
+        }
+    }
+
+    fn waiting(&self, alloc: Global, entries: &[Entry]) -> Result<Vec<u64>, AllocError> {
+        let objects = self.new_objects(alloc)?;
+        let ledger = self.new_ledger(alloc)?;
+        let mut keys = Progress::new(objects, ledger).unused_keys(alloc, entries)?;
+        keys.retain(|key| is_value_key(*key));
+        Ok(keys)
+    }
+
+    fn is_saved(adapter: &Adapter, entries: &[Entry]) -> bool {
+        let objects = adapter.objects();
+        match behind_objects(objects, entries) {
+            Some(rest) => are_of_ledger(objects, adapter.ledger(), rest),
+            None => false,
         }
     }
 

@@ -17,8 +17,12 @@ use Rattle.enip_server.proofs.HeldLemmas.{round_released, same_released}
 use Rattle.enip_server.proofs.LifeLemmas.{get_set_other, get_set_same, free_elsewhere}
 use Rattle.enip_server.proofs.RoundAsks.{law_asked}
 use Rattle.enip_server.proofs.TransferLemmas.{after_calls-append}
+use Rattle.enip_keep.specs.Kept.{Kept}
+use Rattle.kept_server.proofs.ChangeLemmas.{wait_on}
 use Rattle.kept_server.specs.declared.round.ReadyWire.{ReadyWire}
 use Rattle.kept_server.specs.declared.round.RoundInput.{RoundInput}
+use Rattle.kept_server.specs.Changes.{still_waiting}
+use Rattle.kept_server.specs.Rounds.{DeviceContents, contents_after_calls}
 use Rattle.kept_server.specs.Rounds.{IsAccepted, IsHeldRound, KeepsWires, SendsNothing, TakesRound, new_held, with_marks}
 
 -- Calls of the adapter lead from one to another.
@@ -159,3 +163,17 @@ module _ {W : Type 0} (left written : W → Option (List ℕ)) where
           next = next;
         },
       )
+
+-- ---- a round that changes nothing
+
+pub same_contents : (save : AdapterState → Kept) (old new : AdapterState) (saved : Kept) (waits : List Bool) (found : Kept)
+    (calls : List Call) → new ≡ after_calls old calls → saved ≡ save new
+    → record { adapter = new; saved = saved; waits = waits; found = found }
+    ≡ contents_after_calls save (record { adapter = old; saved = saved; waits = waits; found = found }) calls
+same_contents save old new saved waits found calls after same =
+    ap (λ es. contents new es waits) same
+    ∙ ap (contents new (save new)) (sym (ap (still_waiting waits saved) (sym same) ∙ wait_on waits saved))
+    ∙ ap (λ a. contents a (save a) (still_waiting waits saved (save a))) after
+  where
+    contents : AdapterState → Kept → List Bool → DeviceContents
+    contents a es ws = record { adapter = a; saved = es; waits = ws; found = found }

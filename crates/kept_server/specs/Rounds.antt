@@ -1,11 +1,11 @@
 -- Rounds of peers whose wires hold back what is written to them, and what is kept of a device in them.
-use Rattle.std.specs.Prelude.{ℕ, ◌≡◌, List, [], ◌∷◌, false, Option, Some, None, Result, slice_get}
+use Rattle.std.specs.Prelude.{ℕ, ◌≡◌, Bool, List, [], ◌∷◌, false, Option, Some, None, Result, slice_get}
 use Rattle.std.proofs.Common.{sym, ap, ◌∙◌}
 use Rattle.std.specs.List.{list_any}
 use Rattle.enip_adapter.specs.declared.adapter.Full.{Full}
 use Rattle.enip_adapter.specs.Calls.{AdapterState, Call}
 use Rattle.enip_adapter.specs.Runs.{after_calls}
-use Rattle.enip_keep.specs.Kept.{Kept, set_all}
+use Rattle.enip_keep.specs.Kept.{Kept}
 use Rattle.enip_server.specs.declared.held_wire.HeldWire.{HeldWire}
 use Rattle.enip_server.specs.declared.peer_io.PeerIo.{PeerIo}
 use Rattle.enip_server.specs.declared.peers.RoundEnd.{RoundEnd}
@@ -14,24 +14,30 @@ use Rattle.enip_server.specs.Held.{held_known, held_written, AreReleased}
 use Rattle.enip_server.specs.Rounds.{ServerState, IsRound, IsAdded, marked_ready, ended_in, is_ready, next_moment}
 use Rattle.enip_server.specs.Rounds.{nobody, no_answer, same_nobody}
 use Rattle.enip_server.specs.Wires.{KnownCalls}
+use Rattle.kept_server.specs.Changes.{kept_over, still_waiting, waiting_for}
 use Rattle.kept_server.specs.declared.round.ReadyWire.{ReadyWire}
 use Rattle.kept_server.specs.declared.round.RoundInput.{RoundInput}
 
--- What rounds execute: the adapter. With it, the entries that are to be kept of it, and those that were found at the
--- start.
+-- What rounds execute: the adapter. With it, the entries that are to be kept of it, which of these wait, and the entries
+-- that were found at the start.
 pub record DeviceContents : Type 0 where
   pub adapter : AdapterState
   pub saved : Kept
+  pub waits : List Bool
   pub found : Kept
 
--- The contents with this adapter, if these are the entries of an adapter.
-abbrev pub contents_with : (AdapterState → Kept) → Kept → AdapterState → DeviceContents
-contents_with save found adapter = record { adapter = adapter; saved = save adapter; found = found }
+-- The contents at the start with this adapter, if these are the entries of an adapter. The values with these keys wait.
+abbrev pub contents_with : (AdapterState → Kept) → List ℕ → Kept → AdapterState → DeviceContents
+contents_with save keys found adapter = record {
+  adapter = adapter;
+  saved = save adapter;
+  waits = waiting_for keys (save adapter);
+  found = found;
+}
 
--- What is kept: what was found, and over it the entries of the adapter. Entries that were found and are not the
--- adapter's stay.
+-- What is kept of the contents.
 abbrev pub kept_of : DeviceContents → Kept
-kept_of c = set_all c.saved c.found
+kept_of c = kept_over c.waits c.saved c.found
 
 -- The bytes that were written to the wire inside, of each peer that stays, are the same.
 abbrev pub SendsNothing : {W : Type 0} → (W → Option (List ℕ)) → ServerState (HeldWire W) → ServerState (HeldWire W) → Type 0
@@ -95,9 +101,20 @@ pub record RoundRequests (W : Type 0) : Type 0 where
   pub input : RoundInput W
   pub calls : List Call
 
+-- The contents after calls of the adapter. An entry that waited waits on if its bytes are the same.
+abbrev pub contents_after_calls : (AdapterState → Kept) → DeviceContents → List Call → DeviceContents
+contents_after_calls save c calls =
+    let adapter = after_calls c.adapter calls in
+    record {
+      adapter = adapter;
+      saved = save adapter;
+      waits = still_waiting c.waits c.saved (save adapter);
+      found = c.found;
+    }
+
 -- The contents after the requests of a round.
 abbrev pub after_round : {W : Type 0} → (AdapterState → Kept) → DeviceContents → RoundRequests W → DeviceContents
-after_round save c requests = contents_with save c.found (after_calls c.adapter requests.calls)
+after_round save c requests = contents_after_calls save c requests.calls
 
 -- The peers take a round: the connection is added, the wires are marked ready, and then the round is made at the time of
 -- the input. The adapter is that after these calls. The outcome is that of the round.

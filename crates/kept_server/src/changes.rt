@@ -1,8 +1,8 @@
 //! The entries that differ from what is kept.
 
-ghost use Rattle.std.specs.Prelude.{◌≡◌, [], true, OnOk, IfOk};
-ghost use Rattle.enip_keep.specs.Kept.{Kept, pairs_of, set_all};
-ghost use Rattle.kept_server.specs.Changes.{AreChanges, keys_of, rise, are_small, known};
+ghost use Rattle.std.specs.Prelude.{◌≡◌, [], OnOk, IfOk};
+ghost use Rattle.enip_keep.specs.Kept.{pairs_of};
+ghost use Rattle.kept_server.specs.Changes.{AreChanges, keys_of};
 
 use enip_keep::Entry;
 use std::alloc::{AllocError, Global};
@@ -38,7 +38,11 @@ pub(crate) fn collect_changes(
 }
 
 /// A copy of an entry, made in an entry of `spare` if there is one.
-fn copied(alloc: Global, entry: &Entry, spare: &mut Vec<Entry>) -> Result<Entry, AllocError>
+pub(crate) fn copied(
+    alloc: Global,
+    entry: &Entry,
+    spare: &mut Vec<Entry>,
+) -> Result<Entry, AllocError>
     ensures { IfOk result (λ copy. (copy.key ≡ entry.now.key) × (copy.bytes.items ≡ entry.now.bytes.items)) }
 {
     let mut copy = match spare.pop() {
@@ -54,7 +58,7 @@ fn copied(alloc: Global, entry: &Entry, spare: &mut Vec<Entry>) -> Result<Entry,
     Ok(copy)
 }
 
-/// Copies entries. The copies are made in entries of `spare`, as long as there are any.
+/// Copies entries.
 ///
 /// # Errors
 ///
@@ -62,47 +66,17 @@ fn copied(alloc: Global, entry: &Entry, spare: &mut Vec<Entry>) -> Result<Entry,
 pub(crate) fn copy_all(
     alloc: Global,
     entries: &[Entry],
-    spare: &mut Vec<Entry>,
     copies: &mut Vec<Entry>,
 ) -> Result<(), AllocError>
     requires { copies.old.items ≡ [] }
     ensures { OnOk result (pairs_of copies.new.items ≡ pairs_of entries.now) }
 {
+    let mut none = Vec::new(alloc);
     for entry in entries {
-        let copy = copied(alloc, entry, spare)?;
+        let copy = copied(alloc, entry, &mut none)?;
         copies.push(copy)?;
     }
     Ok(())
-}
-
-/// The entries to be set so that what is kept becomes `next`: those that differ from `kept`, or all of them if `kept` was
-/// not committed.
-///
-/// # Errors
-///
-/// `AllocError` if memory is refused.
-pub(crate) fn difference(
-    alloc: Global,
-    was_committed: bool,
-    kept: &[Entry],
-    next: &[Entry],
-    spare: &mut Vec<Entry>,
-    changed: &mut Vec<Entry>,
-) -> Result<(), AllocError>
-    requires none { changed.old.items ≡ [] }
-    requires keys { keys_of (pairs_of kept.now) ≡ keys_of (pairs_of next.now) }
-    requires rising { rise (keys_of (pairs_of kept.now)) ≡ true }
-    requires small { are_small (pairs_of next.now) ≡ true }
-    ensures changes { OnOk result ((found : Kept) →
-        set_all (pairs_of changed.new.items) (known was_committed (pairs_of kept.now) found)
-        ≡ set_all (pairs_of next.now) found) }
-    ensures small { OnOk result (are_small (pairs_of changed.new.items) ≡ true) }
-{
-    if was_committed {
-        collect_changes(alloc, kept, next, spare, changed)
-    } else {
-        copy_all(alloc, next, spare, changed)
-    }
 }
 
 /// Moves all entries to `spare`, for later copies. They are dropped if there is no memory for that.

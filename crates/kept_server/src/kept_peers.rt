@@ -3,7 +3,8 @@
 ghost use Rattle.std.specs.Prelude.{◌≡◌};
 ghost use Rattle.enip_keep.specs.Kept.{Kept, pairs_of};
 ghost use Rattle.enip_server.specs.Rounds.{state_of};
-ghost use Rattle.kept_server.specs.Changes.{keys_of, known, saved};
+ghost use Rattle.kept_server.specs.Changes.{keys_of, newest};
+ghost use Rattle.kept_server.specs.Savings.{kept_by};
 ghost use Rattle.kept_server.specs.Rounds.{DeviceContents, RoundRequests, SendsHeld, SendsNothing, TakesRound};
 ghost use Rattle.kept_server.specs.Rounds.{after_round, contents_with, kept_of, nothing_by_itself};
 
@@ -33,7 +34,8 @@ pub struct KeptPeers<W: Wire + Drop, C: KeptDevice> {
     table: EntryTable,
     last_round: RoundEnd,
     configuration: PhantomData<C>,
-    ghost keys: { keys_of (pairs_of table.kept.items) ≡ C.keys (state_of peers).adapter },
+    ghost keys: { keys_of (pairs_of (newest table.is_settled table.kept table.current).entries.items)
+        ≡ C.keys (state_of peers).adapter },
 }
 
 impl<W: Wire + Drop, C: KeptDevice> KeptPeers<W, C> {
@@ -65,7 +67,8 @@ impl<W: Wire + Drop, C: KeptDevice> Device for KeptPeers<W, C> {
 
     ghost kept_part = { kept_of };
 
-    ghost started = { λ configuration found. contents_with C.saved found (C.started configuration found) };
+    ghost started = { λ configuration found.
+        contents_with C.saved (C.waiting configuration found) found (C.started configuration found) };
 
     ghost refuses = { C.refuses };
 
@@ -73,11 +76,12 @@ impl<W: Wire + Drop, C: KeptDevice> Device for KeptPeers<W, C> {
 
     ghost contents = { λ d. record {
       adapter = (state_of d.peers).adapter;
-      saved = saved d.table.is_settled (pairs_of d.table.kept.items) (pairs_of d.table.current.items);
+      saved = pairs_of (newest d.table.is_settled d.table.kept d.table.current).entries.items;
+      waits = (newest d.table.is_settled d.table.kept d.table.current).waits.items;
       found = pairs_of d.table.found.items;
     } };
 
-    ghost known_kept = { λ d. known d.table.was_committed (pairs_of d.table.kept.items) (pairs_of d.table.found.items) };
+    ghost known_kept = { λ d. kept_by d.table.kept (pairs_of d.table.found.items) };
 
     ghost sends_nothing = { λ old new. SendsNothing W.written (state_of old.peers) (state_of new.peers) };
 
@@ -90,10 +94,11 @@ impl<W: Wire + Drop, C: KeptDevice> Device for KeptPeers<W, C> {
     fn start(alloc: Global, configuration: &C, entries: &[Entry]) -> Result<Self, KeepError> {
         let adapter = configuration.start(alloc, entries)?;
         let mut found = Vec::new(alloc);
-        copy_all(alloc, entries, &mut Vec::new(alloc), &mut found)?;
+        copy_all(alloc, entries, &mut found)?;
         let mut current = Vec::new(alloc);
         C::save(alloc, &adapter, &mut current)?;
-        let table = EntryTable::new(alloc, found, current)?;
+        let waiting = configuration.waiting(alloc, entries)?;
+        let table = EntryTable::new(alloc, found, current, waiting.as_slice())?;
         let peers = Peers::new(alloc, adapter, configuration.idle_timeout())?;
         let last_round = RoundEnd {
             ended: 0,
@@ -111,7 +116,14 @@ impl<W: Wire + Drop, C: KeptDevice> Device for KeptPeers<W, C> {
 
     fn serve(&mut self, input: RoundInput<W>) -> Result<(), KeepError> {
         self.last_round = take_round(&mut self.peers, input);
-        C::save(self.alloc, self.peers.adapter(), &mut self.table.next)?;
+        if C::is_saved(self.peers.adapter(), self.table.newest()) {
+            return Ok(());
+        }
+        C::save(
+            self.alloc,
+            self.peers.adapter(),
+            &mut self.table.next.entries,
+        )?;
         self.table.update(self.alloc)?;
         Ok(())
     }

@@ -4,6 +4,9 @@
 //! answers held back (`enip_server::HeldWire`). Then it names the entries that differ from what is kept, and once they
 //! are committed it releases the answers. What is kept of an adapter, and how one starts from it, is a `KeptDevice`.
 //!
+//! A start may take nothing from a value that was found, as from one of another size. That value stays kept until the
+//! device's own value changes.
+//!
 //! The device has no owner: a request to one is answered "device state conflict" (0x10).
 #![tactic(auto)]
 
@@ -13,6 +16,7 @@ mod kept_peers;
 mod lives;
 mod round;
 mod table;
+mod waits;
 
 pub use kept_device::KeptDevice;
 pub use kept_peers::KeptPeers;

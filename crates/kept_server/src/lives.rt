@@ -34,8 +34,9 @@ pub fn live_peers<W: Wire + Drop, C: KeptDevice + Drop, K: Restart + Drop>(
     requires fresh { went.old.items ≡ [] }
     ensures { K.doubt server.new.keeper ≡ 0 → OnOk result ((left : Kept) → K.may_leave server.new.keeper left
         → IsKeptAfter (λ input requests. requests.input ≡ input) (after_round C.saved) kept_of
-        (λ configuration found. contents_with C.saved found (C.started configuration found)) events.items
-        went.new.items (⟦<KeptPeers<W, C> as Device>⟧.contents server.old.device) left) }
+        (λ configuration found. contents_with C.saved (C.waiting configuration found) found
+        (C.started configuration found)) events.items went.new.items
+        (⟦<KeptPeers<W, C> as Device>⟧.contents server.old.device) left) }
 {
     live(alloc, server, events, went)
 }

@@ -18,5 +18,6 @@ mod manager_openings;
 mod message;
 mod objects;
 mod own_requests;
+mod route;
 mod texts;
 mod words;

@@ -50,7 +50,7 @@ fn check(rt: &impl Abort, alloc: Global, row: Row) -> Result<(), Fail> {
 }
 
 /// The least and the greatest value of each type, and others.
-static ROWS: [Row; 50] = [
+static ROWS: [Row; 97] = [
     ("BOOL", &["0"], &[0], "0"),
     ("BOOL", &["1"], &[1], "1"),
     ("BOOL", &["false"], &[0], "0"),
@@ -156,6 +156,210 @@ static ROWS: [Row; 50] = [
     ("SINT[]", &[], &[], ""),
     ("BOOL[]", &["1", "false"], &[1, 0], "1 0"),
     (
+        "LREAL",
+        &["1"],
+        &[0x00, 0x00, 0x00, 0x00, 0x00, 0x00, 0xf0, 0x3f],
+        "1.0",
+    ),
+    (
+        "LREAL",
+        &["0.1"],
+        &[0x9a, 0x99, 0x99, 0x99, 0x99, 0x99, 0xb9, 0x3f],
+        "0.1",
+    ),
+    (
+        "LREAL",
+        &["-0.15625"],
+        &[0x00, 0x00, 0x00, 0x00, 0x00, 0x00, 0xc4, 0xbf],
+        "-0.15625",
+    ),
+    (
+        "LREAL",
+        &["1.7976931348623157e308"],
+        &[0xff, 0xff, 0xff, 0xff, 0xff, 0xff, 0xef, 0x7f],
+        "1.7976931348623157e308",
+    ),
+    (
+        "LREAL",
+        &["5e-324"],
+        &[0x01, 0x00, 0x00, 0x00, 0x00, 0x00, 0x00, 0x00],
+        "5e-324",
+    ),
+    (
+        "LREAL",
+        &["-inf"],
+        &[0x00, 0x00, 0x00, 0x00, 0x00, 0x00, 0xf0, 0xff],
+        "-inf",
+    ),
+    (
+        "LREAL",
+        &["NaN"],
+        &[0x00, 0x00, 0x00, 0x00, 0x00, 0x00, 0xf8, 0x7f],
+        "NaN",
+    ),
+    (
+        "STRING",
+        &["Demo"],
+        &[0x04, 0x00, 0x44, 0x65, 0x6d, 0x6f],
+        "Demo",
+    ),
+    ("STRING", &[""], &[0x00, 0x00], ""),
+    (
+        "STRING",
+        &["a\\\\\\x00\\xff"],
+        &[0x04, 0x00, 0x61, 0x5c, 0x00, 0xff],
+        "a\\\\\\x00\\xff",
+    ),
+    (
+        "STRING2",
+        &["Hi"],
+        &[0x02, 0x00, 0x48, 0x00, 0x69, 0x00],
+        "Hi",
+    ),
+    ("STRING2", &[""], &[0x00, 0x00], ""),
+    (
+        "STRING2",
+        &["\\u00e9\\u20AC\\\\ \\u007f"],
+        &[
+            0x05, 0x00, 0xe9, 0x00, 0xac, 0x20, 0x5c, 0x00, 0x20, 0x00, 0x7f, 0x00,
+        ],
+        "\\u00e9\\u20ac\\\\ \\u007f",
+    ),
+    (
+        "EPATH",
+        &["20042464"],
+        &[0x02, 0x20, 0x04, 0x24, 0x64],
+        "20042464",
+    ),
+    ("EPATH", &[""], &[0x00], ""),
+    (
+        "EPATH",
+        &["2C00aBcD"],
+        &[0x02, 0x2c, 0x00, 0xab, 0xcd],
+        "2c00abcd",
+    ),
+    ("DATE", &["1972-01-01"], &[0x00, 0x00], "1972-01-01"),
+    ("DATE", &["1972-02-29"], &[0x3b, 0x00], "1972-02-29"),
+    ("DATE", &["1972-12-31"], &[0x6d, 0x01], "1972-12-31"),
+    ("DATE", &["1999-12-31"], &[0xf2, 0x27], "1999-12-31"),
+    ("DATE", &["2000-02-29"], &[0x2e, 0x28], "2000-02-29"),
+    ("DATE", &["2026-11-27"], &[0x56, 0x4e], "2026-11-27"),
+    ("DATE", &["2100-02-28"], &[0xda, 0xb6], "2100-02-28"),
+    ("DATE", &["2100-03-01"], &[0xdb, 0xb6], "2100-03-01"),
+    ("DATE", &["2151-06-06"], &[0xff, 0xff], "2151-06-06"),
+    (
+        "TIME_OF_DAY",
+        &["00:00:00.000"],
+        &[0x00, 0x00, 0x00, 0x00],
+        "00:00:00.000",
+    ),
+    (
+        "TIME_OF_DAY",
+        &["00:00:59.999"],
+        &[0x5f, 0xea, 0x00, 0x00],
+        "00:00:59.999",
+    ),
+    (
+        "TIME_OF_DAY",
+        &["12:34:56.789"],
+        &[0x95, 0x2c, 0xb3, 0x02],
+        "12:34:56.789",
+    ),
+    (
+        "TIME_OF_DAY",
+        &["23:59:59.999"],
+        &[0xff, 0x5b, 0x26, 0x05],
+        "23:59:59.999",
+    ),
+    (
+        "DATE_AND_TIME",
+        &["1972-01-01T00:00:00.000"],
+        &[0x00, 0x00, 0x00, 0x00, 0x00, 0x00],
+        "1972-01-01T00:00:00.000",
+    ),
+    (
+        "DATE_AND_TIME",
+        &["2026-11-27T12:34:56.789"],
+        &[0x95, 0x2c, 0xb3, 0x02, 0x56, 0x4e],
+        "2026-11-27T12:34:56.789",
+    ),
+    (
+        "DATE_AND_TIME",
+        &["2151-06-06T23:59:59.999"],
+        &[0xff, 0x5b, 0x26, 0x05, 0xff, 0xff],
+        "2151-06-06T23:59:59.999",
+    ),
+    (
+        "TIME",
+        &["-2147483648ms"],
+        &[0x00, 0x00, 0x00, 0x80],
+        "-2147483648ms",
+    ),
+    ("TIME", &["-1ms"], &[0xff, 0xff, 0xff, 0xff], "-1ms"),
+    ("TIME", &["0ms"], &[0x00, 0x00, 0x00, 0x00], "0ms"),
+    ("TIME", &["1500ms"], &[0xdc, 0x05, 0x00, 0x00], "1500ms"),
+    (
+        "TIME",
+        &["2147483647ms"],
+        &[0xff, 0xff, 0xff, 0x7f],
+        "2147483647ms",
+    ),
+    ("TIME", &["1500"], &[0xdc, 0x05, 0x00, 0x00], "1500ms"),
+    (
+        "LTIME",
+        &["-9223372036854775808us"],
+        &[0x00, 0x00, 0x00, 0x00, 0x00, 0x00, 0x00, 0x80],
+        "-9223372036854775808us",
+    ),
+    (
+        "LTIME",
+        &["1500us"],
+        &[0xdc, 0x05, 0x00, 0x00, 0x00, 0x00, 0x00, 0x00],
+        "1500us",
+    ),
+    (
+        "LTIME",
+        &["9223372036854775807us"],
+        &[0xff, 0xff, 0xff, 0xff, 0xff, 0xff, 0xff, 0x7f],
+        "9223372036854775807us",
+    ),
+    (
+        "LTIME",
+        &["-2"],
+        &[0xfe, 0xff, 0xff, 0xff, 0xff, 0xff, 0xff, 0xff],
+        "-2us",
+    ),
+    (
+        "TIME[]",
+        &["1ms", "2"],
+        &[0x01, 0x00, 0x00, 0x00, 0x02, 0x00, 0x00, 0x00],
+        "1ms 2ms",
+    ),
+    (
+        "DATE[]",
+        &["1972-01-02", "1972-01-03"],
+        &[0x01, 0x00, 0x02, 0x00],
+        "1972-01-02 1972-01-03",
+    ),
+    (
+        "STRING[]",
+        &["a b", ""],
+        &[0x03, 0x00, 0x61, 0x20, 0x62, 0x00, 0x00],
+        "\"a b\" \"\"",
+    ),
+    (
+        "STRING2[]",
+        &["a", "\"\\\"b\""],
+        &[0x01, 0x00, 0x61, 0x00, 0x02, 0x00, 0x22, 0x00, 0x62, 0x00],
+        "\"a\" \"\\\"b\"",
+    ),
+    (
+        "EPATH[]",
+        &["2004", "\"2464\"", ""],
+        &[0x01, 0x20, 0x04, 0x01, 0x24, 0x64, 0x00],
+        "\"2004\" \"2464\" \"\"",
+    ),
+    (
         "SHORT_STRING[]",
         &["a b", "", "\"c\\\"d\""],
         b"\x03a b\x00\x03c\"d",
@@ -175,6 +379,77 @@ fn rows(rt: HostRuntime) -> Result<(), Fail> {
 #[test]
 fn other_nan(rt: HostRuntime) -> Result<(), Fail> {
     check_read(&rt, rt.alloc(), "REAL", &[1, 0, 0x80, 0xff], "NaN")
+}
+
+/// A time of day that no day has is printed as its milliseconds, and a DATE_AND_TIME with it.
+#[test]
+fn clocks_past_the_day(rt: HostRuntime) -> Result<(), Fail> {
+    let alloc = rt.alloc();
+    check_read(
+        &rt,
+        alloc,
+        "TIME_OF_DAY",
+        &[0x00, 0x5c, 0x26, 0x05],
+        "86400000",
+    )?;
+    check_read(
+        &rt,
+        alloc,
+        "TIME_OF_DAY",
+        &[0xff, 0xff, 0xff, 0xff],
+        "4294967295",
+    )?;
+    let bytes = [0x00, 0x5c, 0x26, 0x05, 0, 0];
+    check_read(&rt, alloc, "DATE_AND_TIME", &bytes, "1972-01-01T86400000")
+}
+
+/// Each day that a DATE can be is read back from what is printed for it.
+#[test]
+fn every_date(rt: HostRuntime) -> Result<(), Fail> {
+    let date = type_of("DATE")?;
+    for day in 0..=0xffffu16 {
+        let bytes = day.to_le_bytes();
+        let values = read_values(rt.alloc(), date, &bytes)?;
+        let values = values.as_slice();
+        let text = format!(in rt.alloc();
+            "{}",
+            ValuesText {
+                value_type: date,
+                values
+            }
+        )?;
+        let again = write_values(rt.alloc(), date, &[text.as_str()])?;
+        assert!(rt; again.as_slice() == bytes.as_slice(), "{day}");
+    }
+    Ok(())
+}
+
+/// The longest path has 255 words, and the longest STRING 65,535 bytes.
+#[test]
+fn longest_paths_and_strings(rt: HostRuntime) -> Result<(), Fail> {
+    let rows = [
+        ("EPATH", "2004", 255usize, 511usize),
+        ("STRING", "x", 65535, 65537),
+        ("STRING2", "x", 65535, 131072),
+    ];
+    for (name, piece, most, size) in rows {
+        let value_type = type_of(name)?;
+        let mut word = String::new(rt.alloc());
+        for _ in 0..most {
+            word.push_str(piece)?;
+        }
+        let bytes = write_values(rt.alloc(), value_type, &[word.as_str()])?;
+        assert_eq!(rt; bytes.len(), size);
+        let values = read_values(rt.alloc(), value_type, bytes.as_slice())?;
+        assert_eq!(rt; values.len(), 1);
+        word.push_str(piece)?;
+        let words = [word.as_str()];
+        assert_eq!(rt;
+            write_values(rt.alloc(), value_type, &words).err(),
+            Some(ValueFault::Oversized(value_type.element, most + 1))
+        );
+    }
+    Ok(())
 }
 
 /// A text with any byte, alone and in a list, is read back from what is printed for it.
@@ -197,7 +472,7 @@ fn every_byte_of_a_text(rt: HostRuntime) -> Result<(), Fail> {
 /// A type, arguments, and why they are refused.
 type Refused = (&'static str, &'static [&'static str], &'static str);
 
-static REFUSED: [Refused; 50] = [
+static REFUSED: [Refused; 107] = [
     ("BOOL", &["2"], "2 is not of type BOOL"),
     ("BOOL", &["TRUE"], "TRUE is not of type BOOL"),
     (
@@ -349,6 +624,167 @@ static REFUSED: [Refused; 50] = [
         &["\\x0g"],
         "\\x0g is not of type SHORT_STRING",
     ),
+    (
+        "LREAL",
+        &["1e309"],
+        "1e309 is out of range for LREAL (-1.7976931348623157e308 to 1.7976931348623157e308)",
+    ),
+    (
+        "LREAL",
+        &["-1e309"],
+        "-1e309 is out of range for LREAL (-1.7976931348623157e308 to 1.7976931348623157e308)",
+    ),
+    ("LREAL", &["1,5"], "1,5 is not of type LREAL"),
+    ("STRING", &["\\n"], "\\n is not of type STRING"),
+    ("STRING2", &["\\x41"], "\\x41 is not of type STRING2"),
+    ("STRING2", &["\\u00g1"], "\\u00g1 is not of type STRING2"),
+    ("STRING2", &["\\u004"], "\\u004 is not of type STRING2"),
+    ("STRING2", &["é"], "é is not of type STRING2"),
+    ("EPATH", &["2"], "2 is not of type EPATH"),
+    ("EPATH", &["20"], "20 is not of type EPATH"),
+    ("EPATH", &["2g04"], "2g04 is not of type EPATH"),
+    ("EPATH", &["20 04"], "20 04 is not of type EPATH"),
+    (
+        "DATE",
+        &["1971-12-31"],
+        "1971-12-31 is out of range for DATE (1972-01-01 to 2151-06-06)",
+    ),
+    (
+        "DATE",
+        &["2151-06-07"],
+        "2151-06-07 is out of range for DATE (1972-01-01 to 2151-06-06)",
+    ),
+    (
+        "DATE",
+        &["9999-12-31"],
+        "9999-12-31 is out of range for DATE (1972-01-01 to 2151-06-06)",
+    ),
+    (
+        "DATE",
+        &["0000-01-01"],
+        "0000-01-01 is out of range for DATE (1972-01-01 to 2151-06-06)",
+    ),
+    ("DATE", &["2026-02-29"], "2026-02-29 is not of type DATE"),
+    ("DATE", &["2100-02-29"], "2100-02-29 is not of type DATE"),
+    ("DATE", &["2026-00-01"], "2026-00-01 is not of type DATE"),
+    ("DATE", &["2026-13-01"], "2026-13-01 is not of type DATE"),
+    ("DATE", &["2026-04-31"], "2026-04-31 is not of type DATE"),
+    ("DATE", &["2026-01-00"], "2026-01-00 is not of type DATE"),
+    ("DATE", &["2026-1-01"], "2026-1-01 is not of type DATE"),
+    ("DATE", &["2026/01/01"], "2026/01/01 is not of type DATE"),
+    ("DATE", &["26-01-01"], "26-01-01 is not of type DATE"),
+    ("DATE", &["2026-01-011"], "2026-01-011 is not of type DATE"),
+    ("DATE", &[""], " is not of type DATE"),
+    ("DATE", &["202x-01-01"], "202x-01-01 is not of type DATE"),
+    (
+        "TIME_OF_DAY",
+        &["24:00:00.000"],
+        "24:00:00.000 is out of range for TIME_OF_DAY (00:00:00.000 to 23:59:59.999)",
+    ),
+    (
+        "TIME_OF_DAY",
+        &["99:59:59.999"],
+        "99:59:59.999 is out of range for TIME_OF_DAY (00:00:00.000 to 23:59:59.999)",
+    ),
+    (
+        "TIME_OF_DAY",
+        &["12:60:00.000"],
+        "12:60:00.000 is not of type TIME_OF_DAY",
+    ),
+    (
+        "TIME_OF_DAY",
+        &["12:00:60.000"],
+        "12:00:60.000 is not of type TIME_OF_DAY",
+    ),
+    (
+        "TIME_OF_DAY",
+        &["12:00:00"],
+        "12:00:00 is not of type TIME_OF_DAY",
+    ),
+    (
+        "TIME_OF_DAY",
+        &["12.00.00.000"],
+        "12.00.00.000 is not of type TIME_OF_DAY",
+    ),
+    (
+        "TIME_OF_DAY",
+        &["12:00:00:000"],
+        "12:00:00:000 is not of type TIME_OF_DAY",
+    ),
+    (
+        "TIME_OF_DAY",
+        &["12:00:00.0000"],
+        "12:00:00.0000 is not of type TIME_OF_DAY",
+    ),
+    (
+        "TIME_OF_DAY",
+        &["45296789"],
+        "45296789 is not of type TIME_OF_DAY",
+    ),
+    ("TIME_OF_DAY", &[""], " is not of type TIME_OF_DAY"),
+    (
+        "DATE_AND_TIME",
+        &["1971-12-31T00:00:00.000"],
+        "1971-12-31T00:00:00.000 is out of range for DATE_AND_TIME (1972-01-01T00:00:00.000 to 2151-06-06T23:59:59.999)",
+    ),
+    (
+        "DATE_AND_TIME",
+        &["2026-11-27T24:00:00.000"],
+        "2026-11-27T24:00:00.000 is out of range for DATE_AND_TIME (1972-01-01T00:00:00.000 to 2151-06-06T23:59:59.999)",
+    ),
+    (
+        "DATE_AND_TIME",
+        &["2026-11-27"],
+        "2026-11-27 is not of type DATE_AND_TIME",
+    ),
+    (
+        "DATE_AND_TIME",
+        &["2026-11-27 12:34:56.789"],
+        "2026-11-27 12:34:56.789 is not of type DATE_AND_TIME",
+    ),
+    (
+        "DATE_AND_TIME",
+        &["2026-11-27T12:34:56"],
+        "2026-11-27T12:34:56 is not of type DATE_AND_TIME",
+    ),
+    (
+        "DATE_AND_TIME",
+        &["2026-02-30T12:34:56.789"],
+        "2026-02-30T12:34:56.789 is not of type DATE_AND_TIME",
+    ),
+    (
+        "DATE_AND_TIME",
+        &["2026-02-30T24:00:00.000"],
+        "2026-02-30T24:00:00.000 is not of type DATE_AND_TIME",
+    ),
+    ("DATE_AND_TIME", &[""], " is not of type DATE_AND_TIME"),
+    (
+        "TIME",
+        &["2147483648ms"],
+        "2147483648ms is out of range for TIME (-2147483648ms to 2147483647ms)",
+    ),
+    (
+        "TIME",
+        &["-2147483649"],
+        "-2147483649 is out of range for TIME (-2147483648ms to 2147483647ms)",
+    ),
+    ("TIME", &["1us"], "1us is not of type TIME"),
+    ("TIME", &["1 ms"], "1 ms is not of type TIME"),
+    ("TIME", &["ms"], "ms is not of type TIME"),
+    ("TIME", &["1.5ms"], "1.5ms is not of type TIME"),
+    ("TIME", &["1msms"], "1msms is not of type TIME"),
+    (
+        "LTIME",
+        &["9223372036854775808us"],
+        "9223372036854775808us is out of range for LTIME (-9223372036854775808us to 9223372036854775807us)",
+    ),
+    (
+        "LTIME",
+        &["-9223372036854775809us"],
+        "-9223372036854775809us is out of range for LTIME (-9223372036854775808us to 9223372036854775807us)",
+    ),
+    ("LTIME", &["1ms"], "1ms is not of type LTIME"),
+    ("LTIME", &["1s"], "1s is not of type LTIME"),
     ("UINT", &[], "UINT takes one value, not 0"),
     ("UINT", &["1", "513"], "UINT takes one value, not 2"),
     (
@@ -402,7 +838,7 @@ type Broken = (
     &'static str,
 );
 
-static BROKEN: [Broken; 14] = [
+static BROKEN: [Broken; 30] = [
     (
         "BOOL",
         &[2],
@@ -460,6 +896,102 @@ static BROKEN: [Broken; 14] = [
     (
         "UINT[]",
         &[1, 2, 3],
+        ValueFault::Short,
+        "the data end within a value",
+    ),
+    (
+        "LREAL",
+        &[1, 2, 3, 4, 5, 6, 7],
+        ValueFault::Short,
+        "the data end within a value",
+    ),
+    (
+        "STRING",
+        &[1],
+        ValueFault::Short,
+        "the data end within a value",
+    ),
+    (
+        "STRING",
+        &[2, 0, 97],
+        ValueFault::Short,
+        "the data end within a value",
+    ),
+    (
+        "STRING",
+        &[1, 0, 97, 98],
+        ValueFault::Trailing(1),
+        "1 byte is left over",
+    ),
+    (
+        "STRING2",
+        &[1],
+        ValueFault::Short,
+        "the data end within a value",
+    ),
+    (
+        "STRING2",
+        &[2, 0, 97, 0, 98],
+        ValueFault::Short,
+        "the data end within a value",
+    ),
+    (
+        "STRING2",
+        &[1, 0, 97, 0, 98],
+        ValueFault::Trailing(1),
+        "1 byte is left over",
+    ),
+    (
+        "EPATH",
+        &[],
+        ValueFault::Short,
+        "the data end within a value",
+    ),
+    (
+        "EPATH",
+        &[1, 32],
+        ValueFault::Short,
+        "the data end within a value",
+    ),
+    (
+        "EPATH",
+        &[1, 32, 4, 36],
+        ValueFault::Trailing(1),
+        "1 byte is left over",
+    ),
+    (
+        "DATE",
+        &[1],
+        ValueFault::Short,
+        "the data end within a value",
+    ),
+    (
+        "TIME_OF_DAY",
+        &[1, 2, 3],
+        ValueFault::Short,
+        "the data end within a value",
+    ),
+    (
+        "DATE_AND_TIME",
+        &[1, 2, 3, 4, 5],
+        ValueFault::Short,
+        "the data end within a value",
+    ),
+    (
+        "TIME",
+        &[1, 2, 3],
+        ValueFault::Short,
+        "the data end within a value",
+    ),
+    (
+        "LTIME",
+        &[1, 2, 3, 4, 5, 6, 7],
+        ValueFault::Short,
+        "the data end within a value",
+    ),
+    (
+        "DATE_AND_TIME[]",
+        &[1, 2, 3, 4, 5, 6, 7],
         ValueFault::Short,
         "the data end within a value",
     ),
@@ -525,6 +1057,15 @@ fn names(rt: HostRuntime) -> Result<(), Fail> {
         "LWORD",
         "REAL",
         "SHORT_STRING",
+        "LREAL",
+        "STRING",
+        "STRING2",
+        "EPATH",
+        "DATE",
+        "TIME_OF_DAY",
+        "DATE_AND_TIME",
+        "TIME",
+        "LTIME",
     ];
     for name in names {
         let one = type_of(name)?;
@@ -537,7 +1078,7 @@ fn names(rt: HostRuntime) -> Result<(), Fail> {
         let wanted = format!(in rt.alloc(); "{name} {name}[]")?;
         assert_eq!(rt; told.as_str(), wanted.as_str());
     }
-    for name in ["", "uint", "UINT ", "UINT[][]", "[]", "UINT[", "STRING"] {
+    for name in ["", "uint", "UINT ", "UINT[][]", "[]", "UINT[", "STRINGS"] {
         assert!(rt; ValueType::from_name(name).is_none(), "{name}");
     }
     assert!(rt; ElementaryType::from_name("UINT[]").is_none());
@@ -585,6 +1126,18 @@ fn texts_of_faults(rt: HostRuntime) -> Result<(), Fail> {
         (
             ValueFault::TooLong(256),
             "a SHORT_STRING has at most 255 bytes, not 256",
+        ),
+        (
+            ValueFault::Oversized(ElementaryType::String, 65536),
+            "STRING takes 0 to 65535 bytes, not 65536",
+        ),
+        (
+            ValueFault::Oversized(ElementaryType::String2, 65536),
+            "STRING2 takes 0 to 65535 characters, not 65536",
+        ),
+        (
+            ValueFault::Oversized(ElementaryType::Epath, 256),
+            "EPATH takes 0 to 255 words, not 256",
         ),
         (ValueFault::Memory, "memory"),
     ];

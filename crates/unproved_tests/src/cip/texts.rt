@@ -7,6 +7,7 @@ use cip_class3::Refused;
 use cip_commander::CommandRefused;
 use cip_message::{LengthFault, PathFault, ReplyFault, RequestFault};
 use cip_objects::ConfigFault;
+use cip_route::{HopFault, RouteFailure, RouteFault};
 use kept_commander::{KeptCommandError, StorageFailed};
 use std::test::Fail;
 
@@ -42,6 +43,41 @@ fn of_cip_message(rt: HostRuntime) -> Result<(), Fail> {
     check_texts(&rt, rt.alloc(), &requests)?;
     check_texts(&rt, rt.alloc(), &replies)?;
     check_texts(&rt, rt.alloc(), &lengths)
+}
+
+#[test]
+fn of_cip_route(rt: HostRuntime) -> Result<(), Fail> {
+    let hops = [
+        (HopFault::Kind, "not a port segment"),
+        (HopFault::Port, "not a port"),
+        (HopFault::Size, "not the size of a link address"),
+        (HopFault::Pad, "the pad byte is not 0"),
+        (HopFault::Cut, "cut within a port segment"),
+    ];
+    let routes = [
+        (RouteFault::Form, "a hop is PORT/LINK, such as 1/0"),
+        (RouteFault::Port, "a port is 1 to 65535"),
+        (
+            RouteFault::Link,
+            "a link is 0 to 255, or an address such as 10.0.0.7",
+        ),
+        (RouteFault::TooLong, "the route is longer than 64 bytes"),
+    ];
+    let failures = [
+        (
+            RouteFailure::TimedOut,
+            "a router on the route got no answer in time",
+        ),
+        (RouteFailure::Port, "the router has no such port"),
+        (RouteFailure::Link, "the router has no such link address"),
+        (
+            RouteFailure::Segment,
+            "the router does not accept a segment of the path",
+        ),
+    ];
+    check_texts(&rt, rt.alloc(), &hops)?;
+    check_texts(&rt, rt.alloc(), &routes)?;
+    check_texts(&rt, rt.alloc(), &failures)
 }
 
 #[test]

@@ -4,7 +4,7 @@ use super::wires::{Call, ScriptedWire};
 use arrayvec::ArrayVec;
 use cip_objects::{Config, Objects};
 use enip_adapter::Adapter;
-use enip_keep::{Entry, KeepError, MemoryKeeper, Server};
+use enip_keep::{Device, Entry, KeepError, MemoryKeeper, Server};
 use enip_server::NO_IDLE_TIMEOUT;
 use kept_server::{KeptDevice, KeptPeers, ReadyWire, RoundInput};
 use std::alloc::{AllocError, Global};
@@ -23,7 +23,8 @@ const SET_REPLY: &[u8] = b"\x6f\0\x14\0\x01\0\0\0\0\0\0\0\x01\x02\x03\x04\x05\x0
 /// The key of the data of assembly 100.
 const KEY: u64 = 0x4_0064_0003;
 
-/// A demo device, of which the data of assembly 100 are kept. It starts from those alone.
+/// A demo device, of which the data of assembly 100 are kept. It starts from those alone, and takes nothing from data of
+/// another size.
 #[derive(Drop)]
 struct DataKept {
     config: Config,
@@ -36,6 +37,8 @@ impl KeptDevice for DataKept {
 
     ghost started = { ? };
 
+    ghost waiting = { ? };
+
     ghost refuses = { ? };
 
     fn idle_timeout(&self) -> u64 {
@@ -47,11 +50,31 @@ impl KeptDevice for DataKept {
             .ok()
             .ok_or(KeepError::Memory)?;
         for entry in entries {
-            if entry.key != KEY || !objects.write_data(100, 0, entry.bytes.as_slice()) {
+            if entry.key != KEY {
                 return Err(KeepError::Refused);
+            }
+            if entry.bytes.len() == 4 {
+                objects.write_data(100, 0, entry.bytes.as_slice());
             }
         }
         Ok(Adapter::new(alloc, objects, LISTEN, LIMITS)?)
+    }
+
+    fn waiting(&self, alloc: Global, entries: &[Entry]) -> Result<Vec<u64>, AllocError> {
+        let mut keys = Vec::new(alloc);
+        for entry in entries {
+            if entry.bytes.len() != 4 {
+                keys.push(entry.key)?;
+            }
+        }
+        Ok(keys)
+    }
+
+    fn is_saved(adapter: &Adapter, entries: &[Entry]) -> bool {
+        match (adapter.objects().attribute(4, 100, 3), entries.first()) {
+            (Some(data), Some(entry)) => data.as_slice() == entry.bytes.as_slice(),
+            _ => false,
+        }
     }
 
     fn save(alloc: Global, adapter: &Adapter, into: &mut Vec<Entry>) -> Result<(), AllocError> {
@@ -157,5 +180,54 @@ fn no_answer_leaves_if_the_commit_fails(rt: HostRuntime) -> Result<(), Fail> {
         assert_eq!(rt; made.get(), 3);
         assert_data(&rt, &server, data)?;
     }
+    Ok(())
+}
+
+/// The data of assembly 100 as an entry.
+fn data_entry(alloc: Global, data: &[u8]) -> Result<Entry, AllocError> {
+    Ok(Entry {
+        key: KEY,
+        bytes: Vec::from_slice(alloc, data)?,
+    })
+}
+
+#[test]
+fn a_value_that_is_not_used_stays_until_it_is_written(rt: HostRuntime) -> Result<(), Fail> {
+    let alloc = rt.alloc();
+    let device = DataKept {
+        config: config(alloc)?,
+    };
+    let made = Cell::new(0);
+    let calls = [
+        Call::GivesAll(REGISTER),
+        Call::Takes(REGISTERED, 28),
+        Call::GivesAll(SET),
+        Call::Takes(SET_REPLY, 44),
+    ];
+    // data of three bytes are not used, and nothing takes their place
+    let found = data_entry(alloc, &[1, 2, 3])?;
+    let mut peers: KeptPeers<ScriptedWire<'_>, DataKept> = KeptPeers::start(
+        alloc,
+        &device,
+        &[found],
+    )?;
+    assert_eq!(rt; peers.changes().len(), 0);
+    peers.release();
+    peers.serve(input(0, Some(ScriptedWire::new(&calls, &made)), &[]))?;
+    assert_eq!(rt; peers.changes().len(), 0);
+    peers.release();
+    // a set does
+    peers.serve(input(1, None, &[0]))?;
+    assert_eq!(rt; peers.changes().len(), 1);
+    assert_eq!(rt;
+        peers.changes()[0].bytes.as_slice(),
+        [7, 8, 9, 10].as_slice()
+    );
+    peers.release();
+    assert_eq!(rt; peers.changes().len(), 0);
+    // data of four bytes are used, and kept again at the start
+    let found = data_entry(alloc, &[1, 2, 3, 4])?;
+    let peers: KeptPeers<ScriptedWire<'_>, DataKept> = KeptPeers::start(alloc, &device, &[found])?;
+    assert_eq!(rt; peers.changes().len(), 1);
     Ok(())
 }

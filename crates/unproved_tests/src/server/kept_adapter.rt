@@ -108,6 +108,43 @@ fn a_ledger_of_which_a_slot_is_lost_starts_empty(rt: HostRuntime) -> Result<(), 
 }
 
 #[test]
+fn a_value_of_another_size_waits(rt: HostRuntime) -> Result<(), Fail> {
+    let alloc = rt.alloc();
+    let mut entries = saved(alloc, &start_in(alloc, 9)?.start(alloc, &[])?)?;
+    let start = start_in(alloc, 10)?;
+    assert_eq!(rt; start.waiting(alloc, &entries)?.len(), 0);
+    set(&mut entries, DATA, &[7, 8, 9])?;
+    set(&mut entries, FIRST_SLOT, &SLOT[..12])?;
+    let waiting = start.waiting(alloc, &entries)?;
+    assert_eq!(rt; waiting.as_slice(), [DATA].as_slice());
+    Ok(())
+}
+
+#[test]
+fn entries_are_compared_in_place(rt: HostRuntime) -> Result<(), Fail> {
+    let alloc = rt.alloc();
+    let adapter = start_in(alloc, 9)?.start(alloc, &[])?;
+    let mut entries = saved(alloc, &adapter)?;
+    assert_eq!(rt; AdapterStart::is_saved(&adapter, &entries), true);
+    // each entry is compared: another byte, a byte more, and another key
+    for index in 0..entries.len() {
+        entries[index].bytes.push(0)?;
+        assert_eq!(rt; AdapterStart::is_saved(&adapter, &entries), false);
+        entries[index].bytes.pop();
+        entries[index].key += 1;
+        assert_eq!(rt; AdapterStart::is_saved(&adapter, &entries), false);
+        entries[index].key -= 1;
+    }
+    set(&mut entries, DATA, &[0, 0, 0, 1])?;
+    assert_eq!(rt; AdapterStart::is_saved(&adapter, &entries), false);
+    set(&mut entries, DATA, &[0, 0, 0, 0])?;
+    assert_eq!(rt; AdapterStart::is_saved(&adapter, &entries), true);
+    let _ = entries.pop();
+    assert_eq!(rt; AdapterStart::is_saved(&adapter, &entries), false);
+    Ok(())
+}
+
+#[test]
 fn the_entries_of_another_device_are_refused(rt: HostRuntime) -> Result<(), Fail> {
     let alloc = rt.alloc();
     let mut entries = saved(alloc, &start_in(alloc, 9)?.start(alloc, &[])?)?;

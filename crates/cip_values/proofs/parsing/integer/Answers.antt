@@ -1,5 +1,4 @@
-use Rattle.std.proofs.Common.{rules, arith, sym, ◌∙◌, Ok, Err}
-use Rattle.cip_values.proofs.ParsingLemmas.{negative_told, negative_untold, plain}
+use Rattle.cip_values.proofs.ParsingLemmas.{negative_told, plain}
 use Rattle.cip_values.proofs.parsing.integer.Goals as goal
 
 pub returns-in_ok-number_of-in-Some : goal.returns-in_ok-number_of-in-Some

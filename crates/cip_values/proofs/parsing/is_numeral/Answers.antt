@@ -1,4 +1,4 @@
-use Rattle.std.proofs.Common.{◌≡◌, rules, arith, sym, ◌∙◌}
+use Rattle.std.proofs.Common.{◌≡◌, rules, sym, ◌∙◌}
 use Rattle.std.specs.Char.{is_digit}
 use Rattle.std.specs.List.{list_all}
 use Rattle.cip_values.proofs.ParsingLemmas.{digits-from_all, all-from_digits}

@@ -6,4 +6,4 @@ abbrev pub decreases-loop-rest : goal.decreases-loop-rest
 decreases-loop-rest l = length l.rest
 
 abbrev pub invariant-loop-rest : goal.invariant-loop-rest
-invariant-loop-rest l = Unescapes l.fn.text l.bytes.items l.rest
+invariant-loop-rest l = Unescapes l.fn.form l.fn.text l.bytes.items l.rest

@@ -1,4 +1,4 @@
-use Rattle.std.proofs.Common.{rules, arith, sym, take, ◌≡◌}
+use Rattle.std.proofs.Common.{arith, take, ◌≡◌}
 use Rattle.byteorder.proofs.Bytes.{take-bytes_low_first}
 use Rattle.std.proofs.lemmas.Grind.{common_steps}
 use Rattle.cip_bytes.specs.Numbers.{le}

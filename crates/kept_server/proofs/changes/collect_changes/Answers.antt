@@ -4,7 +4,7 @@ use Rattle.enip_keep.specs.declared.entry.Entry.{Entry}
 use Rattle.enip_keep.specs.Kept.{Kept, pairs_of}
 use Rattle.kept_server.specs.Changes.{AreChanges}
 use Rattle.kept_server.specs.Changes.AreChanges.{No_entry}
-use Rattle.kept_server.proofs.ChangeLemmas.{more_same, more_differs, same_length, bytes_equal, unequal_not}
+use Rattle.kept_server.proofs.ChangeLemmas.{more_same, more_differs, same_length, bytes_equal, bytes_unequal, unequal_not}
 use Rattle.kept_server.proofs.changes.collect_changes.Goals as goal
 use Rattle.kept_server.proofs.changes.collect_changes.Goals.{then-ne+in_ok-copy+in_ok-push, else-ne}
 
@@ -24,7 +24,10 @@ loop-index-preserved c =
           (sym (ap (λ (v : Vec Entry). v.items) w.changed-is ∙ w.in_ok-push.ensures.items))
           (more_differs kept current index c.index-kept-index.result c.index-current-index.result c.requires.keys less
           c.loop-index-test.true (sym c.index-kept-index.is) (sym c.index-current-index.is) c.loop-index.changed.items
-          c.loop-index.invariant w.in_ok-copy.copy w.in_ok-copy.ensures.0 w.in_ok-copy.ensures.1)
+          c.loop-index.invariant
+          (λ e. (bytes_unequal _ _ (sym c.ne.ensures ∙ w.if-ne.true)) (c.as_slice.ensures.value ∙ e
+          ∙ sym c.as_slice-in-loop-index.ensures.value))
+          w.in_ok-copy.copy w.in_ok-copy.ensures.0 w.in_ok-copy.ensures.1)
       | else-ne w ↦
           subst (λ xs. AreChanges (pairs_of (take (index + 1) kept)) now (pairs_of xs))
           (sym (ap (λ (v : Vec Entry). v.items) w.changed-is))

@@ -1,5 +1,4 @@
-use Rattle.std.proofs.Common.{rules, arith, sym, ap, ◌∙◌, ◌++◌}
-use Rattle.cip_values.specs.Values.{IsOf, value_in}
+use Rattle.std.proofs.Common.{rules}
 use Rattle.cip_values.proofs.Spelling.{spelled-signed}
 use Rattle.cip_values.proofs.value.Value.append.Goals as goal
 

@@ -1,9 +1,8 @@
-use Rattle.std.proofs.Common.{◌≡◌, ◌≤◌, ℕ, length, rules, arith, sym, w64}
+use Rattle.std.proofs.Common.{◌≡◌, ◌≤◌, length, rules, arith, w64}
 use Rattle.std.proofs.lemmas.Int.{to_z-of_z}
-use Rattle.cip_bytes.specs.Numbers.{AreBytes}
 use Rattle.cip_values.specs.Types.{IsSized}
 use Rattle.cip_values.specs.declared.element.Form.TheVariants as forms
-use Rattle.cip_values.proofs.Spelling.{Splits, signed_front, unsigned_front, bits_front, text_front}
+use Rattle.cip_values.proofs.Spelling.{Splits, signed_front, unsigned_front, bits_front}
 use Rattle.cip_values.proofs.value.Value.read.Goals as goal
 
 pub returns-in-Signed-clause-read : goal.returns-in-Signed-clause-read
@@ -42,16 +41,3 @@ returns-in-Bits-clause-read c =
       rest_is = rw size at c.split_at.ensures.back;
     } in
     rw (c.in-Bits.is) (bits_front c.in-Bits.size c.args.bytes.now c.split_at.result.0.now c.split_at.result.1.now c.read_uint-in-Bits.result splits c.read_uint-in-Bits.ensures)
-
-pub returns-else-rest-size-clause-read : goal.returns-else-rest-size-clause-read
-returns-else-rest-size-clause-read c =
-    let size : c.size-2.result ≡ 1 = rw c.in-Text.is at c.size-2.ensures.value in
-    let room : 1 ≤ length c.args.bytes.now = omega (arith, rw c.in-Text.is at c.size.ensures.value, c.if-bytes-size.false) in
-    let splits : Splits forms.Text c.args.bytes.now c.split_at.result.0.now c.split_at.result.1.now = record {
-      fits = search rules;
-      room = room;
-      front_is = rw size at c.split_at.ensures.front;
-      rest_is = rw size at c.split_at.ensures.back;
-    } in
-    rw c.in-Text.is (text_front c.args.bytes.now c.split_at.result.0.now c.split_at.result.1.now c.split_at-in-Text.result.0.now
-    c.split_at-in-Text.result.1.now splits c.if-rest-size.false c.split_at-in-Text.ensures.front c.split_at-in-Text.ensures.back)

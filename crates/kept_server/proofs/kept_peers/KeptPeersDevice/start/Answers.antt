@@ -4,7 +4,7 @@ use Rattle.kept_server.proofs.kept_peers.KeptPeersDevice.start.Goals as goal
 
 pub invariant_of-result : goal.invariant_of-result
 invariant_of-result g c = record {
-  keys = c.in_ok-table.ensures.keys ∙ ap keys_of c.in_ok-save.ensures.saved ∙ g.met.C.KeptDevice.under_keys _
+  keys = ap keys_of c.in_ok-table.ensures.saved ∙ ap keys_of c.in_ok-save.ensures.saved ∙ g.met.C.KeptDevice.under_keys _
       ∙ ap g.C.KeptDevice.keys (sym (ap (λ p. p.adapter) c.in_ok-peers.ensures));
 }
 

@@ -1,0 +1,4 @@
+pub mod Hops
+pub mod HopsTaken
+pub mod Routes
+pub mod Sends

@@ -1,0 +1,5 @@
+pub mod Failure
+pub mod Hop
+pub mod HopReading
+pub mod Route
+pub mod Send

@@ -1,0 +1,183 @@
+//! What the log prints of a served device: its events, as text or as JSON.
+
+use crate::frame_summary::{AnswerStatus, RequestSummary};
+use cip_values::Date;
+use std::fmt;
+use std::net::SocketAddr;
+
+/// Why a connection ended.
+#[derive(Clone, Copy)]
+pub(crate) enum EndCause {
+    /// The client closed it.
+    Client,
+    /// The client unregistered its session.
+    Unregistered,
+    /// The header of a frame has a length over the limit.
+    TooLong,
+    /// The device closed it for another reason.
+    Device,
+    /// A read or a write failed.
+    Failed,
+    /// The client sent nothing for the time of `--idle`, or the device stopped.
+    Silent,
+}
+
+impl fmt::Display for EndCause {
+    fn fmt<W: fmt::Write>(&self, f: &mut fmt::Formatter<W>) -> fmt::Result {
+        let text = match self {
+            EndCause::Client => "closed by the client",
+            EndCause::Unregistered => "session unregistered",
+            EndCause::TooLong => "frame too long",
+            EndCause::Device => "closed by the device",
+            EndCause::Failed => "connection failed",
+            EndCause::Silent => "silent for too long",
+        };
+        write!(f, "{text}")
+    }
+}
+
+/// An event of a served device.
+#[derive(Clone, Copy)]
+pub(crate) enum LogEvent {
+    /// A client has connected.
+    Connected,
+    /// A connection has ended.
+    Disconnected(EndCause),
+    /// A connection was closed at once, because no peer slot was free.
+    TurnedAway,
+    /// A frame was answered.
+    Answered(RequestSummary, AnswerStatus),
+    /// A frame was answered with the reply that was kept: it repeats the request before it on its connection.
+    Repeated(RequestSummary, AnswerStatus),
+    /// A frame was not answered.
+    Unanswered(RequestSummary),
+    /// A datagram was answered.
+    Datagram(RequestSummary, AnswerStatus),
+}
+
+/// The text of `TurnedAway`.
+const TURNED_AWAY: &str = "turned away: all peer slots are taken";
+
+impl fmt::Display for LogEvent {
+    fn fmt<W: fmt::Write>(&self, f: &mut fmt::Formatter<W>) -> fmt::Result {
+        match self {
+            LogEvent::Connected => write!(f, "connected"),
+            LogEvent::Disconnected(cause) => write!(f, "disconnected: {cause}"),
+            LogEvent::TurnedAway => write!(f, "{TURNED_AWAY}"),
+            LogEvent::Answered(request, status) => write!(f, "{request}: {status}"),
+            LogEvent::Repeated(request, status) => write!(f, "{request}: {status} (kept reply)"),
+            LogEvent::Unanswered(request) => write!(f, "{request}: no answer"),
+            LogEvent::Datagram(request, status) => write!(f, "datagram {request}: {status}"),
+        }
+    }
+}
+
+/// An event as the members of a JSON object, in the order of their names, after `address`.
+#[derive(Clone, Copy)]
+pub(crate) struct JsonMembers(pub(crate) LogEvent);
+
+impl fmt::Display for JsonMembers {
+    fn fmt<W: fmt::Write>(&self, f: &mut fmt::Formatter<W>) -> fmt::Result {
+        match self.0 {
+            LogEvent::Connected => write!(f, "\"event\":\"connected\""),
+            LogEvent::Disconnected(cause) => {
+                write!(f, "\"cause\":\"{cause}\",\"event\":\"disconnected\"")
+            }
+            LogEvent::TurnedAway => write!(f, "\"event\":\"turned away\""),
+            LogEvent::Answered(request, status) => write_frame(f, "frame", request, status),
+            LogEvent::Repeated(request, status) => write_frame(f, "repeat", request, status),
+            LogEvent::Unanswered(request) => {
+                write!(f, "\"event\":\"frame\",\"request\":\"{request}\"")
+            }
+            LogEvent::Datagram(request, status) => write_frame(f, "datagram", request, status),
+        }
+    }
+}
+
+/// Writes the members of a frame that was answered.
+fn write_frame<W: fmt::Write>(
+    f: &mut fmt::Formatter<W>,
+    event: &str,
+    request: RequestSummary,
+    status: AnswerStatus,
+) -> fmt::Result {
+    write!(
+        f,
+        "\"event\":\"{event}\",\"request\":\"{request}\",\"status\":\"{status}\""
+    )
+}
+
+/// How the log is written.
+#[derive(Clone, Copy)]
+pub(crate) enum LogStyle {
+    /// A line of text for each event.
+    Text,
+    /// A JSON object on a line for each event.
+    Json,
+}
+
+/// The clock of the times in a log.
+#[derive(Clone, Copy)]
+pub(crate) enum LogClock {
+    /// The time since the program began to serve.
+    Start,
+    /// The time of day, in UTC.
+    Utc,
+}
+
+/// The time of an event, in microseconds: since the start, or since 1970-01-01 in UTC.
+#[derive(Clone, Copy)]
+pub(crate) struct LogTime {
+    pub(crate) clock: LogClock,
+    pub(crate) microseconds: u64,
+}
+
+/// The microseconds of a second.
+const SECOND: u64 = 1_000_000;
+
+/// The seconds of a day.
+const DAY: u64 = 86_400;
+
+/// The days from 1970-01-01 to 1972-01-01.
+const DAYS_BEFORE_1972: u64 = 730;
+
+impl fmt::Display for LogTime {
+    fn fmt<W: fmt::Write>(&self, f: &mut fmt::Formatter<W>) -> fmt::Result {
+        let (seconds, rest) = (self.microseconds / SECOND, self.microseconds % SECOND);
+        let LogClock::Utc = self.clock else {
+            return write!(f, "{seconds}.{rest:06}");
+        };
+        let days = (seconds / DAY).saturating_sub(DAYS_BEFORE_1972);
+        let date = Date::from_days(u16::try_from(days).unwrap_or(u16::MAX));
+        let (hour, minute, second) = (seconds % DAY / 3_600, seconds % 3_600 / 60, seconds % 60);
+        write!(f, "{date}T{hour:02}:{minute:02}:{second:02}.{rest:06}Z")
+    }
+}
+
+/// A line of the log.
+#[derive(Clone, Copy)]
+pub(crate) struct LogLine {
+    pub(crate) style: LogStyle,
+    pub(crate) time: LogTime,
+    pub(crate) address: SocketAddr,
+    pub(crate) event: LogEvent,
+}
+
+impl fmt::Display for LogLine {
+    fn fmt<W: fmt::Write>(&self, f: &mut fmt::Formatter<W>) -> fmt::Result {
+        let (time, address, event) = (self.time, self.address, self.event);
+        let members = JsonMembers(event);
+        match (self.style, time.clock) {
+            (LogStyle::Text, _) => writeln!(f, "{time} {address} {event}"),
+            (LogStyle::Json, LogClock::Start) => {
+                writeln!(f, "{{\"address\":\"{address}\",{members},\"time\":{time}}}")
+            }
+            (LogStyle::Json, LogClock::Utc) => {
+                writeln!(
+                    f,
+                    "{{\"address\":\"{address}\",{members},\"time\":\"{time}\"}}"
+                )
+            }
+        }
+    }
+}

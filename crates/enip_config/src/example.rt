@@ -1,0 +1,69 @@
+//! A configuration with every key.
+
+/// A configuration with every key, with comments. It describes a device that `enip serve` can run. Keys that need a
+/// program of yours next to the adapter, the owner of the device, are commented out.
+pub const EXAMPLE: &str =
+    r#"# A device for `enip serve`. A key with a default can be left out, and so can any table.
+
+vendor = 4660                # the identity of the device, which clients compare: 0 to 65535
+device_type = 43             # 0 to 65535
+product_code = 7             # 0 to 65535
+major = 2                    # the revision: 1 to 127
+minor = 5                    # 0 to 255
+serial = 16909060            # the serial number: 0 to 4294967295
+name = "Demo"                # up to 32 characters, 0x20 to 0x7e
+status = 0                   # the status word of Identity; default 0
+state = 3                    # the device's state: 0 to 255; default 3, operational
+
+address = [127, 0, 0, 1]     # what discovery reports; default [0, 0, 0, 0]
+port = 44818                 # the same; default 44818
+peers = 4                    # how many clients are served at once: 1 to 16; default 4
+connections = 16             # how many class 3 connections are open at once: 1 to 64; default 16
+first_handle = 1             # the first session handle; default 1
+first_id = 1                 # the first connection ID; default 1
+
+[counter]                    # class 0x64, a counter that clients add to
+value = 0                    # its value at the start; default 0
+limit = 100                  # its greatest value; default 4294967295
+enabled = true               # false: the device has no counter; default true
+
+[ledger]                     # class 0x65, executes the commands of `--once` once
+originators = 16             # how many clients it remembers: 1 to 64
+life = 1                     # `enip serve` uses the time of its start instead; default 1
+
+[[assembly]]                 # class 4, one table for each assembly, up to 16
+instance = 100               # 1 to 65535
+settable = true              # whether clients can write the data; default false
+members = [1, 2, 1]          # the sizes of its members in bytes: up to 64, 3900 bytes in all
+
+[[object]]                   # an object of your own, up to 32
+class = 768                  # 1 to 65535, not one of the adapter's own
+instance = 1                 # 1 to 65535
+name = "Conveyor"            # optional, for `enip check`
+
+[[object.attribute]]         # up to 32 in an object
+number = 1                   # 1 to 65535
+type = "UINT"                # a type of `enip get --as`, UINT[4], SHORT_STRING[32] or BYTES[12]
+value = 0                    # at the start; default all zeros
+settable = true              # whether clients can set it; default false
+checked = false              # true: the owner of the device decides on each set; default false
+min = 0                      # the least number that a client can set; default that of the type
+max = 3000                   # the greatest
+
+[[object.attribute]]
+number = 2
+type = "SHORT_STRING[32]"
+value = "ready"
+
+# Services are executed by the owner of the device: a program with the adapter as a library.
+# `enip serve` has none, and refuses a configuration with services.
+#
+# [[object.service]]           # up to 16 in an object
+# number = 50                  # 50 to 99
+# size = 4                     # how many bytes of data it takes: 0 to 480
+# reply = 4                    # the most bytes of data in its reply: 0 to 480; default 0
+#
+# [[object.service]]
+# number = 51
+# sizes = [0, 8]               # the least and the greatest number of bytes, instead of size
+"#;

@@ -1,0 +1,30 @@
+use Rattle.std.proofs.Common.{◌≡◌, ◌<◌, sym, arith, length}
+use Rattle.kept_adapter.specs.Keys.{ledger_key}
+use Rattle.kept_adapter.specs.Saved.{ENTRIES, ledger_bytes}
+use Rattle.std.proofs.Common.{refl}
+use Rattle.kept_adapter.proofs.CompareLemmas.{false_is, ledger_differs, ledger_goes_on, not_both}
+use Rattle.kept_adapter.proofs.comparing.are_all_of_ledger.Goals as goal
+
+pub returns-then-not-is_of_ledger : goal.returns-then-not-is_of_ledger
+returns-then-not-is_of_ledger c =
+    let number = c.loop-number.number in
+    let index = c.from-in-loop-number.result in
+    let here : index ≡ number = c.from-in-loop-number.ensures in
+    let below : number < ENTRIES = omega (arith, c.loop-number-test.true, c.loop-number.auto.number-end) in
+    let less : index < length c.args.entries.now = omega (arith, here, below, c.if-entries-from.false, c.from.ensures) in (
+      false_is _,
+      λ same. absurd (ledger_differs c.args.entries.now c.args.ledger.now ENTRIES number index (ledger_key number)
+          c.index-entries-from.result (ledger_bytes c.args.ledger.now number) here less (sym c.index-entries-from.is) below
+          refl refl (λ is. not_both c.is_of_ledger.result c.if-not-is_of_ledger.true (c.is_of_ledger.ensures.1 is)) same),
+    )
+
+pub loop-number-preserved : goal.loop-number-preserved
+loop-number-preserved c =
+    let number = c.loop-number.number in
+    let index = c.from-in-loop-number.result in
+    let here : index ≡ number = c.from-in-loop-number.ensures in
+    let below : number < ENTRIES = omega (arith, c.loop-number-test.true, c.loop-number.auto.number-end) in
+    let less : index < length c.args.entries.now = omega (arith, here, below, c.if-entries-from.false, c.from.ensures) in
+    ledger_goes_on c.args.entries.now c.args.ledger.now number index (ledger_key number) c.index-entries-from.result
+    (ledger_bytes c.args.ledger.now number) here less (sym c.index-entries-from.is) refl refl
+    (c.is_of_ledger.ensures.0 c.if-not-is_of_ledger.false) c.loop-number.invariant
