@@ -1,100 +1,32 @@
 //! `enip`: an EtherNet/IP adapter and explicit messaging client on the command line.
 #![tactic(auto)]
 
-mod acceptor;
 pub mod answer;
-mod argument_error;
-mod batch;
 mod checking;
-mod connection_options;
-mod discovery;
-mod error_keeping;
-pub mod fault;
-mod file_identity;
-mod frame_log;
-mod frame_summary;
-mod host_port;
-mod inspect;
-mod inspected;
-mod keeping;
-mod kept_file;
-mod kept_values;
-mod line_request;
-mod listing;
-mod log_event;
-mod logged_wire;
-mod named_file;
-mod number_argument;
-mod objects_help;
-mod observer;
-mod once;
-mod owner;
-mod polling;
-mod readiness;
-mod reason;
 pub mod replay;
 pub mod report;
-mod reported_address;
-mod request;
-mod retry;
-mod route_option;
-pub mod serve;
-mod serve_command;
-mod serving;
 pub mod show;
-pub mod socket;
-mod watch;
-mod watch_table;
-mod wire;
 
 use answer::answer;
-use argument_error::ArgumentError;
-use batch::run_batch;
 use checking::print_device;
 use clap::ArgMatches;
 use clap::error::ErrorKind;
 use enip_cli::{OsArg, PROGRAM, arguments_after, os_args, program, reserve_streams};
 use enip_client::ListCommand;
+use enip_common::{
+    ARGUMENTS_REFUSED, ArgumentError, CommandError, ErrorKeeping, Fault, INPUT, NamedFile, OUTPUT,
+    Reason, error_of_run, is_input, print_argument_error,
+};
 use enip_config::EXAMPLE;
-use error_keeping::ErrorKeeping;
-use fault::Fault;
-use host_port::Timeout;
-use inspect::run_inspect;
-use listing::{run_discovery, run_list};
-use named_file::{NamedFile, error_of_run, is_input};
-use number_argument::service_of;
-use objects_help::{is_help_of_objects, run_help_of_objects};
-use once::{OnceOptions, run_once};
-use polling::{PollOptions, run_polling};
-use reason::{CommandError, Reason};
+use enip_device::{print_kept_values, run_serve};
+use enip_requests::{
+    Query, is_help_of_objects, run_batch, run_call, run_get, run_help_of_objects, run_inspect,
+    run_query, run_set, run_watch,
+};
 use replay::{draw, replay};
 use report::Reported;
-use request::{Device, Request, run_request};
-use serve_command::{print_kept_values, run_serve};
 use show::show;
 use std::process::ExitCode;
-use watch::run_watch;
-
-/// The exit status if the arguments are refused.
-const ARGUMENTS_REFUSED: u8 = 2;
-
-/// Common services. (Volume 1, common services.)
-const GET_ATTRIBUTES_ALL: u8 = 0x01;
-
-const GET_ATTRIBUTE_SINGLE: u8 = 0x0e;
-
-const SET_ATTRIBUTE_SINGLE: u8 = 0x10;
-
-const GET_MEMBER: u8 = 0x18;
-
-const SET_MEMBER: u8 = 0x19;
-
-/// What messages call the program's streams.
-const INPUT: &str = "standard input";
-
-const OUTPUT: &str = "standard output";
-
-const ERRORS: &str = "standard error";
 
 /// Runs the command in the arguments. Returns the exit status.
 fn run_command<'a>(
@@ -114,8 +46,8 @@ fn run_command<'a>(
         "identity" => return run_query(rt, Query::List(ListCommand::Identity), matches),
         "services" => return run_query(rt, Query::List(ListCommand::Services), matches),
         "discover" => return run_query(rt, Query::Discovery, matches),
-        "get" => return run_client(rt, args, Some(service_of_get(matches)), matches),
-        "set" => return run_client(rt, args, Some(service_of_set(matches)), matches),
+        "get" => return run_get(rt, args, matches),
+        "set" => return run_set(rt, args, matches),
         "call" => return run_call(rt, args, matches),
         "batch" => return run_batch(rt, matches),
         "watch" => return run_watch(rt, matches),
@@ -209,65 +141,6 @@ fn run_show<'a>(rt: &HostRuntime) -> Result<u8, CommandError<'a>> {
     }
 }
 
-/// What is requested without a session.
-#[derive(Clone, Copy)]
-enum Query {
-    /// A list of one device.
-    List(ListCommand),
-    /// The identities of all devices of a network.
-    Discovery,
-}
-
-/// `enip identity`, `enip services` and `enip discover`.
-fn run_query<'a>(
-    rt: &HostRuntime,
-    query: Query,
-    matches: &ArgMatches<'a>,
-) -> Result<u8, CommandError<'a>> {
-    let timeout = match Timeout::from_matches(rt, matches) {
-        Ok(timeout) => timeout,
-        Err(error) => return Ok(print_argument_error(rt, error)),
-    };
-    let is_json = matches.get_flag("json");
-    let address = matches.get_str("ADDRESS").unwrap_or("");
-    match query {
-        Query::List(command) => run_list(rt, command, is_json, address, timeout),
-        Query::Discovery => run_discovery(rt, is_json, address, timeout),
-    }
-}
-
-/// The service of `enip get`: with `--member` that of a member, without ATTRIBUTE that of all attributes.
-fn service_of_get(matches: &ArgMatches<'_>) -> u8 {
-    if matches.contains_id("member") {
-        GET_MEMBER
-    } else if matches.contains_id("ATTRIBUTE") {
-        GET_ATTRIBUTE_SINGLE
-    } else {
-        GET_ATTRIBUTES_ALL
-    }
-}
-
-/// The service of `enip set`: with `--member` that of a member.
-fn service_of_set(matches: &ArgMatches<'_>) -> u8 {
-    if matches.contains_id("member") {
-        SET_MEMBER
-    } else {
-        SET_ATTRIBUTE_SINGLE
-    }
-}
-
-/// `enip call`.
-fn run_call<'a>(
-    rt: &HostRuntime,
-    args: &[OsArg],
-    matches: &ArgMatches<'a>,
-) -> Result<u8, CommandError<'a>> {
-    match service_of(matches) {
-        Ok(service) => run_client(rt, args, service, matches),
-        Err(error) => Ok(print_argument_error(rt, error)),
-    }
-}
-
 /// `enip check`.
 fn run_check<'a>(
     rt: &HostRuntime,
@@ -287,63 +160,6 @@ fn run_check<'a>(
         print_kept_values(rt, args, &config, file)?;
     }
     Ok(0)
-}
-
-/// `enip get`, `enip set` and `enip call`: sends a request for a service once, again and again, or until it is executed
-/// once.
-fn run_client<'a>(
-    rt: &HostRuntime,
-    args: &[OsArg],
-    service: Option<u8>,
-    matches: &ArgMatches<'a>,
-) -> Result<u8, CommandError<'a>> {
-    let once = match OnceOptions::from_matches(matches) {
-        Ok(once) => once,
-        Err(error) => return Ok(print_argument_error(rt, error)),
-    };
-    if let Some(options) = once {
-        return match command_of(rt, service, matches) {
-            Ok((device, request)) => run_once(rt, args, device, request, options),
-            Err(error) => Ok(print_argument_error(rt, error)),
-        };
-    }
-    match request_of(rt, service, matches) {
-        Ok((request, None)) => run_request(rt, request),
-        Ok((request, Some(options))) => run_polling(rt, request, options),
-        Err(error) => Ok(print_argument_error(rt, error)),
-    }
-}
-
-/// The request for a service that the arguments describe, and how often it is sent if more than once.
-fn request_of<'a, 'm>(
-    rt: &HostRuntime,
-    service: Option<u8>,
-    matches: &'m ArgMatches<'a>,
-) -> Result<(Request<'a, 'm>, Option<PollOptions>), ArgumentError<'a>> {
-    let timeout = Timeout::from_matches(rt, matches)?;
-    let options = PollOptions::from_matches(matches)?;
-    Ok((Request::from_matches(service, matches, timeout)?, options))
-}
-
-/// The device and the request that the arguments describe. No request if all its arguments are left out.
-fn command_of<'a, 'm>(
-    rt: &HostRuntime,
-    service: Option<u8>,
-    matches: &'m ArgMatches<'a>,
-) -> Result<(Device<'a>, Option<Request<'a, 'm>>), ArgumentError<'a>> {
-    let timeout = Timeout::from_matches(rt, matches)?;
-    let is_left_out = !matches.contains_id("SERVICE") && !matches.contains_id("CLASS");
-    if is_left_out {
-        return Ok((Device::from_matches(matches, timeout)?, None));
-    }
-    let request = Request::from_matches(service, matches, timeout)?;
-    Ok((request.device, Some(request)))
-}
-
-/// Prints why an argument is refused. Returns the exit status.
-fn print_argument_error(rt: &HostRuntime, error: ArgumentError<'_>) -> u8 {
-    let _ = eprintln!(rt; "error: {error}\n\nFor more information, try '--help'.");
-    ARGUMENTS_REFUSED
 }
 
 /// Parses the command line, and runs its command. Returns the exit status.

@@ -1,7 +1,5 @@
 //! Where a command reports the fault with which it ends early.
 
-use crate::fault::Fault;
-
 /// Receives the fault with which a command ends early.
 pub trait Report {
     /// Called once, and only if the command ends early.

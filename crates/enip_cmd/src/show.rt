@@ -2,8 +2,8 @@
 
 ghost use Rattle.std.specs.Prelude.{◌≡◌, ◌⊎◌};
 
-use crate::fault::Fault;
 use crate::report::Report;
+use enip_common::Fault;
 use std::alloc::Global;
 use std::io::{Read, Write};
 

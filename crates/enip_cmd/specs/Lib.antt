@@ -1,4 +1,0 @@
-pub mod Owner
-pub mod Readiness
-pub mod Reads
-pub mod Statuses

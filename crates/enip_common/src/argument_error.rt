@@ -1,0 +1,131 @@
+//! Arguments that `clap` accepts and a command refuses.
+
+use cip_names::Name;
+use cip_route::RouteFault;
+use cip_values::ValueType;
+use enip_cli::microseconds_of;
+use std::fmt;
+use std::time::Duration;
+use thiserror::Error;
+
+/// Why an argument is refused. The texts have the form of `clap`'s, and no line over 80 columns for a short argument.
+#[derive(Clone, Copy, Debug, Error)]
+pub enum ArgumentError<'a> {
+    /// The value of this option is not a number of seconds.
+    #[error("invalid value '{1}' for '--{0} <SECONDS>'\n  [a number from 0 to 3600, with up to six decimals]")]
+    Seconds(&'static str, &'a str),
+    /// The value of this option is not the name of a type.
+    #[error("invalid value '{1}' for '--{0} <TYPE>'\n  [possible values: BOOL, SINT, INT, DINT, LINT, USINT, UINT, UDINT, \
+        ULINT, BYTE,\n  WORD, DWORD, LWORD, REAL, SHORT_STRING, LREAL, STRING, STRING2, EPATH, DATE,\n  TIME_OF_DAY, \
+        DATE_AND_TIME, TIME, LTIME, or one of these and [] for a list]")]
+    Type(&'static str, &'a str),
+    /// The text is not a route.
+    #[error("invalid value '{0}' for '--route <HOPS>'\n  [{1}]")]
+    Route(&'a str, RouteFault),
+    /// The argument of this usage is not a number in this range.
+    #[error("invalid value '{1}' for '{0}'\n  [a number from {2} to {3}, decimal or 0x and hexadecimal digits]")]
+    Number(&'static str, &'a str, u64, u64),
+    /// The text for the argument of this usage is neither a number nor a name of these.
+    #[error("invalid value '{1}' for '{0}'\n  [{2}]")]
+    Name(&'static str, &'a str, Choices),
+    /// HEX has a second argument.
+    #[error("unexpected argument '{0}' found\n  [HEX is one argument, unless '--as <TYPE>' is used]")]
+    ExtraHex(&'a str),
+    /// `--tries` has no effect.
+    #[error("the argument '--tries <N>' needs '--connected' or '--once <FILE>'")]
+    Tries,
+    /// `--member` without the attribute that has it.
+    #[error("the argument '--member <N>' needs <ATTRIBUTE>")]
+    MemberAlone,
+    /// CONFIG is standard input, which has the lines of the command.
+    #[error("the argument '-' cannot be used for '<CONFIG>'\n  [standard input has the lines]")]
+    InputOfLines,
+    /// Two arguments are standard input.
+    #[error("the argument '-' cannot be used for '<CONFIG>' and '<SCRIPT>'")]
+    InputTwice,
+    /// A required argument is missing.
+    #[error("an argument is missing")]
+    Missing,
+}
+
+/// The duration that the value of an option gives in seconds.
+pub fn parse_seconds<'a>(
+    option: &'static str,
+    text: &'a str,
+) -> Result<Duration, ArgumentError<'a>> {
+    match microseconds_of(text) {
+        Some(microseconds) => Ok(Duration::from_micros(microseconds)),
+        None => Err(ArgumentError::Seconds(option, text)),
+    }
+}
+
+/// The type that the value of an option names, if there is a value.
+pub fn parse_type<'a>(
+    option: &'static str,
+    name: Option<&'a str>,
+) -> Result<Option<ValueType>, ArgumentError<'a>> {
+    let Some(name) = name else {
+        return Ok(None);
+    };
+    match ValueType::from_name(name) {
+        Some(value_type) => Ok(Some(value_type)),
+        None => Err(ArgumentError::Type(option, name)),
+    }
+}
+
+/// The greatest column of a line, from 0.
+const LAST_COLUMN: usize = 78;
+
+/// What an argument can be: a number from 0, or a name of two tables.
+#[derive(Clone, Copy, Debug)]
+pub struct Choices {
+    pub most: u64,
+    pub names: &'static [Name],
+    pub more_names: &'static [Name],
+}
+
+impl fmt::Display for Choices {
+    fn fmt<W: fmt::Write>(&self, f: &mut fmt::Formatter<W>) -> fmt::Result {
+        write!(
+            f,
+            "a number from 0 to {}, decimal or 0x and hexadecimal digits",
+            self.most
+        )?;
+        if !self.names.is_empty() || !self.more_names.is_empty() {
+            f.write_str(",\n  or a name:")?;
+        }
+        let column = write_names(f, self.names, "  or a name:".len())?;
+        write_names(f, self.more_names, column)?;
+        Ok(())
+    }
+}
+
+/// Writes names with a space before each, on lines that end before the last column. `column` is that of the first one.
+/// Returns the column after the last.
+fn write_names<W: fmt::Write>(
+    f: &mut fmt::Formatter<W>,
+    names: &[Name],
+    column: usize,
+) -> Result<usize, fmt::Error> {
+    let mut column = column;
+    for row in names {
+        let next = column.saturating_add(row.0.len()).saturating_add(1);
+        if next > LAST_COLUMN {
+            write!(f, "\n   {}", row.0)?;
+            column = row.0.len().saturating_add(3);
+        } else {
+            write!(f, " {}", row.0)?;
+            column = next;
+        }
+    }
+    Ok(column)
+}
+
+/// The exit status if the arguments are refused.
+pub const ARGUMENTS_REFUSED: u8 = 2;
+
+/// Prints why an argument is refused. Returns the exit status.
+pub fn print_argument_error(rt: &HostRuntime, error: ArgumentError<'_>) -> u8 {
+    let _ = eprintln!(rt; "error: {error}\n\nFor more information, try '--help'.");
+    ARGUMENTS_REFUSED
+}

@@ -1,0 +1,116 @@
+//! The faults of the program's commands, with their texts and exit statuses.
+
+ghost use Rattle.std.specs.Prelude.{◌≡◌};
+ghost use Rattle.enip_common.specs.Statuses.{exit_status};
+
+use enip_commands::{OnceRefusal, RequestFailure};
+use enip_config::ConfigurationRefusal;
+use enip_replay::ReplayFailure;
+use std::alloc::AllocError;
+use std::io;
+use thiserror::Error;
+
+/// Why a command ends early. The text is the last line on standard error.
+#[derive(Clone, Copy, Debug, PartialEq, Eq, Error)]
+pub enum Fault {
+    /// The configuration is refused.
+    #[error("configuration {}", .0.number())]
+    Configuration(ConfigurationRefusal),
+    /// The client of a replay could not open its connection, or the second session could not be registered.
+    #[error("setup")]
+    Setup,
+    /// A line of the input is refused, or a file, a stream or memory failed.
+    #[error("{0}")]
+    Run(enip_commands::ProgramFault),
+    /// An argument is not a value of the requested type.
+    #[error("value")]
+    Value,
+    /// A command that is executed once is not sent.
+    #[error("{0}")]
+    Once(OnceRefusal),
+    /// The file of `--keep` is refused.
+    #[error("state")]
+    State,
+    /// A line of a command file is refused: its number, from 1.
+    #[error("line {0}")]
+    CommandFile(u64),
+    /// A client's request got no reply.
+    #[error("{0}")]
+    Request(RequestFailure),
+}
+
+impl Fault {
+    /// The exit status of the program.
+    pub fn exit_status(self) -> u8
+        ensures { result ≡ exit_status self }
+    {
+        match self {
+            Fault::Value => 2,
+            Fault::Once(refusal) => refusal.exit_status(),
+            Fault::Configuration(_) | Fault::State => 3,
+            Fault::Setup => ReplayFailure::Setup.exit_status(),
+            Fault::CommandFile(_) => 4,
+            Fault::Run(fault) => fault.exit_status(),
+            Fault::Request(failure) => failure.exit_status(),
+        }
+    }
+}
+
+impl From<enip_commands::ProgramFault> for Fault {
+    ghost use Rattle.enip_common.specs.declared.fault.Fault.TheVariants.{Run};
+
+    ghost from_gives = { λ ended fault. fault ≡ Run ended };
+
+    fn from(fault: enip_commands::ProgramFault) -> Fault {
+        Fault::Run(fault)
+    }
+}
+
+impl From<AllocError> for Fault {
+    ghost use Rattle.enip_commands.specs.declared.fault.ProgramFault.TheVariants.{Memory};
+    ghost use Rattle.enip_common.specs.declared.fault.Fault.TheVariants.{Run};
+
+    ghost from_gives = { λ _ fault. fault ≡ Run Memory };
+
+    fn from(_error: AllocError) -> Fault {
+        Fault::Run(enip_commands::ProgramFault::Memory)
+    }
+}
+
+impl From<io::Error> for Fault {
+    ghost use Rattle.std.specs.IoError.{error_kind};
+    ghost use Rattle.enip_commands.specs.Statuses.{fault_of_kind};
+    ghost use Rattle.enip_common.specs.declared.fault.Fault.TheVariants.{Run};
+
+    ghost from_gives = { λ error fault. fault ≡ Run (fault_of_kind (error_kind error)) };
+
+    fn from(error: io::Error) -> Fault {
+        Fault::Run(enip_commands::ProgramFault::from(error))
+    }
+}
+
+impl From<enip_config::LoadFault> for Fault {
+    ghost use Rattle.enip_common.specs.Statuses.{fault_of_configuration};
+
+    ghost from_gives = { λ refused fault. fault ≡ fault_of_configuration refused };
+
+    fn from(fault: enip_config::LoadFault) -> Fault {
+        match fault {
+            enip_config::LoadFault::Refused(refusal) => Fault::Configuration(refusal),
+            enip_config::LoadFault::Memory => Fault::Run(enip_commands::ProgramFault::Memory),
+        }
+    }
+}
+
+impl From<ReplayFailure> for Fault {
+    ghost use Rattle.enip_common.specs.Statuses.{fault_of_replay};
+
+    ghost from_gives = { λ failure fault. fault ≡ fault_of_replay failure };
+
+    fn from(failure: ReplayFailure) -> Fault {
+        match failure {
+            ReplayFailure::Setup => Fault::Setup,
+            ReplayFailure::Program(fault) => Fault::Run(fault),
+        }
+    }
+}

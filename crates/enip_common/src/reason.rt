@@ -1,0 +1,331 @@
+//! Why a command fails, as text for people. It comes before the line that goes with the exit status.
+
+use crate::fault::Fault;
+use crate::owner::OwnerNeed;
+use cip_bytes::StatusText;
+use cip_route::RouteFailure;
+use cip_values::{ValueFault, ValueType};
+use enip_client::ClientFault;
+use enip_commands::{
+    CommandFileFault, Digits, LedgerRefusal, LineFault, ProgramFault, RequestFailure,
+};
+use enip_config::Explanation;
+use kept_adapter::EntryName;
+use std::alloc::{AllocError, Global};
+use std::fmt;
+use std::io::{self, ErrorKind};
+use thiserror::Error;
+
+/// Why a command fails, or why a device refused a request. The first field names the file, stream or address, if any.
+#[derive(Debug, Drop, Error)]
+pub enum Reason<'a> {
+    /// The system reports an error of a file, a stream or an address.
+    #[error("{0}: {1}")]
+    System(&'a str, SystemError),
+    /// A file, a stream or an address failed, and the system did not say why.
+    #[error("{0}: failed")]
+    Failed(&'a str),
+    /// The argument is not an address.
+    #[error("{0}: not an address (expected HOST or HOST:PORT)")]
+    NotAnAddress(&'a str),
+    /// The name has no address.
+    #[error("{0}: no such host")]
+    NoHost(&'a str),
+    /// The device at the address did not answer within so many seconds.
+    #[error("{0}: no answer within {1} s")]
+    TimedOut(&'a str, &'a str),
+    /// The device at the address did not answer before the deadline of so many seconds.
+    #[error("{0}: not done within {1} s (--deadline)")]
+    DeadlineOver(&'a str, &'a str),
+    /// The device at the address closed the connection.
+    #[error("{0}: the device closed the connection before it replied")]
+    Disconnected(&'a str),
+    /// The command refuses a configuration.
+    #[error("{0}: {1}")]
+    Configuration(&'a str, ConfigurationReason),
+    /// A line of an input is refused.
+    #[error("{0}, line {1}: {2}")]
+    Line(&'a str, u64, LineFault),
+    /// The argument is not hexadecimal.
+    #[error("{0}: not hexadecimal (two digits per byte)")]
+    Hex(&'a str),
+    /// The argument is not a value of the requested type.
+    #[error("{0}")]
+    Value(ValueFault<'a>),
+    /// The data of the reply are not values of the requested type.
+    #[error("the data are not of type {0}: {1}")]
+    Shape(ValueType, ValueFault<'static>),
+    /// The device refused the session with this encapsulation status.
+    #[error("the device refused the session (encapsulation status {0:#06x})")]
+    Session(u32),
+    /// The device refused the request with this encapsulation status.
+    #[error("the device refused the request (encapsulation status {0:#06x})")]
+    Encapsulation(u32),
+    /// The header of a frame from the device has too great a length.
+    #[error("the device sent a frame that is too long")]
+    TooLong,
+    /// The reply is not the reply to the request.
+    #[error("the device sent a malformed reply")]
+    Malformed,
+    /// The request is too long.
+    #[error("the request is too long")]
+    Request,
+    /// The client could not send the request.
+    #[error("the request is not possible")]
+    State,
+    /// The device refused the request with this general status.
+    #[error("{0}")]
+    Refused(StatusText),
+    /// A router on the route did not pass the request on.
+    #[error("{0}")]
+    Route(RouteFailure),
+    /// The device refused the connection, since it has one with these serial numbers.
+    #[error("{0} (see --connection-serial)")]
+    SerialInUse(StatusText),
+    /// A line of a command file is refused.
+    #[error("{0}, line {1}: {2}")]
+    CommandFile(&'a str, u64, CommandFileFault),
+    /// Another process uses the command file.
+    #[error("{0}: another process uses it")]
+    InUse(&'a str),
+    /// The command file has no pending command.
+    #[error("{0}: no command is pending")]
+    NonePending(&'a str),
+    /// The command file has this pending command, and the arguments have that one.
+    #[error("{0}: another command is pending: {1}, not {2} (see --pending and --abandon)")]
+    OtherPending(&'a str, OwnedDigits, OwnedDigits),
+    /// The pending command of the command file was for another life of the device.
+    #[error("{0}: the device has restarted, and may have executed the pending command {1} before (see --abandon)")]
+    OtherLife(&'a str, OwnedDigits),
+    /// The pending command of the command file was given up.
+    #[error("{0}: gave up the command {1}, which is executed at most once")]
+    GivenUp(&'a str, OwnedDigits),
+    /// The device has no command ledger: it refused with this general status.
+    #[error("{0}: the device has no command ledger ({1})")]
+    NoLedger(&'a str, StatusText),
+    /// The ledger of the device refused the command.
+    #[error("{0}: {1}")]
+    Ledger(&'a str, LedgerRefusal),
+    /// The device has taken the command, and has not executed it yet.
+    #[error("{0}: the device has not executed the command yet")]
+    StillPending(&'a str),
+    /// The device does not know whether it executed the command.
+    #[error("{0}: the device does not know whether it executed the command, and its owner has to settle that")]
+    InDoubt(&'a str),
+    /// The name of the file is no text.
+    #[error("{0}: the name is not UTF-8")]
+    NotText(&'a str),
+    /// The file is no state, or is damaged.
+    #[error("{0}: not the state of a device, or damaged")]
+    NotAState(&'a str),
+    /// The state is that of another device.
+    #[error("{0}: the state of another device (vendor, product code or serial number)")]
+    OtherDevice(&'a str),
+    /// The state lacks so many of the rounds that `FILE.round` counts.
+    #[error("{0}: older than {0}.round says, by {1} rounds (see --accept-older)")]
+    Older(&'a str, u64),
+    /// `FILE.round` is missing or damaged.
+    #[error("{0}: {0}.round is missing or damaged, so the state may be older than it was (see --accept-older)")]
+    NoLastRound(&'a str),
+    /// A kept value is not used, because the configuration does not describe it.
+    #[error("{0}: {1} is not used: the configuration has none, or one of another size")]
+    NotUsed(&'a str, EntryName),
+    /// A part of the command ledger is not used.
+    #[error("{0}: the command ledger starts empty, in a new life")]
+    NewLife(&'a str),
+    /// What has changed could not be kept.
+    #[error("{0}: could not be written, so the last requests were not answered")]
+    NotKept(&'a str),
+    /// Memory was refused.
+    #[error("out of memory")]
+    Memory,
+}
+
+/// Why a command refuses a configuration.
+#[derive(Debug, Drop, Error)]
+pub enum ConfigurationReason {
+    /// A check of the configuration fails.
+    #[error("{0}")]
+    Check(Explanation),
+    /// It is longer than any device needs.
+    #[error("over 1 MiB")]
+    TooLong,
+    /// It has too few slots, handles or connection IDs for a replay.
+    #[error("no capacity for two sessions and a connection")]
+    NoCapacity,
+    /// Its device needs an owner, and has none.
+    #[error("{0}")]
+    NoOwner(OwnerNeed),
+}
+
+/// What became of a command that is executed once, if the program fails. It ends the line of the reason.
+#[derive(Clone, Copy, Debug, Error)]
+pub enum Note {
+    /// Nothing was sent.
+    #[error("the command was not sent")]
+    NotSent,
+    /// The command was sent, now or earlier, and the device has not replied.
+    #[error("the command may have been executed, and the same line sends it again")]
+    MaybeExecuted,
+    /// The same, for a line that would give up the command if it were run again.
+    #[error("the command may have been executed, and the same line without --abandon sends it again")]
+    MaybeExecutedNew,
+    /// The ledger refused the command.
+    #[error("the command was not executed, and is still pending")]
+    NotExecuted,
+    /// The ledger refused the command, and it may have executed it before.
+    #[error("the command may have been executed, and is still pending")]
+    StillPending,
+    /// The request was sent once or more, and no reply came.
+    #[error("the request may have been executed (see --once)")]
+    NoReply,
+    /// The device has replied, and its reply could not be printed, or the command could not be settled.
+    #[error("the command was executed, and `--pending` prints its reply again")]
+    Executed,
+}
+
+/// Bytes in hexadecimal, for a message.
+#[derive(Debug, Drop)]
+pub struct OwnedDigits(Vec<u8>);
+
+impl OwnedDigits {
+    pub fn new(alloc: Global, bytes: &[u8]) -> Result<OwnedDigits, AllocError> {
+        let mut owned = Vec::new(alloc);
+        owned.extend_from_slice(bytes)?;
+        Ok(OwnedDigits(owned))
+    }
+}
+
+impl fmt::Display for OwnedDigits {
+    fn fmt<W: fmt::Write>(&self, f: &mut fmt::Formatter<W>) -> fmt::Result {
+        fmt::Display::fmt(&Digits(self.0.as_slice()), f)
+    }
+}
+
+/// An error of the system, as text.
+#[derive(Clone, Copy, Debug)]
+pub struct SystemError(pub io::Error);
+
+impl fmt::Display for SystemError {
+    fn fmt<W: fmt::Write>(&self, f: &mut fmt::Formatter<W>) -> fmt::Result {
+        let kind = self.0.kind();
+        match kind {
+            ErrorKind::NotFound => f.write_str("no such file"),
+            ErrorKind::IsADirectory => f.write_str("is a directory"),
+            ErrorKind::NotADirectory => {
+                f.write_str("no such file: a part of the path is not a directory")
+            }
+            ErrorKind::StorageFull => f.write_str("no space left"),
+            ErrorKind::BrokenPipe => f.write_str("the other end is closed"),
+            ErrorKind::AddrInUse => f.write_str("the address is in use by another program"),
+            ErrorKind::AddrNotAvailable => f.write_str("not an address of this machine"),
+            ErrorKind::HostUnreachable => f.write_str("no route to this host"),
+            ErrorKind::NetworkUnreachable => f.write_str("no route to this network"),
+            ErrorKind::TimedOut => f.write_str("no answer"),
+            _ if self.0.raw_os_error() == Some(libc::EBADF) => f.write_str("is not open"),
+            _ => write!(f, "{kind}"),
+        }
+    }
+}
+
+impl Reason<'_> {
+    /// The reason of a refusal: what these statuses mean. A router reports by them why it did not pass a request on.
+    pub fn of_refusal(status: u8, extended: u16) -> Self {
+        match RouteFailure::of(status, extended) {
+            // a device refuses a connection by the same status, and the text is of its path
+            Some(RouteFailure::Segment) | None => Reason::Refused(StatusText { status, extended }),
+            Some(failure) => Reason::Route(failure),
+        }
+    }
+}
+
+/// The name of the clock in a reason.
+pub const CLOCK: &str = "the clock";
+
+/// The error of a command: the fault, with its exit status and its line for scripts, and the reason for people.
+#[derive(Drop)]
+pub struct CommandError<'a> {
+    fault: Fault,
+    reason: Reason<'a>,
+    note: Option<Note>,
+}
+
+impl<'a> CommandError<'a> {
+    pub fn new(fault: Fault, reason: Reason<'a>) -> CommandError<'a> {
+        CommandError {
+            fault,
+            reason,
+            note: None,
+        }
+    }
+
+    /// The same error, with what became of the command.
+    pub fn with_note(self, note: Note) -> CommandError<'a> {
+        CommandError {
+            note: Some(note),
+            ..self
+        }
+    }
+
+    /// Whether the same exchange with the device may succeed later: there was no reply, or no session or connection.
+    pub fn may_pass(&self) -> bool {
+        matches!(
+            self.fault,
+            Fault::Run(ProgramFault::Device)
+                | Fault::Request(
+                    RequestFailure::Program(ProgramFault::Device)
+                        | RequestFailure::Session(_)
+                        | RequestFailure::Client(ClientFault::Refused(..))
+                )
+        )
+    }
+
+    /// The system reports an error of a file, a stream or an address of this name.
+    pub fn of_system(name: &'a str, error: io::Error) -> CommandError<'a> {
+        let reason = match error.kind() {
+            ErrorKind::OutOfMemory => Reason::Memory,
+            _ => Reason::System(name, SystemError(error)),
+        };
+        CommandError::new(Fault::from(error), reason)
+    }
+
+    /// A file, a stream or a device failed for this reason.
+    pub fn of_reason(reason: Reason<'a>) -> CommandError<'a> {
+        CommandError::new(Fault::Run(enip_commands::ProgramFault::Device), reason)
+    }
+
+    /// Memory was refused.
+    pub fn of_memory() -> CommandError<'a> {
+        CommandError::new(
+            Fault::Run(enip_commands::ProgramFault::Memory),
+            Reason::Memory,
+        )
+    }
+
+    pub fn into_reason(self) -> Reason<'a> {
+        self.reason
+    }
+
+    /// Prints both lines on standard error. Returns the exit status.
+    pub fn print<E: Eprint>(self, rt: &E) -> u8 {
+        match self.note {
+            Some(note) => {
+                let _ = eprintln!(rt; "enip: {}; {note}", self.reason);
+            }
+            None => print_reason(rt, &self.reason),
+        }
+        let _ = eprintln!(rt; "{}", self.fault);
+        self.fault.exit_status()
+    }
+}
+
+impl From<std::alloc::AllocError> for CommandError<'_> {
+    fn from(_error: std::alloc::AllocError) -> Self {
+        CommandError::of_memory()
+    }
+}
+
+/// Prints a reason on standard error.
+pub fn print_reason<E: Eprint>(rt: &E, reason: &Reason<'_>) {
+    let _ = eprintln!(rt; "enip: {reason}");
+}

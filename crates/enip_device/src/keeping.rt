@@ -1,0 +1,90 @@
+//! A device whose state is kept: no answer leaves before what it reports is kept.
+
+ghost use Rattle.std.specs.Prelude.{◌≡◌};
+ghost use Rattle.enip_keep.specs.Server.{IsReady};
+ghost use Rattle.kept_server.specs.Rounds.{kept_of};
+
+use crate::serving::Serving;
+use arrayvec::ArrayVec;
+use enip_adapter::DiscoveryBuffer;
+use enip_devicer::{RoundEnd, Wire};
+use enip_keep::{Device, KeepError, Keeper, Server};
+use kept_server::{KeptDevice, KeptPeers, MOST_READY, ReadyWire, RoundInput};
+
+/// The peers of a device whose state is kept, and what the next round gets.
+#[derive(Drop)]
+pub(crate) struct Keeping<W: Wire + Drop, C: KeptDevice, K: Keeper + Drop> {
+    server: Server<KeptPeers<W, C>, K>,
+    /// A connection that was accepted, for the first free slot.
+    accepted: Option<W>,
+    /// The wires that may be ready.
+    ready: ArrayVec<ReadyWire, MOST_READY>,
+}
+
+impl<W: Wire + Drop, C: KeptDevice, K: Keeper + Drop> Keeping<W, C, K> {
+    /// Serves with this server.
+    pub(crate) fn new(server: Server<KeptPeers<W, C>, K>) -> Keeping<W, C, K>
+        ensures { result.server ≡ server }
+    {
+        Keeping {
+            server,
+            accepted: None,
+            ready: ArrayVec::new(),
+        }
+    }
+
+    /// What the next round gets.
+    fn input(&mut self, now: u64) -> RoundInput<W>
+        ensures { self.new.server ≡ self.old.server }
+    {
+        let accepted = self.accepted.take();
+        let mut ready = ArrayVec::new();
+        std::mem::swap(&mut self.ready, &mut ready);
+        RoundInput {
+            now,
+            accepted,
+            ready,
+        }
+    }
+}
+
+impl<W: Wire + Drop, C: KeptDevice, K: Keeper + Drop> Serving<W> for Keeping<W, C, K> {
+    ghost is_ready = { λ k. IsReady K.doubt K.is_up K.kept ⟦<KeptPeers<W, C> as Device>⟧.contents
+        ⟦<KeptPeers<W, C> as Device>⟧.known_kept kept_of k.server };
+
+    fn first_free(&self) -> Option<usize> {
+        self.server.device().peers().first_free()
+    }
+
+    fn add(&mut self, _now: u64, wire: W) -> bool {
+        self.accepted = Some(wire);
+        true
+    }
+
+    fn mark_ready(&mut self, slot: usize, ends: bool) {
+        let _ = self.ready.try_push(ReadyWire { slot, ends });
+    }
+
+    fn round(&mut self, now: u64) -> Result<RoundEnd, KeepError> {
+        let input = self.input(now);
+        let slot = match &input.accepted {
+            Some(_) => self.first_free(),
+            None => None,
+        };
+        self.server.round(input)?;
+        let mut end = self.server.device().last_round();
+        // no session handle was left for the connection
+        if slot.is_some() && end.ended == 0 && self.first_free() == slot {
+            end.ended = 1;
+        }
+        Ok(end)
+    }
+
+    fn next_moment(&self) -> Option<u64> {
+        self.server.device().peers().next_moment()
+    }
+
+    fn discover<'b>(&self, datagram: &[u8], answer: &'b mut DiscoveryBuffer) -> Option<&'b [u8]> {
+        self.server.device().peers().discover(datagram, answer)
+    }
+}

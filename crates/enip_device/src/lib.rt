@@ -1,0 +1,26 @@
+//! `enip serve`: a device on sockets.
+//!
+//! [`run_serve`] reads the arguments, opens the sockets, and serves until an error or the last connection. The loop of
+//! rounds is in `serve`, over a [`Serving`](serving::Serving) that either keeps its state in a file or doesn't. What a
+//! round does is proved in `enip_devicer` and `enip_keep`; here are the sockets, the log, and when each socket is tried.
+#![tactic(auto)]
+
+mod acceptor;
+mod discovery;
+mod file_identity;
+mod frame_log;
+mod frame_summary;
+mod keeping;
+mod kept_file;
+mod kept_values;
+mod log_event;
+mod logged_wire;
+mod observer;
+mod readiness;
+mod reported_address;
+mod serve;
+mod serve_command;
+mod serving;
+mod wire;
+
+pub use serve_command::{print_kept_values, run_serve};

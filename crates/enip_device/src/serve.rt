@@ -1,0 +1,353 @@
+//! `enip serve`: serves a device on TCP and UDP sockets.
+//!
+//! A loop of rounds. In each the system reports which sockets may be ready. Then one datagram is answered, each peer that
+//! may be ready has one turn, and one connection is accepted. All of a round has the same time, in microseconds since
+//! the start.
+
+ghost use Rattle.std.specs.Prelude.{◌≡◌, ◌≤◌, ◌<◌, ◌⊎◌, ◌↔◌, Some, IfSome, IsSomeAnd, IsTrue, IfOk};
+
+use crate::acceptor::Acceptor;
+use crate::discovery::Discovery;
+use crate::observer::Observer;
+use crate::serving::{ServeFault, Serving};
+use enip_devicer::RoundEnd;
+use mio::net::{TcpListener, TcpStream, UdpSocket};
+use mio::{Events, Interest, Poll, Token};
+use std::alloc::Global;
+use std::io;
+use std::net::Net;
+use std::rt::Clock;
+use std::time::{Duration, Instant};
+
+/// The tokens of the listener and of the UDP socket. A peer's token is its slot, which is less.
+const LISTENER: usize = 64;
+
+const DATAGRAMS: usize = 65;
+
+/// How many events the system reports at once.
+const EVENT_CAPACITY: usize = 32;
+
+/// For how many rounds a connection is deferred while all slots are taken and a peer may be about to end.
+const MAX_ROUNDS_DEFERRED: u32 = 16;
+
+/// The nonblocking sockets of a device.
+#[derive(Drop)]
+pub(crate) struct Sockets {
+    /// Receives connections.
+    pub(crate) listener: TcpListener,
+    /// Receives datagrams, with --discovery.
+    pub(crate) datagrams: Option<UdpSocket>,
+}
+
+/// Serves `count` connections, until they have come and gone. A connection that fails ends only itself.
+pub(crate) fn serve_connections<R: Clock + Net, O: Observer + Drop, S: Serving<O::Wire> + Drop>(
+    rt: &R,
+    alloc: Global,
+    sockets: Sockets,
+    serving: S,
+    count: u64,
+    observer: O,
+) -> Result<(), ServeFault>
+    requires { S.is_ready serving }
+{
+    let mut server = Server::new(rt, alloc, serving, count, observer)?;
+    server.run(rt, alloc, sockets)
+}
+
+/// The microseconds since `start`.
+fn microseconds_since<C: Clock>(clock: &C, start: Instant) -> io::Result<u64> {
+    let elapsed = start.elapsed(clock)?;
+    Ok(u64::try_from(elapsed.as_micros()).unwrap_or(u64::MAX))
+}
+
+/// The earlier of two times, either of which may be missing.
+fn earlier(first: Option<u64>, second: Option<u64>) -> Option<u64>
+    ensures first { IfSome first (λ time. IsSomeAnd result (λ t. t ≤ time)) }
+    ensures second { IfSome second (λ time. IsSomeAnd result (λ t. t ≤ time)) }
+    ensures either { IfSome result (λ t. (first ≡ Some t) ⊎ (second ≡ Some t)) }
+{
+    match (first, second) {
+        (Some(first), Some(second)) => Some(first.min(second)),
+        (Some(time), None) | (None, Some(time)) => Some(time),
+        (None, None) => None,
+    }
+}
+
+/// The clock and the poll of a server.
+#[derive(Drop)]
+struct System {
+    start: Instant,
+    /// Reports which sockets may be ready.
+    poll: Poll,
+    /// What was reported last.
+    events: Events,
+}
+
+impl System {
+    /// A poll without sockets.
+    fn new<R: Clock + Net>(rt: &R, alloc: Global) -> io::Result<System> {
+        let start = Instant::now(rt)?;
+        let poll = Poll::new(rt)?;
+        let events = Events::with_capacity(alloc, EVENT_CAPACITY)?;
+        Ok(System {
+            start,
+            poll,
+            events,
+        })
+    }
+}
+
+/// The peers and the sockets of a served device.
+#[derive(Drop)]
+struct Server<O: Observer + Drop, S: Serving<O::Wire> + Drop> {
+    system: System,
+    /// `None` before the sockets are open, and once all connections were accepted.
+    acceptor: Option<Acceptor>,
+    discovery: Option<Discovery>,
+    peers: S,
+    observer: O,
+    /// The end of the last round. `ready` is set if a peer was added since.
+    last_round: RoundEnd,
+    /// How many connections to accept.
+    count: u64,
+    /// How many were accepted.
+    accepted: u64,
+    /// How many of these have ended.
+    ended: u64,
+    /// For how many rounds the next connection has been deferred.
+    rounds_deferred: u32,
+}
+
+impl<O: Observer + Drop, S: Serving<O::Wire> + Drop> Server<O, S> {
+    /// A server without sockets and peers.
+    fn new<R: Clock + Net>(
+        rt: &R,
+        alloc: Global,
+        peers: S,
+        count: u64,
+        observer: O,
+    ) -> io::Result<Server<O, S>>
+        ensures { IfOk result (λ s. s.peers ≡ peers) }
+    {
+        let system = System::new(rt, alloc)?;
+        let last_round = RoundEnd {
+            ended: 0,
+            ready: false,
+            next: peers.next_moment(),
+        };
+        Ok(Server {
+            system,
+            acceptor: None,
+            discovery: None,
+            peers,
+            observer,
+            last_round,
+            count,
+            accepted: 0,
+            ended: 0,
+            rounds_deferred: 0,
+        })
+    }
+
+    /// Takes over the sockets. The system reports them from now on.
+    fn open(&mut self, alloc: Global, sockets: Sockets) -> io::Result<()>
+        ensures { self.new.peers ≡ self.old.peers }
+    {
+        let Sockets {
+            listener,
+            datagrams,
+        } = sockets;
+        self.listen(listener)?;
+        match datagrams {
+            Some(socket) => self.answer_datagrams(alloc, socket),
+            None => Ok(()),
+        }
+    }
+
+    /// Accepts connections from a listener.
+    fn listen(&mut self, mut listener: TcpListener) -> io::Result<()>
+        ensures { self.new.peers ≡ self.old.peers }
+    {
+        let registry = self.system.poll.registry();
+        registry.register(&mut listener, Token(LISTENER), Interest::READABLE)?;
+        self.acceptor = Some(Acceptor::new(listener));
+        Ok(())
+    }
+
+    /// Answers datagrams from a socket.
+    fn answer_datagrams(&mut self, alloc: Global, mut socket: UdpSocket) -> io::Result<()>
+        ensures { self.new.peers ≡ self.old.peers }
+    {
+        let registry = self.system.poll.registry();
+        registry.register(&mut socket, Token(DATAGRAMS), Interest::READABLE)?;
+        self.discovery = Some(Discovery::new(alloc, socket)?);
+        Ok(())
+    }
+
+    /// Takes over the sockets, and serves them until all connections have come and gone.
+    fn run<C: Clock>(
+        &mut self,
+        clock: &C,
+        alloc: Global,
+        sockets: Sockets,
+    ) -> Result<(), ServeFault>
+        requires { S.is_ready self.old.peers }
+    {
+        self.open(alloc, sockets)?;
+        let mut now = 0;
+        for _ in 0..u64::MAX {
+            if self.is_done() {
+                break;
+            }
+            self.wait(now)?;
+            now = microseconds_since(clock, self.system.start)?;
+            self.round(now)?;
+        }
+        Ok(())
+    }
+
+    /// Whether all connections have come and gone.
+    fn is_done(&self) -> bool
+        ensures { IsTrue result ↔ (self.now.count ≤ self.now.ended) }
+    {
+        self.ended >= self.count
+    }
+
+    /// Waits until a socket may be ready or a time limit is reached. `now` is the time of the last round.
+    fn wait(&mut self, now: u64) -> io::Result<()>
+        requires ready { S.is_ready self.old.peers }
+        ensures ready { S.is_ready self.new.peers }
+    {
+        let timeout = self.timeout(now);
+        self.system.poll.poll(&mut self.system.events, timeout)?;
+        for event in &self.system.events {
+            match event.token().0 {
+                LISTENER => {
+                    if let Some(acceptor) = &mut self.acceptor {
+                        acceptor.on_readable();
+                    }
+                }
+                DATAGRAMS => {
+                    if let Some(discovery) = &mut self.discovery {
+                        discovery.on_readable();
+                    }
+                }
+                slot => {
+                    let ends = event.is_read_closed() || event.is_error();
+                    self.peers.mark_ready(slot, ends);
+                }
+            }
+        }
+        Ok(())
+    }
+
+    /// How long the next wait may take. `None` is no limit.
+    fn timeout(&self, now: u64) -> Option<Duration> {
+        if self.last_round.ready {
+            return Some(Duration::ZERO);
+        }
+        let mut next = earlier(self.last_round.next, self.observer.next_report());
+        if let Some(acceptor) = &self.acceptor {
+            next = earlier(next, acceptor.readiness().next_try());
+        }
+        if let Some(discovery) = &self.discovery {
+            next = earlier(next, discovery.readiness().next_try());
+        }
+        match next {
+            Some(time) => Some(Duration::from_micros(time.saturating_sub(now))),
+            None => None,
+        }
+    }
+
+    /// One round: answers a datagram, gives each peer that may be ready a turn, and accepts a connection.
+    fn round(&mut self, now: u64) -> Result<(), ServeFault>
+        requires ready { S.is_ready self.old.peers }
+        ensures ready { S.is_ready self.new.peers }
+    {
+        if let Some(discovery) = &mut self.discovery {
+            discovery.answer_one(&self.peers, &self.observer, now);
+        }
+        self.last_round = self.peers.round(now).map_err(ServeFault::Keep)?;
+        if self.last_round.ended > 0 {
+            self.ended = self.ended.saturating_add(self.last_round.ended as u64);
+            if let Some(acceptor) = &mut self.acceptor {
+                acceptor.on_descriptor_freed();
+            }
+        }
+        self.accept_one(now);
+        self.observer.report(now);
+        Ok(())
+    }
+
+    /// Accepts the next connection, if there is one. If it cannot become a peer it is closed at once.
+    fn accept_one(&mut self, now: u64)
+        requires ready { S.is_ready self.old.peers }
+        ensures ready { S.is_ready self.new.peers }
+    {
+        let is_due = matches!(&self.acceptor, Some(acceptor) if acceptor.readiness().is_due(now));
+        if !is_due || self.is_deferred() {
+            return;
+        }
+        let Some(acceptor) = &mut self.acceptor else {
+            return;
+        };
+        let Some(stream) = acceptor.accept(now) else {
+            return;
+        };
+        self.accepted = self.accepted.saturating_add(1);
+        if self.accepted >= self.count {
+            self.acceptor = None;
+        }
+        if !self.add_peer(now, stream) {
+            self.ended = self.ended.saturating_add(1);
+        }
+    }
+
+    /// Whether the next connection is deferred to the next round: all slots are taken, but a peer may be about to end. If
+    /// no peer is ready, the system may still have something to report, so the first deferral needs no ready peer.
+    fn is_deferred(&mut self) -> bool
+        ensures counted { IsTrue result → self.old.rounds_deferred < self.new.rounds_deferred }
+        ensures limit { IsTrue result → self.new.rounds_deferred ≤ 16 }
+        ensures same { self.new.peers ≡ self.old.peers }
+    {
+        let may_have_ended = self.last_round.ready || self.rounds_deferred == 0;
+        if may_have_ended
+            && self.rounds_deferred < MAX_ROUNDS_DEFERRED
+            && self.peers.first_free().is_none()
+        {
+            self.rounds_deferred += 1;
+            return true;
+        }
+        self.rounds_deferred = 0;
+        false
+    }
+
+    /// Makes a connection a peer in the first free slot. Returns whether there is a slot and a session handle for it.
+    fn add_peer(&mut self, now: u64, stream: TcpStream) -> bool
+        requires ready { S.is_ready self.old.peers }
+        ensures ready { S.is_ready self.new.peers }
+    {
+        let mut stream = stream;
+        let Some(slot) = self.peers.first_free() else {
+            self.observer.turned_away(now, stream);
+            return false;
+        };
+        let interests = Interest::READABLE | Interest::WRITABLE;
+        let registered = self
+            .system
+            .poll
+            .registry()
+            .register(&mut stream, Token(slot), interests);
+        if registered.is_err() {
+            return false;
+        }
+        let Some(wire) = self.observer.wire(stream) else {
+            return false;
+        };
+        if !self.peers.add(now, wire) {
+            return false;
+        }
+        self.last_round.ready = true;
+        true
+    }
+}

@@ -1,0 +1,397 @@
+//! `enip serve`: the device that the arguments describe, its sockets, and what observes it.
+
+ghost use Rattle.std.specs.Prelude.{◌≡◌, ◌<◌, ◌≤◌, ◌*◌, ◌-◌, ◌^◌, IfSome, IfOk, IsTrue};
+
+use crate::frame_log::FrameLog;
+use crate::keeping::Keeping;
+use crate::kept_file::{KeptFile, OpenFile};
+use crate::kept_values::KeptValues;
+use crate::log_event::{LogClock, LogStyle};
+use crate::observer::{Observer, TurnedAwayReport};
+use crate::reported_address::ReportedAddress;
+use crate::serve::{Sockets, serve_connections};
+use crate::serving::{ServeFault, Serving};
+use clap::ArgMatches;
+use enip_adapter::{Adapter, Limits, Listen};
+use enip_cli::OsArg;
+use enip_common::{
+    ArgumentError, CLOCK, CommandError, ERRORS, HostPort, NamedFile, NumberArgument, OUTPUT,
+    Reason, print_argument_error, u16_of,
+};
+use enip_config::Configuration;
+use enip_devicer::{NO_IDLE_TIMEOUT, Peers, Wire};
+use enip_keep::{KeepError, Keeper, Server};
+use kept_adapter::{AdapterStart, LedgerStart};
+use kept_server::KeptDevice;
+use mio::net::UdpSocket;
+use std::alloc::Global;
+use std::io;
+use std::net::TcpListener;
+use std::time::{Instant, UNIX_EPOCH};
+
+/// The microseconds of a second.
+const SECOND: u64 = 1_000_000;
+
+/// How a device is served.
+#[derive(Clone, Copy)]
+struct ServeOptions<'a> {
+    /// Where it listens.
+    address: &'a str,
+    /// Whether it answers datagrams.
+    discovery: bool,
+    /// After how many connections to return.
+    count: u64,
+    /// How long a peer may be silent, in microseconds.
+    idle_timeout: u64,
+    /// Where its state is kept.
+    keep: Option<KeptFile<'a>>,
+    /// Where discovery reports it.
+    reported: Option<ReportedAddress<'a>>,
+}
+
+impl<'a> ServeOptions<'a> {
+    /// The options in the arguments.
+    fn from_matches(matches: &ArgMatches<'a>) -> Result<ServeOptions<'a>, ArgumentError<'a>> {
+        let Some(seconds) = NumberArgument::IDLE.value(matches)? else {
+            return Err(ArgumentError::Missing);
+        };
+        let accepts_older = matches.get_flag("accept-older");
+        Ok(ServeOptions {
+            address: matches.get_str("ADDRESS").unwrap_or(""),
+            discovery: matches.get_flag("discovery"),
+            // Without --count there is no end: more connections than there can be.
+            count: NumberArgument::CONNECTIONS
+                .value(matches)?
+                .unwrap_or(u64::MAX),
+            idle_timeout: idle_timeout_of(u16_of(seconds)),
+            keep: match matches.get_str("keep") {
+                Some(name) => Some(KeptFile::new(name, accepts_older)),
+                None => None,
+            },
+            reported: None,
+        })
+    }
+
+    /// The same, with what a configuration has for discovery.
+    fn with_reported(self, config: &'a str, listen: Listen) -> ServeOptions<'a> {
+        ServeOptions {
+            reported: Some(ReportedAddress { config, listen }),
+            ..self
+        }
+    }
+}
+
+/// `enip serve`.
+pub fn run_serve<'a>(
+    rt: &HostRuntime,
+    args: &[OsArg],
+    matches: &ArgMatches<'a>,
+) -> Result<u8, CommandError<'a>> {
+    let options = match ServeOptions::from_matches(matches) {
+        Ok(options) => options,
+        Err(error) => return Ok(print_argument_error(rt, error)),
+    };
+    let config = NamedFile::read_config(rt, args, matches)?;
+    let style = match matches.get_str("log") {
+        None => {
+            let report = TurnedAwayReport::new(rt, rt.alloc());
+            return serve_config(rt, args, &config, options, report);
+        }
+        Some("json") => LogStyle::Json,
+        Some(_) => LogStyle::Text,
+    };
+    let start = Instant::now(rt).map_err(|error| CommandError::of_system(CLOCK, error))?;
+    let clock = match matches.get_str("log-time") {
+        Some("utc") => LogClock::Utc,
+        _ => LogClock::Start,
+    };
+    let log = FrameLog::new(rt, rt.alloc(), start, style, clock);
+    serve_config(rt, args, &config, options, &log)
+}
+
+/// Serves the device of a configuration.
+fn serve_config<'a, O: Observer + Drop>(
+    rt: &HostRuntime,
+    args: &[OsArg],
+    config: &NamedFile<'a>,
+    options: ServeOptions<'a>,
+    observer: O,
+) -> Result<u8, CommandError<'a>> {
+    let Some(file) = options.keep else {
+        let (adapter, listen) = adapter_to_serve(rt, config)?;
+        let peers = Peers::new(rt.alloc(), adapter, options.idle_timeout)?;
+        let options = options.with_reported(config.name(), listen);
+        return listen_and_serve(rt, options, peers, observer);
+    };
+    let start = adapter_start(rt, config, file.accepts_older(), options.idle_timeout)?;
+    let opened = file.open(rt, args)?;
+    let options = options.with_reported(config.name(), start.listen);
+    serve_kept(rt, file, opened, &start, options, observer)
+}
+
+/// Serves a device that goes on with what is kept in an open file.
+fn serve_kept<'a, O: Observer + Drop, K: Keeper + Drop>(
+    rt: &HostRuntime,
+    file: KeptFile<'a>,
+    opened: OpenFile<K>,
+    start: &AdapterStart,
+    options: ServeOptions<'a>,
+    observer: O,
+) -> Result<u8, CommandError<'a>>
+    requires { K.doubt opened.rows ≡ 0 → K.is_up opened.rows }
+{
+    let keeper = file.numbered(rt.alloc(), opened)?;
+    let (peers, values) = kept_peers(rt.alloc(), file, keeper, start)?;
+    values.report_unused(rt, file);
+    listen_and_serve(rt, options, peers, observer)
+}
+
+/// The peers of a device that starts from what is kept, and what is kept.
+fn kept_peers<'a, W: Wire + Drop, K: Keeper + Drop>(
+    alloc: Global,
+    file: KeptFile<'a>,
+    keeper: K,
+    start: &AdapterStart,
+) -> Result<(Keeping<W, AdapterStart, K>, KeptValues), CommandError<'a>>
+    requires { K.doubt keeper ≡ 0 → K.is_up keeper }
+    ensures { IfOk result (λ r. ⟦<Keeping<W, AdapterStart, K> as Serving<W>>⟧.is_ready r.0) }
+{
+    let (keeper, values) = KeptValues::read(alloc, file, keeper, start)?;
+    match Server::start(alloc, keeper, start) {
+        Ok(server) => Ok((Keeping::new(server), values)),
+        Err(error) => Err(file.refused(error)),
+    }
+}
+
+/// `enip check --keep`: prints what is kept in FILE of the device of a configuration.
+pub fn print_kept_values<'a>(
+    rt: &HostRuntime,
+    args: &[OsArg],
+    config: &NamedFile<'a>,
+    name: &'a str,
+) -> Result<(), CommandError<'a>> {
+    let file = KeptFile::to_read(name);
+    let start = adapter_start(rt, config, false, NO_IDLE_TIMEOUT)?;
+    let opened = file.open(rt, args)?;
+    let values = kept_values(rt.alloc(), file, opened, &start)?;
+    values
+        .print(rt.alloc(), rt.stdout())
+        .map_err(|error| CommandError::of_system(OUTPUT, error))
+}
+
+/// What is kept in an open file, if a device starts from it.
+fn kept_values<'a, K: Keeper + Drop>(
+    alloc: Global,
+    file: KeptFile<'a>,
+    opened: OpenFile<K>,
+    start: &AdapterStart,
+) -> Result<KeptValues, CommandError<'a>>
+    requires { K.doubt opened.rows ≡ 0 → K.is_up opened.rows }
+{
+    let keeper = file.numbered(alloc, opened)?;
+    let (_, values) = KeptValues::read(alloc, file, keeper, start)?;
+    match start.start(alloc, values.entries()) {
+        Ok(_) => Ok(values),
+        Err(error) => Err(file.refused(error)),
+    }
+}
+
+/// Binds the sockets of a device, and serves its peers.
+fn listen_and_serve<'a, O: Observer + Drop, S: Serving<O::Wire> + Drop>(
+    rt: &HostRuntime,
+    options: ServeOptions<'a>,
+    peers: S,
+    observer: O,
+) -> Result<u8, CommandError<'a>>
+    requires { S.is_ready peers }
+{
+    let address = HostPort::parse(options.address)?;
+    let sockets = bind(rt, address, options.discovery)?;
+    print_listening(rt, &sockets, options.reported, address.port()).map_err(
+        |error| CommandError::of_system(ERRORS, error),
+    )?;
+    match serve_connections(rt, rt.alloc(), sockets, peers, options.count, observer) {
+        Ok(()) => Ok(0),
+        Err(fault) => Err(serve_error(options, address, fault)),
+    }
+}
+
+/// The error of a device that is not served any longer.
+fn serve_error<'a>(
+    options: ServeOptions<'a>,
+    address: HostPort<'a>,
+    fault: ServeFault,
+) -> CommandError<'a> {
+    match (fault, options.keep) {
+        (ServeFault::Keep(error), Some(file)) => file.not_kept(error),
+        (ServeFault::Keep(KeepError::Memory), None) => CommandError::of_memory(),
+        (ServeFault::System(error), _) if error.kind() == io::ErrorKind::OutOfMemory => {
+            CommandError::of_memory()
+        }
+        _ => CommandError::of_reason(Reason::Failed(address.text())),
+    }
+}
+
+/// The adapter of a configuration whose device needs no owner, and where discovery reports it. A command ledger gets
+/// another life with each start, because it is empty then.
+fn adapter_to_serve<'a>(
+    rt: &HostRuntime,
+    config: &NamedFile<'a>,
+) -> Result<(Adapter, Listen), CommandError<'a>> {
+    let configuration = config.configuration_to_serve(rt.alloc())?;
+    let listen = Listen {
+        address: configuration.address,
+        port: configuration.port,
+    };
+    let adapter = match configuration.ledger {
+        None => config.adapter(rt.alloc())?,
+        Some(_) => config.adapter_in_life(rt.alloc(), life_now(rt)?)?,
+    };
+    Ok((adapter, listen))
+}
+
+/// What the adapter of a configuration is started from, whose device needs no owner and keeps its state. A ledger of
+/// which nothing is kept begins a life now.
+fn adapter_start<'a>(
+    rt: &HostRuntime,
+    config: &NamedFile<'a>,
+    begins_life: bool,
+    idle_timeout: u64,
+) -> Result<AdapterStart, CommandError<'a>> {
+    let configuration = config.configuration_to_serve(rt.alloc())?;
+    let life = life_now(rt)?;
+    match start_of(configuration, life, begins_life, idle_timeout) {
+        Some(start) => Ok(start),
+        None => Err(CommandError::of_reason(Reason::Failed(config.name()))),
+    }
+}
+
+/// What an adapter is started from. The entries that are kept of it are in the order of their keys, so its assemblies and
+/// its own objects are in the order of their numbers. `None` if the configuration was not accepted before.
+fn start_of(
+    configuration: Configuration,
+    life: u64,
+    begins_life: bool,
+    idle_timeout: u64,
+) -> Option<AdapterStart> {
+    let Configuration {
+        mut objects,
+        address,
+        port,
+        peers,
+        connections,
+        first_handle,
+        first_id,
+        ledger,
+        attribute_types: _,
+    } = configuration;
+    objects
+        .assemblies
+        .sort_unstable_by_key(|assembly| assembly.instance);
+    objects
+        .objects
+        .sort_unstable_by_key(|object| (object.class, object.instance));
+    let ledger = ledger.map(|ledger| LedgerStart {
+        originators: ledger.originators,
+        life,
+    });
+    let limits = Limits {
+        peers,
+        connections,
+        first_handle,
+        first_id,
+    };
+    if objects.fault().is_some() || !are_in_range(limits, ledger) {
+        return None;
+    }
+    Some(AdapterStart {
+        objects,
+        ledger,
+        begins_life,
+        listen: Listen { address, port },
+        limits,
+        idle_timeout,
+    })
+}
+
+/// Whether an adapter has these limits, and a ledger so many slots.
+fn are_in_range(limits: Limits, ledger: Option<LedgerStart>) -> bool
+    ensures peers { IsTrue result → (1 ≤ limits.peers) × (limits.peers ≤ 16) }
+    ensures connections { IsTrue result → (1 ≤ limits.connections) × (limits.connections ≤ 64) }
+    ensures first { IsTrue result → (1 ≤ limits.first_handle) × (1 ≤ limits.first_id) }
+    ensures ledger { IsTrue result → IfSome ledger (λ l. (1 ≤ l.originators) × (l.originators ≤ 64)) }
+{
+    let has_slots = match ledger {
+        Some(ledger) => 1 <= ledger.originators && ledger.originators <= 64,
+        None => true,
+    };
+    has_slots
+        && 1 <= limits.peers
+        && limits.peers <= 16
+        && 1 <= limits.connections
+        && limits.connections <= 64
+        && 1 <= limits.first_handle
+        && 1 <= limits.first_id
+}
+
+/// The number of a life that starts now: the microseconds of the wall clock since 1970 (ours).
+fn life_now<'a>(rt: &HostRuntime) -> Result<u64, CommandError<'a>> {
+    match UNIX_EPOCH.elapsed(rt) {
+        Ok(age) => Ok(u64::try_from(age.as_micros()).unwrap_or(u64::MAX)),
+        Err(error) => Err(CommandError::of_system(CLOCK, error)),
+    }
+}
+
+/// Prints the address at which the device listens, and a warning if discovery reports another one. `asked_port` is the
+/// port in the arguments, 0 for any.
+fn print_listening(
+    rt: &HostRuntime,
+    sockets: &Sockets,
+    reported: Option<ReportedAddress<'_>>,
+    asked_port: u16,
+) -> io::Result<()> {
+    let bound = sockets.listener.local_addr()?;
+    eprintln!(rt; "listening on {bound}")?;
+    match reported.and_then(|reported| reported.warning(asked_port, bound)) {
+        Some(warning) => eprintln!(rt; "{warning}"),
+        None => Ok(()),
+    }
+}
+
+/// The idle timeout of so many seconds, in microseconds. 0 is no limit.
+fn idle_timeout_of(seconds: u16) -> u64
+    ensures limit { 0 < seconds → result ≡ seconds * 1_000_000 }
+    ensures no_limit { seconds ≡ 0 → result ≡ 2 ^ 64 - 1 }
+{
+    match seconds {
+        0 => NO_IDLE_TIMEOUT,
+        _ => u64::from(seconds) * SECOND,
+    }
+}
+
+/// Binds the sockets of a device to an address, with discovery one for datagrams too.
+fn bind<'a>(
+    rt: &HostRuntime,
+    address: HostPort<'a>,
+    discovery: bool,
+) -> Result<Sockets, CommandError<'a>> {
+    let listener = address.bind(rt)?;
+    sockets_of(rt, listener, discovery).map_err(|error| CommandError::of_system(
+        address.text(),
+        error,
+    ))
+}
+
+/// The sockets of a device that listens, with discovery one for datagrams at the same address too.
+fn sockets_of(rt: &HostRuntime, listener: TcpListener, discovery: bool) -> io::Result<Sockets> {
+    listener.set_nonblocking(true)?;
+    let bound = listener.local_addr()?;
+    let mut datagrams = None;
+    if discovery {
+        datagrams = Some(UdpSocket::bind(rt, bound)?);
+    }
+    Ok(Sockets {
+        listener: mio::net::TcpListener::from_std(listener),
+        datagrams,
+    })
+}

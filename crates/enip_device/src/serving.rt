@@ -1,0 +1,85 @@
+//! What serves the peers of a device, round by round: with or without a file that keeps its state.
+
+ghost use Rattle.std.specs.Prelude.{⊤};
+
+use enip_adapter::DiscoveryBuffer;
+use enip_devicer::{Peers, RoundEnd, Wire};
+use enip_keep::KeepError;
+use std::io;
+
+/// Why a device is not served any longer.
+#[derive(Clone, Copy, Debug)]
+pub(crate) enum ServeFault {
+    /// A socket, the clock or memory failed.
+    System(io::Error),
+    /// What a round has changed could not be kept.
+    Keep(KeepError),
+}
+
+impl From<io::Error> for ServeFault {
+    fn from(error: io::Error) -> ServeFault {
+        ServeFault::System(error)
+    }
+}
+
+/// Serves peers on wires.
+pub(crate) trait Serving<W: Wire + Drop> {
+    // What holds between two calls.
+    ghost is_ready: { Self → Type 0 };
+
+    /// The index of the first free peer slot.
+    fn first_free(&self) -> Option<usize>;
+
+    /// Begins a peer in the first free slot. Returns whether there is a slot and a session handle for it.
+    fn add(&mut self, now: u64, wire: W) -> bool
+        requires { is_ready self.old }
+        ensures { is_ready self.new };
+
+    /// The system reports that the wire of a slot may be ready, and whether its stream has ended or failed.
+    fn mark_ready(&mut self, slot: usize, ends: bool)
+        requires { is_ready self.old }
+        ensures { is_ready self.new };
+
+    /// Serves one round at the time `now`.
+    ///
+    /// # Errors
+    ///
+    /// If what the round has changed cannot be kept. No answer has left then, and no further round is served.
+    fn round(&mut self, now: u64) -> Result<RoundEnd, KeepError>
+        requires { is_ready self.old }
+        ensures { is_ready self.new };
+
+    /// The earliest time at which a round is due although no wire is ready.
+    fn next_moment(&self) -> Option<u64>;
+
+    /// The answer to a datagram, if there is one.
+    fn discover<'b>(&self, datagram: &[u8], answer: &'b mut DiscoveryBuffer) -> Option<&'b [u8]>;
+}
+
+impl<W: Wire + Drop> Serving<W> for Peers<W> {
+    ghost is_ready = { λ _. ⊤ };
+
+    fn first_free(&self) -> Option<usize> {
+        Peers::first_free(self)
+    }
+
+    fn add(&mut self, now: u64, wire: W) -> bool {
+        Peers::add(self, now, wire).is_ok()
+    }
+
+    fn mark_ready(&mut self, slot: usize, ends: bool) {
+        Peers::mark_ready(self, slot, ends);
+    }
+
+    fn round(&mut self, now: u64) -> Result<RoundEnd, KeepError> {
+        Ok(Peers::round(self, now))
+    }
+
+    fn next_moment(&self) -> Option<u64> {
+        Peers::next_moment(self)
+    }
+
+    fn discover<'b>(&self, datagram: &[u8], answer: &'b mut DiscoveryBuffer) -> Option<&'b [u8]> {
+        Peers::discover(self, datagram, answer)
+    }
+}

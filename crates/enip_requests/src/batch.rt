@@ -1,0 +1,232 @@
+//! `enip batch`: sends the requests of an input, one a line, in one session.
+
+ghost use Rattle.std.specs.Prelude.{⊤};
+
+use crate::line_request::{LineRefusal, read_request};
+use crate::request::{Device, ask, error_in_session, error_of_failure, reason_of_refusal};
+use cip_bytes::StatusText;
+use clap::ArgMatches;
+use enip_client::ClientFault;
+use enip_commands::{
+    DeviceSession, LONG_LIVED, ProgramFault, ReplyOutcome, RequestFailure, Style, TakeLines,
+    read_lines, show_refusal, show_reply,
+};
+use enip_common::{
+    ArgumentError, CLOCK, CommandError, ErrorKeeping, HostPort, INPUT, OUTPUT, Reason, SocketSink,
+    SocketSource, Timeout, print_argument_error,
+};
+use std::fmt::Display;
+use std::io::Write;
+use std::time::Instant;
+
+/// The exit status if a line is not a request.
+const LINE_REFUSED: u8 = 4;
+
+/// The exit status if a reply is not usable, or a request is too long.
+const NOT_USABLE: u8 = 7;
+
+/// A batch of requests: the session in which they are sent, and what became of them.
+#[derive(Drop)]
+struct Batch<'a, 'r> {
+    rt: &'r HostRuntime,
+    device: Device<'a>,
+    session: DeviceSession,
+    source: SocketSource<'r, HostRuntime>,
+    sink: SocketSink<'r>,
+    /// Whether the first line that fails ends the batch.
+    stops: bool,
+    /// The exit status of the first line that failed, or 0.
+    status: u8,
+    /// The number of the first line that is not a request.
+    refused: Option<u64>,
+    /// Why the batch ended before its input.
+    end: Option<CommandError<'a>>,
+}
+
+/// `enip batch`.
+pub fn run_batch<'a>(rt: &HostRuntime, matches: &ArgMatches<'a>) -> Result<u8, CommandError<'a>> {
+    let device = match device_of(rt, matches) {
+        Ok(device) => device,
+        Err(error) => return Ok(print_argument_error(rt, error)),
+    };
+    let address = HostPort::parse(device.address)?;
+    let route = device.route.route()?;
+    let wants = device.connection.wants(rt, LONG_LIVED.timeout_multiplier)?;
+    let start = Instant::now(rt).map_err(|error| CommandError::of_system(CLOCK, error))?;
+    let stream = address.connect(rt, device.timeout)?;
+    let mut source = SocketSource::new(&stream, rt, start, device.timeout);
+    let mut sink = SocketSink::new(&stream);
+    let begun = DeviceSession::begin_with(
+        rt.alloc(),
+        &wants,
+        &mut source,
+        &mut sink,
+        route,
+        device.connected,
+    );
+    let session = match begun {
+        Ok(session) => session,
+        Err(failure) => return Err(error_in_session(device, failure, &source, &sink)),
+    };
+    let mut batch = Batch {
+        rt,
+        device,
+        session,
+        source,
+        sink,
+        stops: matches.get_flag("stop"),
+        status: 0,
+        refused: None,
+        end: None,
+    };
+    batch.run()
+}
+
+/// The device in the arguments.
+fn device_of<'a>(
+    rt: &HostRuntime,
+    matches: &ArgMatches<'a>,
+) -> Result<Device<'a>, ArgumentError<'a>> {
+    let timeout = Timeout::from_matches(rt, matches)?;
+    Device::from_matches(matches, timeout)
+}
+
+impl<'a> Batch<'a, '_> {
+    /// Sends the requests on standard input, and ends the session. Returns the exit status.
+    fn run(&mut self) -> Result<u8, CommandError<'a>> {
+        let mut input = ErrorKeeping::new(self.rt.stdin());
+        let mut output = ErrorKeeping::new(self.rt.stdout());
+        let read = read_lines(self.rt.alloc(), &mut input, self, &mut output);
+        let stream_reason = output.reason(OUTPUT).or(input.reason(INPUT));
+        match (stream_reason, self.end.take(), read) {
+            (Some(reason), _, _) => return Err(CommandError::of_reason(reason)),
+            (None, Some(error), _) => return Err(error),
+            (None, None, Err(ProgramFault::Memory)) => return Err(CommandError::of_memory()),
+            _ => {}
+        }
+        let _ = self.session.end(&mut self.source, &mut self.sink);
+        match self.refused {
+            Some(number) => {
+                let _ = eprintln!(self.rt; "line {number}");
+                Ok(LINE_REFUSED)
+            }
+            None => Ok(self.status),
+        }
+    }
+
+    /// Sends the request of a line, and prints the reply. Returns the exit status of the line.
+    fn run_line<W: Write>(
+        &mut self,
+        text: &[u8],
+        number: u64,
+        output: &mut W,
+    ) -> Result<u8, CommandError<'a>> {
+        let Ok(line) = str::from_utf8(text) else {
+            return Ok(self.refuse(number, &"not UTF-8"));
+        };
+        match read_request(self.rt.alloc(), None, line, self.device.timeout) {
+            Ok(None) => Ok(0),
+            Ok(Some(request)) => {
+                let style = Style {
+                    is_json: self.device.style.is_json,
+                    ..request.style
+                };
+                self.send(request.bytes.as_slice(), style, number, output)
+            }
+            Err(LineRefusal::Memory) => Err(CommandError::of_memory()),
+            Err(LineRefusal::Text(reason)) => Ok(self.refuse(number, &reason)),
+        }
+    }
+
+    /// Sends a request, and prints the reply. Returns the exit status of the line.
+    fn send<W: Write>(
+        &mut self,
+        bytes: &[u8],
+        style: Style,
+        number: u64,
+        output: &mut W,
+    ) -> Result<u8, CommandError<'a>> {
+        let (alloc, device) = (self.rt.alloc(), self.device);
+        let asked = ask(
+            self.rt,
+            &mut self.session,
+            &mut self.source,
+            &mut self.sink,
+            device,
+            bytes,
+        );
+        let printed = match asked {
+            Ok(()) => show_reply(alloc, &mut *output, style, self.session.reply()),
+            Err(RequestFailure::Client(ClientFault::Refused(status, extended))) => {
+                show_refusal(alloc, &mut *output, style, status, extended)
+            }
+            Err(RequestFailure::Client(ClientFault::Request)) => {
+                return Ok(self.report(number, &Reason::Request, NOT_USABLE));
+            }
+            Err(failure) => return Err(self.error_of(failure)),
+        };
+        match printed {
+            Ok(ReplyOutcome::Done) => Ok(0),
+            Ok(outcome @ ReplyOutcome::Refused(status, extended)) => {
+                let reason = reason_of_refusal(device, StatusText { status, extended });
+                Ok(self.report(number, &reason, outcome.exit_status()))
+            }
+            Err(RequestFailure::Program(ProgramFault::Memory)) => Err(CommandError::of_memory()),
+            Err(RequestFailure::Program(_)) => Err(CommandError::of_reason(Reason::Failed(OUTPUT))),
+            Err(failure) => {
+                let reason = error_of_failure(failure, device.address, None).into_reason();
+                Ok(self.report(number, &reason, NOT_USABLE))
+            }
+        }
+    }
+
+    /// The error of a batch that ends because the device is lost.
+    fn error_of(&self, failure: RequestFailure) -> CommandError<'a> {
+        error_in_session(self.device, failure, &self.source, &self.sink)
+    }
+
+    /// Reports that a line is not a request. Returns the exit status of the line.
+    fn refuse<D: Display>(&mut self, number: u64, reason: &D) -> u8 {
+        if self.refused.is_none() {
+            self.refused = Some(number);
+        }
+        self.report(number, reason, LINE_REFUSED)
+    }
+
+    /// Reports why a line failed. Returns the exit status of the line.
+    fn report<D: Display>(&self, number: u64, reason: &D, status: u8) -> u8 {
+        let _ = eprintln!(self.rt; "enip: line {number}: {reason}");
+        status
+    }
+}
+
+impl TakeLines for Batch<'_, '_> {
+    ghost does = { λ _ _ _ _ _. ⊤ };
+
+    ghost refuses = { λ _. ⊤ };
+
+    fn take_line<W: Write>(
+        &mut self,
+        text: &[u8],
+        number: u64,
+        output: &mut W,
+    ) -> Result<(), ProgramFault> {
+        match self.run_line(text, number, output) {
+            Ok(0) => Ok(()),
+            Ok(status) => {
+                if self.status == 0 {
+                    self.status = status;
+                }
+                if self.stops {
+                    Err(ProgramFault::Device)
+                } else {
+                    Ok(())
+                }
+            }
+            Err(error) => {
+                self.end = Some(error);
+                Err(ProgramFault::Device)
+            }
+        }
+    }
+}
