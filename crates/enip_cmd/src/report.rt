@@ -1,5 +1,7 @@
 //! Where a command reports the fault with which it ends early.
 
+use enip_common::Fault;
+
 /// Receives the fault with which a command ends early.
 pub trait Report {
     /// Called once, and only if the command ends early.

@@ -1,7 +1,7 @@
 -- When a read of a socket has read all there is.
 use Rattle.std.specs.Prelude.{ℕ, ◌≡◌, ◌<◌, ◌≤◌, ◌⊎◌, ⊤}
-use Rattle.enip_devicer.specs.declared.wire.ReadOutcome.{ReadOutcome}
-use Rattle.enip_devicer.specs.declared.wire.ReadOutcome.TheVariants.{Bytes, Drained, WouldBlock, End, Failed}
+use Rattle.enip_server.specs.declared.wire.ReadOutcome.{ReadOutcome}
+use Rattle.enip_server.specs.declared.wire.ReadOutcome.TheVariants.{Bytes, Drained, WouldBlock, End, Failed}
 
 -- A read that fills its buffer may leave bytes behind, and one that is shorter than a header is not relied on. Any other
 -- read has read all there is.

@@ -7,7 +7,7 @@ ghost use Rattle.kept_server.specs.Rounds.{kept_of};
 use crate::serving::Serving;
 use arrayvec::ArrayVec;
 use enip_adapter::DiscoveryBuffer;
-use enip_devicer::{RoundEnd, Wire};
+use enip_server::{RoundEnd, Wire};
 use enip_keep::{Device, KeepError, Keeper, Server};
 use kept_server::{KeptDevice, KeptPeers, MOST_READY, ReadyWire, RoundInput};
 

@@ -2,7 +2,7 @@
 //!
 //! [`run_serve`] reads the arguments, opens the sockets, and serves until an error or the last connection. The loop of
 //! rounds is in `serve`, over a [`Serving`](serving::Serving) that either keeps its state in a file or doesn't. What a
-//! round does is proved in `enip_devicer` and `enip_keep`; here are the sockets, the log, and when each socket is tried.
+//! round does is proved in `enip_server` and `enip_keep`; here are the sockets, the log, and when each socket is tried.
 #![tactic(auto)]
 
 mod acceptor;

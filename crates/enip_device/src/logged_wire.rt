@@ -6,7 +6,7 @@ use crate::frame_log::FrameLog;
 use crate::frame_summary::{AnswerStatus, RequestSummary};
 use crate::log_event::{EndCause, LogEvent};
 use crate::wire::TcpWire;
-use enip_devicer::{ReadOutcome, Wire};
+use enip_server::{ReadOutcome, Wire};
 use enip_wire::{FrameReader, FrameView, Held};
 use mio::net::TcpStream;
 use std::alloc::Global;

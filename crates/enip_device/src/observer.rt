@@ -1,7 +1,7 @@
 //! What observes the connections of a served device: the log, or a report of the clients that are turned away.
 
 use crate::wire::TcpWire;
-use enip_devicer::Wire;
+use enip_server::Wire;
 use mio::net::TcpStream;
 use std::alloc::Global;
 use std::net::SocketAddr;

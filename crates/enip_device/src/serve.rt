@@ -10,7 +10,7 @@ use crate::acceptor::Acceptor;
 use crate::discovery::Discovery;
 use crate::observer::Observer;
 use crate::serving::{ServeFault, Serving};
-use enip_devicer::RoundEnd;
+use enip_server::RoundEnd;
 use mio::net::{TcpListener, TcpStream, UdpSocket};
 use mio::{Events, Interest, Poll, Token};
 use std::alloc::Global;

@@ -19,7 +19,7 @@ use enip_common::{
     Reason, print_argument_error, u16_of,
 };
 use enip_config::Configuration;
-use enip_devicer::{NO_IDLE_TIMEOUT, Peers, Wire};
+use enip_server::{NO_IDLE_TIMEOUT, Peers, Wire};
 use enip_keep::{KeepError, Keeper, Server};
 use kept_adapter::{AdapterStart, LedgerStart};
 use kept_server::KeptDevice;

@@ -3,7 +3,7 @@
 ghost use Rattle.std.specs.Prelude.{⊤};
 
 use enip_adapter::DiscoveryBuffer;
-use enip_devicer::{Peers, RoundEnd, Wire};
+use enip_server::{Peers, RoundEnd, Wire};
 use enip_keep::KeepError;
 use std::io;
 

@@ -2,10 +2,10 @@
 
 ghost use Rattle.std.specs.Prelude.{◌≡◌, ◌<◌, ◌≤◌, length, None, IfSome};
 ghost use Rattle.enip_device.specs.Reads.{IsDrainedOnlyIfShort};
-ghost use Rattle.enip_devicer.specs.Wires.{IsRead, after_read};
+ghost use Rattle.enip_server.specs.Wires.{IsRead, after_read};
 
 use enip_common::{read_some, write_some};
-use enip_devicer::{ReadOutcome, Wire, WireCounts};
+use enip_server::{ReadOutcome, Wire, WireCounts};
 use enip_wire::Header;
 use mio::net::TcpStream;
 use std::io::ErrorKind;

@@ -3,8 +3,8 @@ use Rattle.std.proofs.Common.{◌≡◌, ◌≢◌, ◌<◌, ◌≤◌, ◌+◌,
 use Rattle.std.proofs.Common.{Bool, Option, Some, None, refl, sym, subst, arith}
 use Rattle.std.specs.Prelude.{◌-◌, length, ⊤}
 use Rattle.enip_adapter.specs.Calls.{AdapterState}
-use Rattle.enip_devicer.specs.declared.peer_io.PeerIo.{PeerIo}
-use Rattle.enip_devicer.specs.Rounds.{ServerState, new_peers, marked_ready_in, marked_ready_at}
+use Rattle.enip_server.specs.declared.peer_io.PeerIo.{PeerIo}
+use Rattle.enip_server.specs.Rounds.{ServerState, new_peers, marked_ready_in, marked_ready_at}
 
 -- None of these slots holds this peer.
 abbrev pub HasNone : {W : Type 0} → ℕ → List (Option (PeerIo W)) → Type 0

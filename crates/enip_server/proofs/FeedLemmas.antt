@@ -4,10 +4,10 @@ use Rattle.std.proofs.Common.{refl, sym, ap, subst, ◌∙◌, true≢false, ari
 use Rattle.std.proofs.lemmas.Bool.{eqb-true}
 use Rattle.cip_objects.specs.OwnRequests.{Asked}
 use Rattle.cip_owner.specs.Replies.{Reply}
-use Rattle.enip_devicer.specs.declared.peer_io.Turn.{Turn}
-use Rattle.enip_devicer.specs.declared.peer_io.Turn.TheVariants.{More, UntilReadable, UntilWritable, Finished}
-use Rattle.enip_devicer.specs.PeerStates.{PeerState, IsFlushed, AreFed, fed_once, owner_fed, FitsBuffers, IsWaiting}
-use Rattle.enip_devicer.specs.PeerStates.AreFed.{None_fed, One_more_fed}
+use Rattle.enip_server.specs.declared.peer_io.Turn.{Turn}
+use Rattle.enip_server.specs.declared.peer_io.Turn.TheVariants.{More, UntilReadable, UntilWritable, Finished}
+use Rattle.enip_server.specs.PeerStates.{PeerState, IsFlushed, AreFed, fed_once, owner_fed, FitsBuffers, IsWaiting}
+use Rattle.enip_server.specs.PeerStates.AreFed.{None_fed, One_more_fed}
 
 module _ {O : Type 0} (answer : O → Asked → Option Reply) (after : O → Asked → O) (now peer : ℕ) where
   -- nothing is fed

@@ -4,11 +4,11 @@ use Rattle.std.specs.Prelude.{IfSome, IfNone}
 use Rattle.std.proofs.KnownBytes.{Appends-nil, Appends-trans}
 use Rattle.std.proofs.lemmas.List.{drop-take, drop_all, length-drop, take-append-drop, take-take, take_all}
 use Rattle.std.specs.Io.KnownBytes.{Appends}
-use Rattle.enip_devicer.specs.declared.peer_io.Turn.{Turn}
-use Rattle.enip_devicer.specs.declared.peer_io.Turn.TheVariants.{More, UntilReadable, UntilWritable, Finished}
-use Rattle.enip_devicer.specs.declared.wire_counts.WireCounts.{WireCounts}
-use Rattle.enip_devicer.specs.PeerStates.{PeerState, IsFlushed, GoesOn, IsCutShort, IsWaiting}
-use Rattle.enip_devicer.specs.Wires.{after_write}
+use Rattle.enip_server.specs.declared.peer_io.Turn.{Turn}
+use Rattle.enip_server.specs.declared.peer_io.Turn.TheVariants.{More, UntilReadable, UntilWritable, Finished}
+use Rattle.enip_server.specs.declared.wire_counts.WireCounts.{WireCounts}
+use Rattle.enip_server.specs.PeerStates.{PeerState, IsFlushed, GoesOn, IsCutShort, IsWaiting}
+use Rattle.enip_server.specs.Wires.{after_write}
 
 -- nothing is written
 pub none_flushed : (d : PeerState) → IsFlushed d d

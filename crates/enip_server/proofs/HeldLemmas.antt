@@ -7,18 +7,18 @@ use Rattle.cip_objects.specs.OwnRequests.{Asked}
 use Rattle.cip_owner.specs.Replies.{Reply}
 use Rattle.enip_adapter.specs.Calls.{AdapterState, after_call}
 use Rattle.enip_adapter.specs.Calls.Call.{Ticks}
-use Rattle.enip_devicer.specs.declared.held_wire.HeldWire.{HeldWire}
-use Rattle.enip_devicer.specs.declared.peer_io.PeerIo.{PeerIo}
-use Rattle.enip_devicer.specs.declared.wire_counts.WireCounts.{WireCounts}
-use Rattle.enip_devicer.specs.Wires.{KnownCalls, with_asked, with_shut}
-use Rattle.enip_devicer.specs.PeerStates.{PeerState, peer_state_of, AreFed, IsFetched, IsServed, IsDiscarded, IsTurn}
-use Rattle.enip_devicer.specs.PeerStates.AreFed.{None_fed, One_more_fed}
-use Rattle.enip_devicer.specs.Rounds.{ServerState, IsServedPeer, IsServedAt, IsLeft, IsSlotServed}
-use Rattle.enip_devicer.specs.Rounds.{AreSlotsServed, IsRound, timeout_at}
-use Rattle.enip_devicer.specs.Held.{held_known, held_written, IsPeerReleased, IsSlotReleased, AreSlotsReleased, AreReleased}
-use Rattle.enip_devicer.specs.Runs.{IsStill, IsStillAt, AreStill, IsStep}
-use Rattle.enip_devicer.specs.Runs.IsStep.{Releases}
-use Rattle.enip_devicer.proofs.TurnMoves.{not_out}
+use Rattle.enip_server.specs.declared.held_wire.HeldWire.{HeldWire}
+use Rattle.enip_server.specs.declared.peer_io.PeerIo.{PeerIo}
+use Rattle.enip_server.specs.declared.wire_counts.WireCounts.{WireCounts}
+use Rattle.enip_server.specs.Wires.{KnownCalls, with_asked, with_shut}
+use Rattle.enip_server.specs.PeerStates.{PeerState, peer_state_of, AreFed, IsFetched, IsServed, IsDiscarded, IsTurn}
+use Rattle.enip_server.specs.PeerStates.AreFed.{None_fed, One_more_fed}
+use Rattle.enip_server.specs.Rounds.{ServerState, IsServedPeer, IsServedAt, IsLeft, IsSlotServed}
+use Rattle.enip_server.specs.Rounds.{AreSlotsServed, IsRound, timeout_at}
+use Rattle.enip_server.specs.Held.{held_known, held_written, IsPeerReleased, IsSlotReleased, AreSlotsReleased, AreReleased}
+use Rattle.enip_server.specs.Runs.{IsStill, IsStillAt, AreStill, IsStep}
+use Rattle.enip_server.specs.Runs.IsStep.{Releases}
+use Rattle.enip_server.proofs.TurnMoves.{not_out}
 
 -- ---- what is released does not change in a round
 

@@ -14,21 +14,21 @@ use Rattle.enip_adapter.specs.Calls.{AdapterState, Call, after_call}
 use Rattle.enip_adapter.specs.Calls.Call.{Begins_peer, Writes}
 use Rattle.enip_adapter.specs.OwnWrites.{OwnWrite}
 use Rattle.enip_adapter.specs.Runs.{after_calls, IsForOther}
-use Rattle.enip_devicer.specs.declared.peer_io.PeerIo.{PeerIo}
-use Rattle.enip_devicer.specs.declared.wire_counts.WireCounts.{WireCounts}
-use Rattle.enip_devicer.specs.Wires.{KnownCalls}
-use Rattle.enip_devicer.specs.PeerStates.{peer_state_of}
-use Rattle.enip_devicer.specs.Transfers.{Transfers, GoesOnWith}
-use Rattle.enip_devicer.specs.Rounds.{ServerState, new_peers, new_peer_io, first_free, IsAdded, marked_ready_in, marked_ready_at}
-use Rattle.enip_devicer.specs.Rounds.{written_by, nobody, no_answer, same_nobody}
-use Rattle.enip_devicer.specs.Runs.{IsStep, IsRun, HoldsSlot, KeepsSlot, IsStill, IsStillAt, AreStill}
-use Rattle.enip_devicer.specs.Runs.IsStep.{Adds, MarksReady, Rounds, Rounds_alone, Writes_own, Releases}
-use Rattle.enip_devicer.specs.Runs.IsRun.{Still, Goes_on}
-use Rattle.enip_devicer.specs.Runs.KeepsSlot.{Begins, Stays_on}
-use Rattle.enip_devicer.proofs.ApartLemmas.{AreSound, sound_new, sound_come, sound_of, of_woken, are_of_themselves, IsOf, AreOf}
-use Rattle.enip_devicer.proofs.HandleLemmas.{next_begun, next_given}
-use Rattle.enip_devicer.proofs.TransferLemmas.{MovesBy, moves_by_then, moves_by_weaker, moves_not, moves_other}
-use Rattle.enip_devicer.proofs.RoundMoves.{round_moves, sound_round, other_goes_on}
+use Rattle.enip_server.specs.declared.peer_io.PeerIo.{PeerIo}
+use Rattle.enip_server.specs.declared.wire_counts.WireCounts.{WireCounts}
+use Rattle.enip_server.specs.Wires.{KnownCalls}
+use Rattle.enip_server.specs.PeerStates.{peer_state_of}
+use Rattle.enip_server.specs.Transfers.{Transfers, GoesOnWith}
+use Rattle.enip_server.specs.Rounds.{ServerState, new_peers, new_peer_io, first_free, IsAdded, marked_ready_in, marked_ready_at}
+use Rattle.enip_server.specs.Rounds.{written_by, nobody, no_answer, same_nobody}
+use Rattle.enip_server.specs.Runs.{IsStep, IsRun, HoldsSlot, KeepsSlot, IsStill, IsStillAt, AreStill}
+use Rattle.enip_server.specs.Runs.IsStep.{Adds, MarksReady, Rounds, Rounds_alone, Writes_own, Releases}
+use Rattle.enip_server.specs.Runs.IsRun.{Still, Goes_on}
+use Rattle.enip_server.specs.Runs.KeepsSlot.{Begins, Stays_on}
+use Rattle.enip_server.proofs.ApartLemmas.{AreSound, sound_new, sound_come, sound_of, of_woken, are_of_themselves, IsOf, AreOf}
+use Rattle.enip_server.proofs.HandleLemmas.{next_begun, next_given}
+use Rattle.enip_server.proofs.TransferLemmas.{MovesBy, moves_by_then, moves_by_weaker, moves_not, moves_other}
+use Rattle.enip_server.proofs.RoundMoves.{round_moves, sound_round, other_goes_on}
 
 -- what a list holds at an index after another index was set
 pub get_set_other : {X : Type 0} → (xs : List X) (i j : ℕ) (x : X) → i ≢ j → slice_get (slice_set xs i x) j ≡ slice_get xs j

@@ -3,15 +3,15 @@ use Rattle.std.proofs.Common.{◌≡◌, ◌<◌, ℕ, List, [], ◌++◌, lengt
 use Rattle.std.proofs.Common.{refl, sym, ap, subst, ◌∙◌, take-append-drop}
 use Rattle.std.proofs.KnownBytes.{Appends-nil}
 use Rattle.std.specs.Io.KnownBytes.{Appends}
-use Rattle.enip_devicer.specs.declared.held_wire.HeldWire.{HeldWire}
-use Rattle.enip_devicer.specs.declared.peer_io.Turn.{Turn}
-use Rattle.enip_devicer.specs.declared.peer_io.Turn.TheVariants.{More, UntilReadable, UntilWritable, Finished}
-use Rattle.enip_devicer.specs.declared.wire_counts.WireCounts.{WireCounts}
-use Rattle.enip_devicer.specs.contracts.peer_io.Turn.{the_type}
-use Rattle.enip_devicer.specs.Held.{IsReleased, Stops}
-use Rattle.enip_devicer.specs.PeerStates.{IsCutShort}
-use Rattle.enip_devicer.specs.Wires.{KnownCalls}
-use Rattle.enip_devicer.proofs.FlushLemmas.{waits_here}
+use Rattle.enip_server.specs.declared.held_wire.HeldWire.{HeldWire}
+use Rattle.enip_server.specs.declared.peer_io.Turn.{Turn}
+use Rattle.enip_server.specs.declared.peer_io.Turn.TheVariants.{More, UntilReadable, UntilWritable, Finished}
+use Rattle.enip_server.specs.declared.wire_counts.WireCounts.{WireCounts}
+use Rattle.enip_server.specs.contracts.peer_io.Turn.{the_type}
+use Rattle.enip_server.specs.Held.{IsReleased, Stops}
+use Rattle.enip_server.specs.PeerStates.{IsCutShort}
+use Rattle.enip_server.specs.Wires.{KnownCalls}
+use Rattle.enip_server.proofs.FlushLemmas.{waits_here}
 use denote.Enum.Bare.{sameb}
 
 -- how a write that is cut short went

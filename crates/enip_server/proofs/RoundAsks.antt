@@ -7,16 +7,16 @@ use Rattle.enip_adapter.specs.Asks.{asks_of_call, owner_after}
 use Rattle.enip_adapter.specs.Calls.{AdapterState, Call, after_call}
 use Rattle.enip_adapter.specs.Calls.Call.{Ends_peer, Ticks}
 use Rattle.enip_adapter.specs.Runs.{after_calls}
-use Rattle.enip_devicer.specs.declared.peer_io.PeerIo.{PeerIo}
-use Rattle.enip_devicer.specs.declared.wire_counts.WireCounts.{WireCounts}
-use Rattle.enip_devicer.specs.Wires.{KnownCalls}
-use Rattle.enip_devicer.specs.PeerStates.{peer_state_of}
-use Rattle.enip_devicer.specs.Transfers.{AreAsked}
-use Rattle.enip_devicer.specs.Rounds.{ServerState, TakesTurn, IsServedPeer, IsLeft, IsSlotServed}
-use Rattle.enip_devicer.specs.Rounds.{AreSlotsServed, IsRound, timeout_at}
-use Rattle.enip_devicer.proofs.AskMoves.{owner_then}
-use Rattle.enip_devicer.proofs.TransferLemmas.{after_calls-append}
-use Rattle.enip_devicer.proofs.TurnMoves.{TurnBy, turn_moves}
+use Rattle.enip_server.specs.declared.peer_io.PeerIo.{PeerIo}
+use Rattle.enip_server.specs.declared.wire_counts.WireCounts.{WireCounts}
+use Rattle.enip_server.specs.Wires.{KnownCalls}
+use Rattle.enip_server.specs.PeerStates.{peer_state_of}
+use Rattle.enip_server.specs.Transfers.{AreAsked}
+use Rattle.enip_server.specs.Rounds.{ServerState, TakesTurn, IsServedPeer, IsLeft, IsSlotServed}
+use Rattle.enip_server.specs.Rounds.{AreSlotsServed, IsRound, timeout_at}
+use Rattle.enip_server.proofs.AskMoves.{owner_then}
+use Rattle.enip_server.proofs.TransferLemmas.{after_calls-append}
+use Rattle.enip_server.proofs.TurnMoves.{TurnBy, turn_moves}
 
 module _ {O : Type 0} (answer : O → Asked → Option Reply) (next : O → Asked → O) where
   asked_not : (first : O) (a : AdapterState) (last : O) (b : AdapterState) → b ≡ a → last ≡ first

@@ -10,14 +10,14 @@ use Rattle.cip_owner.specs.Replies.{Reply}
 use Rattle.enip_adapter.proofs.LookupLemmas.{slice_get-within}
 use Rattle.enip_adapter.specs.Calls.{AdapterState, after_call}
 use Rattle.enip_adapter.specs.Calls.Call.{Ends_peer}
-use Rattle.enip_devicer.specs.declared.peer_io.PeerIo.{PeerIo}
-use Rattle.enip_devicer.specs.declared.wire_counts.WireCounts.{WireCounts}
-use Rattle.enip_devicer.specs.Wires.{KnownCalls}
-use Rattle.enip_devicer.specs.declared.peers.Due.{Due}
-use Rattle.enip_devicer.specs.declared.peers.Peers.{Peers}
-use Rattle.enip_devicer.specs.Rounds.{ServerState, state_of, new_peers, marked_ready, marked_ready_at}
-use Rattle.enip_devicer.specs.Rounds.{IsServedPeer, IsLeft, IsSlotServed, AreSlotsServed}
-use Rattle.enip_devicer.specs.Rounds.{timeout_at, is_ready, due_with, due_by, earliest_of}
+use Rattle.enip_server.specs.declared.peer_io.PeerIo.{PeerIo}
+use Rattle.enip_server.specs.declared.wire_counts.WireCounts.{WireCounts}
+use Rattle.enip_server.specs.Wires.{KnownCalls}
+use Rattle.enip_server.specs.declared.peers.Due.{Due}
+use Rattle.enip_server.specs.declared.peers.Peers.{Peers}
+use Rattle.enip_server.specs.Rounds.{ServerState, state_of, new_peers, marked_ready, marked_ready_at}
+use Rattle.enip_server.specs.Rounds.{IsServedPeer, IsLeft, IsSlotServed, AreSlotsServed}
+use Rattle.enip_server.specs.Rounds.{timeout_at, is_ready, due_with, due_by, earliest_of}
 
 module _ {W O : Type 0} (left written : W → Option (List ℕ)) (known : W → Option KnownCalls) (counts : W → WireCounts)
     (answer : O → Asked → Option Reply) (next : O → Asked → O) (now idle_timeout : ℕ)

@@ -7,18 +7,18 @@ use Rattle.cip_owner.specs.Replies.{Reply}
 use Rattle.enip_adapter.specs.Calls.{AdapterState, Call, after_call}
 use Rattle.enip_adapter.specs.Calls.Call.{Begins_peer, Feeds, Ends_peer, Ticks, Writes}
 use Rattle.enip_adapter.specs.Runs.{after_calls, IsForOther}
-use Rattle.enip_devicer.specs.declared.peer_io.PeerIo.{PeerIo}
-use Rattle.enip_devicer.specs.declared.wire_counts.WireCounts.{WireCounts}
-use Rattle.enip_devicer.specs.Wires.{KnownCalls}
-use Rattle.enip_devicer.specs.PeerStates.{peer_state_of}
-use Rattle.enip_devicer.specs.Transfers.{IsTurnCall, GoesOnWith}
-use Rattle.enip_devicer.specs.Rounds.{ServerState, TakesTurn, IsServedPeer, IsServedAt, IsLeft, IsSlotServed}
-use Rattle.enip_devicer.specs.Rounds.{AreSlotsServed, IsRound, timeout_at}
-use Rattle.enip_devicer.proofs.ApartLemmas.{HasNone, AreApart, AreSound, IsOf, AreOf, none_at, none_tail, apart_tail, sound_of}
-use Rattle.enip_devicer.proofs.HandleLemmas.{IsAbout, next_calls}
-use Rattle.enip_devicer.proofs.TransferLemmas.{MovesBy, moves_by_then, moves_by_weaker, moves_not, moves_other, all_join}
-use Rattle.enip_devicer.proofs.TransferLemmas.{all_weaker, after_calls-append}
-use Rattle.enip_devicer.proofs.TurnMoves.{turn_moves}
+use Rattle.enip_server.specs.declared.peer_io.PeerIo.{PeerIo}
+use Rattle.enip_server.specs.declared.wire_counts.WireCounts.{WireCounts}
+use Rattle.enip_server.specs.Wires.{KnownCalls}
+use Rattle.enip_server.specs.PeerStates.{peer_state_of}
+use Rattle.enip_server.specs.Transfers.{IsTurnCall, GoesOnWith}
+use Rattle.enip_server.specs.Rounds.{ServerState, TakesTurn, IsServedPeer, IsServedAt, IsLeft, IsSlotServed}
+use Rattle.enip_server.specs.Rounds.{AreSlotsServed, IsRound, timeout_at}
+use Rattle.enip_server.proofs.ApartLemmas.{HasNone, AreApart, AreSound, IsOf, AreOf, none_at, none_tail, apart_tail, sound_of}
+use Rattle.enip_server.proofs.HandleLemmas.{IsAbout, next_calls}
+use Rattle.enip_server.proofs.TransferLemmas.{MovesBy, moves_by_then, moves_by_weaker, moves_not, moves_other, all_join}
+use Rattle.enip_server.proofs.TransferLemmas.{all_weaker, after_calls-append}
+use Rattle.enip_server.proofs.TurnMoves.{turn_moves}
 
 about_turn : (now peer : ℕ) (call : Call) → IsTurnCall now peer call → IsAbout peer call
 about_turn now peer Begins_peer is = absurd is

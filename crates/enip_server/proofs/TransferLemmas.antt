@@ -11,8 +11,8 @@ use Rattle.enip_adapter.specs.Calls.{AdapterState, Call, after_call, call_meanin
 use Rattle.enip_adapter.specs.Calls.Call.{Begins_peer, Feeds, Ends_peer, Ticks, Writes}
 use Rattle.enip_adapter.specs.Runs.{after_calls, taken_by_call, taken_by_calls, IsForOther}
 use Rattle.enip_adapter.specs.Serving.{output_bytes}
-use Rattle.enip_devicer.specs.PeerStates.{PeerState, closed_at, fed_once}
-use Rattle.enip_devicer.specs.Transfers.{Transfers, IsTurnCall, sent_by_call, sent_by_calls}
+use Rattle.enip_server.specs.PeerStates.{PeerState, closed_at, fed_once}
+use Rattle.enip_server.specs.Transfers.{Transfers, IsTurnCall, sent_by_call, sent_by_calls}
 
 -- what holds of each of these and of each of those
 pub all_join : {X : Type 0} → (P : X → Type 0) (xs ys : List X) → AllByRecursion P xs → AllByRecursion P ys

@@ -2,14 +2,14 @@
 use Rattle.std.proofs.Common.{◌≡◌, ◌≢◌, ℕ, List, [], Bool, true, false, Option, Some, None, refl, sym, ap, ◌∙◌, true≢false}
 use Rattle.cip_objects.specs.OwnRequests.{Asked}
 use Rattle.cip_owner.specs.Replies.{Reply}
-use Rattle.enip_devicer.specs.declared.peer_io.Turn.{Turn}
-use Rattle.enip_devicer.specs.declared.peer_io.Turn.TheVariants.{More, UntilReadable, UntilWritable, Finished}
-use Rattle.enip_devicer.specs.PeerStates.{PeerState, IsFlushed, IsFetched, AreFed, IsDiscarded, IsTurn, FitsBuffers, FitsCounts}
-use Rattle.enip_devicer.specs.PeerStates.{turn_after, IsByRead, IsThrough, GoesOn, IsCutShort, IsWaiting, is_closed_now}
-use Rattle.enip_devicer.specs.declared.wire_counts.WireCounts.{WireCounts}
-use Rattle.enip_devicer.specs.declared.wire.ReadOutcome.{ReadOutcome}
-use Rattle.enip_devicer.specs.declared.wire.ReadOutcome.TheVariants.{Bytes, Drained, WouldBlock, End, Failed}
-use Rattle.enip_devicer.specs.Wires.{one_more, AreReadBy, after_read}
+use Rattle.enip_server.specs.declared.peer_io.Turn.{Turn}
+use Rattle.enip_server.specs.declared.peer_io.Turn.TheVariants.{More, UntilReadable, UntilWritable, Finished}
+use Rattle.enip_server.specs.PeerStates.{PeerState, IsFlushed, IsFetched, AreFed, IsDiscarded, IsTurn, FitsBuffers, FitsCounts}
+use Rattle.enip_server.specs.PeerStates.{turn_after, IsByRead, IsThrough, GoesOn, IsCutShort, IsWaiting, is_closed_now}
+use Rattle.enip_server.specs.declared.wire_counts.WireCounts.{WireCounts}
+use Rattle.enip_server.specs.declared.wire.ReadOutcome.{ReadOutcome}
+use Rattle.enip_server.specs.declared.wire.ReadOutcome.TheVariants.{Bytes, Drained, WouldBlock, End, Failed}
+use Rattle.enip_server.specs.Wires.{one_more, AreReadBy, after_read}
 
 module _ {O : Type 0} (answer : O → Asked → Option Reply) (after : O → Asked → O) (now peer : ℕ) where
   -- an answer is not written to its end

@@ -8,11 +8,11 @@ use Rattle.cip_owner.specs.Replies.{Reply}
 use Rattle.enip_adapter.specs.Asks.{asks_of_call, asks_of_calls, owner_after}
 use Rattle.enip_adapter.specs.Calls.{Call}
 use Rattle.enip_adapter.specs.Calls.Call.{Feeds}
-use Rattle.enip_devicer.specs.PeerStates.{PeerState, IsFlushed, AreFed, IsFetched, IsServed, IsDiscarded, IsTurn, fed_once, owner_fed}
-use Rattle.enip_devicer.specs.PeerStates.AreFed.{None_fed, One_more_fed}
-use Rattle.enip_devicer.specs.Transfers.{Transfers, IsTurnCall}
-use Rattle.enip_devicer.proofs.AskMoves.{owner_then, feed_asks}
-use Rattle.enip_devicer.proofs.TransferLemmas.{MovesBy, moves_by_then, moves_not, moves_fed}
+use Rattle.enip_server.specs.PeerStates.{PeerState, IsFlushed, AreFed, IsFetched, IsServed, IsDiscarded, IsTurn, fed_once, owner_fed}
+use Rattle.enip_server.specs.PeerStates.AreFed.{None_fed, One_more_fed}
+use Rattle.enip_server.specs.Transfers.{Transfers, IsTurnCall}
+use Rattle.enip_server.proofs.AskMoves.{owner_then, feed_asks}
+use Rattle.enip_server.proofs.TransferLemmas.{MovesBy, moves_by_then, moves_not, moves_fed}
 
 flushed_moves : (peer : ℕ) (P : Call → Type 0) (old new : PeerState) → IsFlushed old new → MovesBy peer P old new
 flushed_moves peer P old new f = record {

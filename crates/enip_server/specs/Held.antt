@@ -2,14 +2,14 @@
 use Rattle.std.specs.Prelude.{ℕ, zero, suc, min, length, take, ◌-◌, ◌≡◌, ◌≢◌, ◌++◌, ◌||◌, List, [], ◌∷◌, Bool, true, false, Option, Some, None, ⊤}
 use Rattle.std.specs.Option.{option_map}
 use Rattle.std.specs.Io.KnownBytes.{Appends, append_known}
-use Rattle.enip_devicer.specs.declared.held_wire.HeldWire.{HeldWire}
-use Rattle.enip_devicer.specs.declared.peer_io.PeerIo.{PeerIo}
-use Rattle.enip_devicer.specs.declared.wire.ReadOutcome.{ReadOutcome}
-use Rattle.enip_devicer.specs.declared.wire.ReadOutcome.TheVariants.{WouldBlock, Failed}
-use Rattle.enip_devicer.specs.declared.wire_counts.WireCounts.{WireCounts}
-use Rattle.enip_devicer.specs.PeerStates.{GoesOn}
-use Rattle.enip_devicer.specs.Rounds.{ServerState}
-use Rattle.enip_devicer.specs.Wires.{KnownCalls, one_more, after_read, size_taken, with_asked, with_shut}
+use Rattle.enip_server.specs.declared.held_wire.HeldWire.{HeldWire}
+use Rattle.enip_server.specs.declared.peer_io.PeerIo.{PeerIo}
+use Rattle.enip_server.specs.declared.wire.ReadOutcome.{ReadOutcome}
+use Rattle.enip_server.specs.declared.wire.ReadOutcome.TheVariants.{WouldBlock, Failed}
+use Rattle.enip_server.specs.declared.wire_counts.WireCounts.{WireCounts}
+use Rattle.enip_server.specs.PeerStates.{GoesOn}
+use Rattle.enip_server.specs.Rounds.{ServerState}
+use Rattle.enip_server.specs.Wires.{KnownCalls, one_more, after_read, size_taken, with_asked, with_shut}
 
 -- What was written to a held wire is what was written to the wire inside, followed by what is held.
 abbrev pub held_written : {W : Type 0} → (W → Option (List ℕ)) → HeldWire W → Option (List ℕ)

@@ -9,13 +9,13 @@ use Rattle.enip_adapter.specs.Asks.{asks_of_call, after_asking, asking_adapter, 
 use Rattle.enip_adapter.specs.Calls.{AdapterState, call_meaning, call_answer}
 use Rattle.enip_adapter.specs.Calls.Call.{Feeds}
 use Rattle.enip_adapter.specs.Serving.{output_bytes}
-use Rattle.enip_devicer.specs.declared.peer_io.PeerIo.{PeerIo}
-use Rattle.enip_devicer.specs.declared.peer_io.Turn.{Turn}
-use Rattle.enip_devicer.specs.declared.peer_io.Turn.TheVariants.{More, UntilReadable, UntilWritable, Finished}
-use Rattle.enip_devicer.specs.declared.wire_counts.WireCounts.{WireCounts}
-use Rattle.enip_devicer.specs.declared.wire.ReadOutcome.{ReadOutcome}
-use Rattle.enip_devicer.specs.declared.wire.ReadOutcome.TheVariants.{Bytes, Drained, WouldBlock, End, Failed}
-use Rattle.enip_devicer.specs.Wires.{KnownCalls, one_more, with_asked, with_shut}
+use Rattle.enip_server.specs.declared.peer_io.PeerIo.{PeerIo}
+use Rattle.enip_server.specs.declared.peer_io.Turn.{Turn}
+use Rattle.enip_server.specs.declared.peer_io.Turn.TheVariants.{More, UntilReadable, UntilWritable, Finished}
+use Rattle.enip_server.specs.declared.wire_counts.WireCounts.{WireCounts}
+use Rattle.enip_server.specs.declared.wire.ReadOutcome.{ReadOutcome}
+use Rattle.enip_server.specs.declared.wire.ReadOutcome.TheVariants.{Bytes, Drained, WouldBlock, End, Failed}
+use Rattle.enip_server.specs.Wires.{KnownCalls, one_more, with_asked, with_shut}
 
 -- A sum of times, which saturates at the greatest time.
 abbrev pub moment_after : ℕ → ℕ → ℕ

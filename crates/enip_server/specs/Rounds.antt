@@ -13,14 +13,14 @@ use Rattle.enip_adapter.specs.Calls.{AdapterState, call_answer, after_call}
 use Rattle.enip_adapter.specs.Calls.Call.{Begins_peer, Ends_peer, Ticks, Writes}
 use Rattle.enip_adapter.specs.OwnWrites.{OwnWrite}
 use Rattle.enip_adapter.specs.Turn.Output.{Begins, Refuses}
-use Rattle.enip_devicer.specs.declared.peer_io.PeerIo.{PeerIo}
-use Rattle.enip_devicer.specs.declared.peer_io.Turn.{Turn}
-use Rattle.enip_devicer.specs.declared.peers.Due.{Due}
-use Rattle.enip_devicer.specs.declared.peers.Peers.{Peers}
-use Rattle.enip_devicer.specs.declared.peer_io.Turn.TheVariants.{More, UntilReadable, UntilWritable, Finished}
-use Rattle.enip_devicer.specs.declared.wire_counts.WireCounts.{WireCounts}
-use Rattle.enip_devicer.specs.Wires.{KnownCalls}
-use Rattle.enip_devicer.specs.PeerStates.{moment_after, peer_state_of, IsTurn, FitsBuffers, FitsCounts, is_closed_now}
+use Rattle.enip_server.specs.declared.peer_io.PeerIo.{PeerIo}
+use Rattle.enip_server.specs.declared.peer_io.Turn.{Turn}
+use Rattle.enip_server.specs.declared.peers.Due.{Due}
+use Rattle.enip_server.specs.declared.peers.Peers.{Peers}
+use Rattle.enip_server.specs.declared.peer_io.Turn.TheVariants.{More, UntilReadable, UntilWritable, Finished}
+use Rattle.enip_server.specs.declared.wire_counts.WireCounts.{WireCounts}
+use Rattle.enip_server.specs.Wires.{KnownCalls}
+use Rattle.enip_server.specs.PeerStates.{moment_after, peer_state_of, IsTurn, FitsBuffers, FitsCounts, is_closed_now}
 
 -- The adapter, for how long a peer may send nothing, and the slots.
 pub record ServerState (W : Type 0) : Type 0 where

@@ -5,11 +5,11 @@ use Rattle.cip_objects.specs.OwnRequests.{Asked}
 use Rattle.cip_owner.specs.Replies.{Reply}
 use Rattle.enip_adapter.specs.declared.adapter.Full.{Full}
 use Rattle.enip_adapter.specs.OwnWrites.{OwnWrite}
-use Rattle.enip_devicer.specs.declared.peer_io.PeerIo.{PeerIo}
-use Rattle.enip_devicer.specs.declared.wire_counts.WireCounts.{WireCounts}
-use Rattle.enip_devicer.specs.Wires.{KnownCalls}
-use Rattle.enip_devicer.specs.Rounds.{ServerState, IsRound, IsAdded, marked_ready, written_by}
-use Rattle.enip_devicer.specs.Rounds.{nobody, no_answer, same_nobody}
+use Rattle.enip_server.specs.declared.peer_io.PeerIo.{PeerIo}
+use Rattle.enip_server.specs.declared.wire_counts.WireCounts.{WireCounts}
+use Rattle.enip_server.specs.Wires.{KnownCalls}
+use Rattle.enip_server.specs.Rounds.{ServerState, IsRound, IsAdded, marked_ready, written_by}
+use Rattle.enip_server.specs.Rounds.{nobody, no_answer, same_nobody}
 
 -- A peer whose wire was released: nothing is read, what was written to the wire stays written, and nothing else changes
 -- but whether the wire may be ready.

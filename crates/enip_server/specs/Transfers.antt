@@ -10,7 +10,7 @@ use Rattle.enip_adapter.specs.Calls.Call.{Begins_peer, Feeds, Ends_peer, Ticks, 
 use Rattle.enip_adapter.specs.OwnWrites.{Prepares}
 use Rattle.enip_adapter.specs.Runs.{after_calls, taken_by_calls}
 use Rattle.enip_adapter.specs.Serving.{output_bytes}
-use Rattle.enip_devicer.specs.PeerStates.{PeerState}
+use Rattle.enip_server.specs.PeerStates.{PeerState}
 
 -- The bytes that a call sends to a peer.
 abbrev pub sent_by_call : ℕ → AdapterState → Call → List ℕ

@@ -2,9 +2,9 @@
 -- the counts of how they went.
 use Rattle.std.specs.Prelude.{Bool, true, ℕ, zero, suc, ◌+◌, ◌%◌, ◌^◌, ◌≡◌, ◌<◌, ◌≤◌, List, [], take, length, Option, Some, None}
 use Rattle.std.specs.Io.KnownBytes.{Consumes, Keeps, IsAtEnd}
-use Rattle.enip_devicer.specs.declared.wire_counts.WireCounts.{WireCounts}
-use Rattle.enip_devicer.specs.declared.wire.ReadOutcome.{ReadOutcome}
-use Rattle.enip_devicer.specs.declared.wire.ReadOutcome.TheVariants.{Bytes, Drained, WouldBlock, End, Failed}
+use Rattle.enip_server.specs.declared.wire_counts.WireCounts.{WireCounts}
+use Rattle.enip_server.specs.declared.wire.ReadOutcome.{ReadOutcome}
+use Rattle.enip_server.specs.declared.wire.ReadOutcome.TheVariants.{Bytes, Drained, WouldBlock, End, Failed}
 
 -- What a wire knows of its calls: the size of the slice that its last read was given, and whether its writing side was
 -- shut down. A wire that holds back what is written to it also knows the bytes that it released, which no call of a wire

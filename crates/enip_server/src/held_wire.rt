@@ -70,8 +70,8 @@ impl<W> HeldWire<W> {
 }
 
 impl<W: Wire> HeldWire<W> {
-    ghost use Rattle.enip_devicer.specs.Held.{IsReadInside, IsReleased, after_hold, held_unless, shut_if, size_held};
-    ghost use Rattle.enip_devicer.specs.Wires.{IsRead};
+    ghost use Rattle.enip_server.specs.Held.{IsReadInside, IsReleased, after_hold, held_unless, shut_if, size_held};
+    ghost use Rattle.enip_server.specs.Wires.{IsRead};
 
     /// Writes what is held to the wire inside, until that would block or fails. What it does not take stays held. Once
     /// nothing is held, makes a shutdown that waits. Returns whether the peer of this wire may have a turn now: a call
@@ -142,7 +142,7 @@ impl<W: Wire> HeldWire<W> {
 }
 
 impl<W: Wire> PeerIo<HeldWire<W>> {
-    ghost use Rattle.enip_devicer.specs.Held.{IsPeerReleased};
+    ghost use Rattle.enip_server.specs.Held.{IsPeerReleased};
 
     /// Releases the wire of the peer. The peer has a turn in the next round if it can go on now.
     pub(crate) fn release(&mut self)
@@ -154,8 +154,8 @@ impl<W: Wire> PeerIo<HeldWire<W>> {
 }
 
 impl<W: Wire> Wire for HeldWire<W> {
-    ghost use Rattle.enip_devicer.specs.Held.{IsReadInside, after_hold, held_known, held_unless, held_written, size_held};
-    ghost use Rattle.enip_devicer.specs.Wires.{IsRead, after_read, after_write, size_taken, with_asked, with_shut};
+    ghost use Rattle.enip_server.specs.Held.{IsReadInside, after_hold, held_known, held_unless, held_written, size_held};
+    ghost use Rattle.enip_server.specs.Wires.{IsRead, after_read, after_write, size_taken, with_asked, with_shut};
 
     ghost left = { λ w. W.left w.wire };
 

@@ -3,7 +3,7 @@
 ghost use Rattle.std.specs.Prelude.{◌≡◌, ◌≤◌, ◌-◌, ◌==◌, ◌++◌, [], length, take, drop, min};
 ghost use Rattle.std.specs.Io.KnownBytes.{Consumes};
 ghost use Rattle.std.specs.Option.{option_map};
-ghost use Rattle.enip_devicer.specs.Wires.{AreReadBy, after_read, with_asked};
+ghost use Rattle.enip_server.specs.Wires.{AreReadBy, after_read, with_asked};
 
 use crate::wire::{ReadOutcome, Wire};
 use std::marker::Model;

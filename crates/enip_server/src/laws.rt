@@ -5,13 +5,13 @@ ghost use Rattle.std.specs.Prelude.{ℕ, ◌≡◌, List, Option, Some, slice_ge
 ghost use Rattle.std.specs.List.{AllByRecursion};
 ghost use Rattle.enip_adapter.specs.Asks.{asks_of_calls, owner_after};
 ghost use Rattle.enip_adapter.specs.Calls.{AdapterState, Call};
-ghost use Rattle.enip_devicer.specs.declared.held_wire.HeldWire.{HeldWire};
-ghost use Rattle.enip_devicer.specs.declared.peer_io.PeerIo.{PeerIo};
-ghost use Rattle.enip_devicer.specs.PeerStates.{PeerState, IsTurn, peer_state_of};
-ghost use Rattle.enip_devicer.specs.Transfers.{Transfers, IsTurnCall, GoesOnWith, AreAsked};
-ghost use Rattle.enip_devicer.specs.Rounds.{ServerState, IsRound, new_peers};
-ghost use Rattle.enip_devicer.specs.Held.{AreReleased};
-ghost use Rattle.enip_devicer.specs.Runs.{IsRun, IsStep, KeepsSlot};
+ghost use Rattle.enip_server.specs.declared.held_wire.HeldWire.{HeldWire};
+ghost use Rattle.enip_server.specs.declared.peer_io.PeerIo.{PeerIo};
+ghost use Rattle.enip_server.specs.PeerStates.{PeerState, IsTurn, peer_state_of};
+ghost use Rattle.enip_server.specs.Transfers.{Transfers, IsTurnCall, GoesOnWith, AreAsked};
+ghost use Rattle.enip_server.specs.Rounds.{ServerState, IsRound, new_peers};
+ghost use Rattle.enip_server.specs.Held.{AreReleased};
+ghost use Rattle.enip_server.specs.Runs.{IsRun, IsStep, KeepsSlot};
 
 use crate::held_wire::HeldWire;
 use crate::wire::Wire;

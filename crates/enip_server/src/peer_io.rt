@@ -4,9 +4,9 @@
 ghost use Rattle.std.specs.Prelude.{◌≡◌, ◌≢◌, ◌≤◌, ◌<◌, [], length, take, Some, None, true, false, IfSome, IfNone, IfErr, IfOk};
 ghost use Rattle.std.specs.Io.KnownBytes.{Appends};
 ghost use Rattle.enip_adapter.specs.Calls.{AdapterState};
-ghost use Rattle.enip_devicer.specs.Rounds.{timeout_at, IsServedPeer};
-ghost use Rattle.enip_devicer.specs.PeerStates.{peer_state_of, fed_once, owner_fed, closed_at, IsFlushed, AreFed, IsDiscarded, IsTurn, FitsBuffers, FitsCounts, IsWaiting};
-ghost use Rattle.enip_devicer.specs.PeerStates.{IsFetched, IsByRead, IsThrough, GoesOn, IsCutShort, is_closed_now, turn_after};
+ghost use Rattle.enip_server.specs.Rounds.{timeout_at, IsServedPeer};
+ghost use Rattle.enip_server.specs.PeerStates.{peer_state_of, fed_once, owner_fed, closed_at, IsFlushed, AreFed, IsDiscarded, IsTurn, FitsBuffers, FitsCounts, IsWaiting};
+ghost use Rattle.enip_server.specs.PeerStates.{IsFetched, IsByRead, IsThrough, GoesOn, IsCutShort, is_closed_now, turn_after};
 
 use crate::io_buffer::{IO_BUFFER_SIZE, IoBuffer};
 use crate::wire::{ReadOutcome, Wire};

@@ -7,11 +7,11 @@ ghost use Rattle.std.specs.Option.{option_map};
 ghost use Rattle.cip_objects.specs.DeviceWrites.{device_write};
 ghost use Rattle.enip_adapter.specs.Discovery.{discovered};
 ghost use Rattle.enip_adapter.specs.OwnWrites.{OwnWrite, attribute_write};
-ghost use Rattle.enip_devicer.specs.Rounds.{IsSlotServed, AreSlotsServed, IsRound, has_ended, ended_in};
-ghost use Rattle.enip_devicer.specs.Rounds.{state_of, new_peers, first_free, IsAdded, marked_ready, is_ready, earliest_of, next_moment};
-ghost use Rattle.enip_devicer.specs.Rounds.{due_with, due_by, moment_or_none, written_by};
-ghost use Rattle.enip_devicer.specs.Rounds.{nobody, no_answer, same_nobody};
-ghost use Rattle.enip_devicer.specs.Held.{IsSlotReleased, AreSlotsReleased, AreReleased};
+ghost use Rattle.enip_server.specs.Rounds.{IsSlotServed, AreSlotsServed, IsRound, has_ended, ended_in};
+ghost use Rattle.enip_server.specs.Rounds.{state_of, new_peers, first_free, IsAdded, marked_ready, is_ready, earliest_of, next_moment};
+ghost use Rattle.enip_server.specs.Rounds.{due_with, due_by, moment_or_none, written_by};
+ghost use Rattle.enip_server.specs.Rounds.{nobody, no_answer, same_nobody};
+ghost use Rattle.enip_server.specs.Held.{IsSlotReleased, AreSlotsReleased, AreReleased};
 
 use crate::held_wire::HeldWire;
 use crate::peer_io::{PeerIo, Turn};

@@ -3,8 +3,8 @@
 ghost use Rattle.std.specs.Option.{option_map};
 ghost use Rattle.std.specs.Prelude.{ℕ, List, Option, ◌≡◌, ◌<◌, ◌≤◌, length, take, IfSome};
 ghost use Rattle.std.specs.Io.KnownBytes.{Appends};
-ghost use Rattle.enip_devicer.specs.declared.wire_counts.WireCounts.{WireCounts};
-ghost use Rattle.enip_devicer.specs.Wires.{KnownCalls, IsRead, size_taken, after_read, after_write, with_asked, with_shut};
+ghost use Rattle.enip_server.specs.declared.wire_counts.WireCounts.{WireCounts};
+ghost use Rattle.enip_server.specs.Wires.{KnownCalls, IsRead, size_taken, after_read, after_write, with_asked, with_shut};
 
 /// The outcome of a read.
 #[derive(Clone, Copy, Debug, PartialEq, Eq)]

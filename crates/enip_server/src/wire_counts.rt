@@ -1,7 +1,7 @@
 //! How the calls of a wire went.
 
 ghost use Rattle.std.specs.Prelude.{◌≡◌};
-ghost use Rattle.enip_devicer.specs.Wires.{after_read, after_write};
+ghost use Rattle.enip_server.specs.Wires.{after_read, after_write};
 
 use crate::wire::ReadOutcome;
 

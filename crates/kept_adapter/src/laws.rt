@@ -13,7 +13,7 @@ ghost use Rattle.kept_adapter.specs.RestartLaws.{once_over_restarts_law, rising_
 ghost use Rattle.kept_adapter.specs.RestartLaws.{steps_fit_law, adapter_once_law};
 ghost use Rattle.kept_adapter.specs.RestartLaws.{same_bytes_over_restarts_law, each_life_once_law};
 
-use enip_devicer::Wire;
+use enip_server::Wire;
 
 /// A restart goes on with the ledger if the configuration has as many slots and wants no new life: the life, the slots,
 /// the kept replies and the doubts are the same. With any other configuration the ledger goes on, with as many slots as

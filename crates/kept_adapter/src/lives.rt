@@ -9,7 +9,7 @@ ghost use Rattle.kept_adapter.specs.Restarts.{IsServing, RestartsTables, IsKeptO
 
 use crate::adapter_start::AdapterStart;
 use enip_keep::{Device, Event, Restart, Server};
-use enip_devicer::Wire;
+use enip_server::Wire;
 use kept_server::{KeptPeers, RoundInput, live_peers};
 use std::alloc::{AllocError, Global};
 

@@ -6,17 +6,17 @@ use Rattle.enip_adapter.specs.declared.adapter.Full.{Full}
 use Rattle.enip_adapter.specs.Calls.{AdapterState, Call}
 use Rattle.enip_adapter.specs.Calls.Call.{Begins_peer}
 use Rattle.enip_adapter.specs.Runs.{after_calls}
-use Rattle.enip_devicer.specs.declared.held_wire.HeldWire.{HeldWire}
-use Rattle.enip_devicer.specs.declared.peer_io.PeerIo.{PeerIo}
-use Rattle.enip_devicer.specs.Held.{held_known, held_written}
-use Rattle.enip_devicer.specs.Rounds.{ServerState, IsAdded, marked_ready, marked_ready_in, marked_ready_at, new_peer_io}
-use Rattle.enip_devicer.specs.Rounds.{nobody, no_answer, same_nobody, ended_in, next_moment}
-use Rattle.enip_devicer.specs.declared.peers.RoundEnd.{RoundEnd}
-use Rattle.enip_devicer.specs.Transfers.{AreAsked}
-use Rattle.enip_devicer.proofs.HeldLemmas.{round_released, same_released}
-use Rattle.enip_devicer.proofs.LifeLemmas.{get_set_other, get_set_same, free_elsewhere}
-use Rattle.enip_devicer.proofs.RoundAsks.{law_asked}
-use Rattle.enip_devicer.proofs.TransferLemmas.{after_calls-append}
+use Rattle.enip_server.specs.declared.held_wire.HeldWire.{HeldWire}
+use Rattle.enip_server.specs.declared.peer_io.PeerIo.{PeerIo}
+use Rattle.enip_server.specs.Held.{held_known, held_written}
+use Rattle.enip_server.specs.Rounds.{ServerState, IsAdded, marked_ready, marked_ready_in, marked_ready_at, new_peer_io}
+use Rattle.enip_server.specs.Rounds.{nobody, no_answer, same_nobody, ended_in, next_moment}
+use Rattle.enip_server.specs.declared.peers.RoundEnd.{RoundEnd}
+use Rattle.enip_server.specs.Transfers.{AreAsked}
+use Rattle.enip_server.proofs.HeldLemmas.{round_released, same_released}
+use Rattle.enip_server.proofs.LifeLemmas.{get_set_other, get_set_same, free_elsewhere}
+use Rattle.enip_server.proofs.RoundAsks.{law_asked}
+use Rattle.enip_server.proofs.TransferLemmas.{after_calls-append}
 use Rattle.enip_keep.specs.Kept.{Kept}
 use Rattle.kept_server.proofs.ChangeLemmas.{wait_on}
 use Rattle.kept_server.specs.declared.round.ReadyWire.{ReadyWire}

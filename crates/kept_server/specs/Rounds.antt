@@ -6,14 +6,14 @@ use Rattle.enip_adapter.specs.declared.adapter.Full.{Full}
 use Rattle.enip_adapter.specs.Calls.{AdapterState, Call}
 use Rattle.enip_adapter.specs.Runs.{after_calls}
 use Rattle.enip_keep.specs.Kept.{Kept}
-use Rattle.enip_devicer.specs.declared.held_wire.HeldWire.{HeldWire}
-use Rattle.enip_devicer.specs.declared.peer_io.PeerIo.{PeerIo}
-use Rattle.enip_devicer.specs.declared.peers.RoundEnd.{RoundEnd}
-use Rattle.enip_devicer.specs.declared.wire_counts.WireCounts.{WireCounts}
-use Rattle.enip_devicer.specs.Held.{held_known, held_written, AreReleased}
-use Rattle.enip_devicer.specs.Rounds.{ServerState, IsRound, IsAdded, marked_ready, ended_in, is_ready, next_moment}
-use Rattle.enip_devicer.specs.Rounds.{nobody, no_answer, same_nobody}
-use Rattle.enip_devicer.specs.Wires.{KnownCalls}
+use Rattle.enip_server.specs.declared.held_wire.HeldWire.{HeldWire}
+use Rattle.enip_server.specs.declared.peer_io.PeerIo.{PeerIo}
+use Rattle.enip_server.specs.declared.peers.RoundEnd.{RoundEnd}
+use Rattle.enip_server.specs.declared.wire_counts.WireCounts.{WireCounts}
+use Rattle.enip_server.specs.Held.{held_known, held_written, AreReleased}
+use Rattle.enip_server.specs.Rounds.{ServerState, IsRound, IsAdded, marked_ready, ended_in, is_ready, next_moment}
+use Rattle.enip_server.specs.Rounds.{nobody, no_answer, same_nobody}
+use Rattle.enip_server.specs.Wires.{KnownCalls}
 use Rattle.kept_server.specs.Changes.{kept_over, still_waiting, waiting_for}
 use Rattle.kept_server.specs.declared.round.ReadyWire.{ReadyWire}
 use Rattle.kept_server.specs.declared.round.RoundInput.{RoundInput}

@@ -2,7 +2,7 @@
 
 ghost use Rattle.std.specs.Prelude.{◌≡◌};
 ghost use Rattle.enip_keep.specs.Kept.{Kept, pairs_of};
-ghost use Rattle.enip_devicer.specs.Rounds.{state_of};
+ghost use Rattle.enip_server.specs.Rounds.{state_of};
 ghost use Rattle.kept_server.specs.Changes.{keys_of, newest};
 ghost use Rattle.kept_server.specs.Savings.{kept_by};
 ghost use Rattle.kept_server.specs.Rounds.{DeviceContents, RoundRequests, SendsHeld, SendsNothing, TakesRound};
@@ -13,7 +13,7 @@ use crate::kept_device::KeptDevice;
 use crate::round::{RoundInput, take_round};
 use crate::table::EntryTable;
 use enip_keep::{Device, Entry, KeepError};
-use enip_devicer::{HeldWire, Peers, RoundEnd, Wire};
+use enip_server::{HeldWire, Peers, RoundEnd, Wire};
 use std::alloc::Global;
 use std::marker::PhantomData;
 

@@ -1,7 +1,7 @@
 //! A server for several peers of a device whose state is kept over a restart.
 //!
 //! `KeptPeers` is the `Device` of an `enip_keep::Server`: in a round it serves the peers that may be ready, with their
-//! answers held back (`enip_devicer::HeldWire`). Then it names the entries that differ from what is kept, and once they
+//! answers held back (`enip_server::HeldWire`). Then it names the entries that differ from what is kept, and once they
 //! are committed it releases the answers. What is kept of an adapter, and how one starts from it, is a `KeptDevice`.
 //!
 //! A start may take nothing from a value that was found, as from one of another size. That value stays kept until the

@@ -10,7 +10,7 @@ use crate::kept_device::KeptDevice;
 use crate::kept_peers::KeptPeers;
 use crate::round::RoundInput;
 use enip_keep::{Device, Event, Restart, Server, live};
-use enip_devicer::Wire;
+use enip_server::Wire;
 use std::alloc::{AllocError, Global};
 
 /// Rounds of peers, crashes and starts, in any order. Whatever a crash leaves at the end is what is kept of a device after

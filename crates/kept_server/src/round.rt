@@ -2,11 +2,11 @@
 
 ghost use Rattle.std.specs.Prelude.{◌≡◌, List};
 ghost use Rattle.enip_adapter.specs.Calls.{Call};
-ghost use Rattle.enip_devicer.specs.Rounds.{state_of};
+ghost use Rattle.enip_server.specs.Rounds.{state_of};
 ghost use Rattle.kept_server.specs.Rounds.{IsAccepted, SendsNothing, TakesRound, with_marks};
 
 use arrayvec::ArrayVec;
-use enip_devicer::{HeldWire, Peers, RoundEnd, Wire};
+use enip_server::{HeldWire, Peers, RoundEnd, Wire};
 
 /// How many wires can be marked ready in one round: a server has at most so many peers.
 pub const MOST_READY: usize = 16;

@@ -1,4 +1,4 @@
-//! Tests of `enip_devicer`: several peers at once, over scripted wires.
+//! Tests of `enip_server`: several peers at once, over scripted wires.
 
 mod caller;
 mod held;

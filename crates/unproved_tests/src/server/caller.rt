@@ -1,10 +1,10 @@
-//! The examples in the documentation of `enip_devicer`, over scripted wires. `tests/rules` compares the first with it.
+//! The examples in the documentation of `enip_server`, over scripted wires. `tests/rules` compares the first with it.
 
 use super::turns::{OPENED, joined};
 use super::wires::{Call, ScriptedWire};
 use cip_objects::{AssemblyConfig, Objects};
 use enip_adapter::{Adapter, DiscoveryBuffer, EndReason, Endings};
-use enip_devicer::{NO_IDLE_TIMEOUT, Peers, Wire};
+use enip_server::{NO_IDLE_TIMEOUT, Peers, Wire};
 use std::alloc::Global;
 use std::cell::Cell;
 use std::test::Fail;

@@ -2,7 +2,7 @@
 
 use super::turns::joined;
 use super::wires::{Call, ScriptedWire};
-use enip_devicer::{HeldWire, LINGER, NO_IDLE_TIMEOUT, Peers, RoundEnd, Wire};
+use enip_server::{HeldWire, LINGER, NO_IDLE_TIMEOUT, Peers, RoundEnd, Wire};
 use std::alloc::Global;
 use std::cell::Cell;
 use std::process::Abort;

@@ -5,7 +5,7 @@ use arrayvec::ArrayVec;
 use cip_objects::{Config, Objects};
 use enip_adapter::Adapter;
 use enip_keep::{Device, Entry, KeepError, MemoryKeeper, Server};
-use enip_devicer::NO_IDLE_TIMEOUT;
+use enip_server::NO_IDLE_TIMEOUT;
 use kept_server::{KeptDevice, KeptPeers, ReadyWire, RoundInput};
 use std::alloc::{AllocError, Global};
 use std::cell::Cell;

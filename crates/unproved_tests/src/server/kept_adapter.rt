@@ -4,7 +4,7 @@ use cip_ledger::{Ledger, MOST_ORIGINATORS};
 use cip_objects::AssemblyConfig;
 use enip_adapter::Adapter;
 use enip_keep::{Entry, KeepError};
-use enip_devicer::NO_IDLE_TIMEOUT;
+use enip_server::NO_IDLE_TIMEOUT;
 use kept_adapter::{AdapterStart, LedgerStart};
 use kept_server::KeptDevice;
 use std::alloc::{AllocError, Global};

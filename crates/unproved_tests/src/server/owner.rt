@@ -6,7 +6,7 @@ use cip_application::{AttributeConfig, AttributeKind, ObjectConfig, ServiceConfi
 use cip_objects::Objects;
 use cip_owner::{OwnRequest, Owner, OwnerReply};
 use enip_adapter::Adapter;
-use enip_devicer::{NO_IDLE_TIMEOUT, Peers, RoundEnd, Wire};
+use enip_server::{NO_IDLE_TIMEOUT, Peers, RoundEnd, Wire};
 use std::alloc::Global;
 use std::cell::Cell;
 use std::test::Fail;
@@ -261,7 +261,7 @@ fn nobody_is_asked_in_a_round_without_an_owner(rt: HostRuntime) -> Result<(), Fa
     Ok(())
 }
 
-/// One step of a server with a machine behind it, as the documentation of `enip_devicer` has it.
+/// One step of a server with a machine behind it, as the documentation of `enip_server` has it.
 fn serve_machine<W: Wire + Drop, O: Owner>(
     peers: &mut Peers<W>,
     now: u64,

@@ -3,7 +3,7 @@
 use crate::texts::check_texts;
 use cip_ledger::{DoubtfulCommand, Ledger};
 use enip_adapter::Adapter;
-use enip_devicer::NO_IDLE_TIMEOUT;
+use enip_server::NO_IDLE_TIMEOUT;
 use kept_adapter::{AdapterStart, LedgerStart, StartFault};
 use saved_adapter::{RestoreFault, generation, save, start};
 use saved_state::{StateFault, WriteFault};

@@ -2,7 +2,7 @@
 
 use super::wires::{Call, ScriptedWire};
 use enip_adapter::Full;
-use enip_devicer::{LINGER, NO_IDLE_TIMEOUT, Peers};
+use enip_server::{LINGER, NO_IDLE_TIMEOUT, Peers};
 use std::alloc::Global;
 use std::cell::Cell;
 use std::process::Abort;

@@ -1,6 +1,6 @@
 //! A scripted wire: each call must be the next one of the script.
 
-use enip_devicer::{ReadOutcome, Wire, WireCounts};
+use enip_server::{ReadOutcome, Wire, WireCounts};
 use std::cell::Cell;
 
 /// A call of a wire, with its result.

@@ -1,6 +1,6 @@
-use Rattle.enip_devicer.specs.Held.{held_known, held_written}
-use Rattle.enip_devicer.proofs.HeldLemmas.{round_released, same_released}
-use Rattle.enip_devicer.proofs.laws.nothing_leaves_in_a_round.Goals as goal
+use Rattle.enip_server.specs.Held.{held_known, held_written}
+use Rattle.enip_server.proofs.HeldLemmas.{round_released, same_released}
+use Rattle.enip_server.proofs.laws.nothing_leaves_in_a_round.Goals as goal
 
 pub returns : goal.returns
 returns g c = λ now slot first last old new io after round there stays.

@@ -1,5 +1,5 @@
-use Rattle.enip_devicer.proofs.HeldLemmas.{release_is_step}
-use Rattle.enip_devicer.proofs.laws.releases_lose_nothing.Goals as goal
+use Rattle.enip_server.proofs.HeldLemmas.{release_is_step}
+use Rattle.enip_server.proofs.laws.releases_lose_nothing.Goals as goal
 
 pub returns : goal.returns
 returns g c = λ old new released.

@@ -1,5 +1,5 @@
-use Rattle.enip_devicer.proofs.RoundAsks.{law_asked}
-use Rattle.enip_devicer.proofs.laws.rounds_ask_in_order.Goals as goal
+use Rattle.enip_server.proofs.RoundAsks.{law_asked}
+use Rattle.enip_server.proofs.laws.rounds_ask_in_order.Goals as goal
 
 pub returns : goal.returns
 returns g c =

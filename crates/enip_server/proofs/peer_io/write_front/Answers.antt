@@ -1,9 +1,9 @@
 use Rattle.std.proofs.Common.{Some, ap, ◌∙◌, arith, subst, take}
 use Rattle.std.proofs.lemmas.List.{length-drop}
 use Rattle.std.specs.Io.KnownBytes.{Appends}
-use Rattle.enip_devicer.proofs.FlushLemmas.{from_index, more_written, write_reads, told_some}
-use Rattle.enip_devicer.proofs.TurnLemmas.{still_after}
-use Rattle.enip_devicer.proofs.peer_io.write_front.Goals as goal
+use Rattle.enip_server.proofs.FlushLemmas.{from_index, more_written, write_reads, told_some}
+use Rattle.enip_server.proofs.TurnLemmas.{still_after}
+use Rattle.enip_server.proofs.peer_io.write_front.Goals as goal
 
 pub loop-written-preserved : goal.loop-written-preserved
 loop-written-preserved g c = record {

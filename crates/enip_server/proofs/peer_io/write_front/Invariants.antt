@@ -1,7 +1,7 @@
 use Rattle.std.proofs.Common.{◌≡◌, ◌≤◌, ◌-◌, length, take}
 use Rattle.std.specs.Io.KnownBytes.{Appends}
-use Rattle.enip_devicer.specs.PeerStates.{GoesOn}
-use Rattle.enip_devicer.proofs.peer_io.write_front.Given as goal
+use Rattle.enip_server.specs.PeerStates.{GoesOn}
+use Rattle.enip_server.proofs.peer_io.write_front.Given as goal
 
 abbrev pub invariant-loop-written : goal.invariant-loop-written
 invariant-loop-written g l = record {

@@ -1,5 +1,5 @@
-use Rattle.enip_devicer.proofs.RoundLemmas.{places_more}
-use Rattle.enip_devicer.proofs.peers.+serve_slots.Goals as goal
+use Rattle.enip_server.proofs.RoundLemmas.{places_more}
+use Rattle.enip_server.proofs.peers.+serve_slots.Goals as goal
 
 pub returns-clause-served : goal.returns-clause-served
 returns-clause-served g t c =

@@ -1,5 +1,5 @@
-use Rattle.enip_devicer.proofs.RoundLemmas.{place_goes_on, place_ended}
-use Rattle.enip_devicer.proofs.peers.serve_slot.Goals as goal
+use Rattle.enip_server.proofs.RoundLemmas.{place_goes_on, place_ended}
+use Rattle.enip_server.proofs.peers.serve_slot.Goals as goal
 
 pub returns-then-serve-clause-served : goal.returns-then-serve-clause-served
 returns-then-serve-clause-served g c =

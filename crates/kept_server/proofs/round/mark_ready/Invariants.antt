@@ -1,5 +1,5 @@
 use Rattle.std.proofs.Common.{◌≡◌, drop}
-use Rattle.enip_devicer.specs.Rounds.{state_of}
+use Rattle.enip_server.specs.Rounds.{state_of}
 use Rattle.kept_server.specs.Rounds.{with_marks}
 use Rattle.kept_server.proofs.round.mark_ready.Given as goal
 

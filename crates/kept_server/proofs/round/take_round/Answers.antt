@@ -1,6 +1,6 @@
 use Rattle.std.proofs.Common.{◌≡◌, ap, subst, ◌∙◌}
-use Rattle.enip_devicer.specs.declared.held_wire.HeldWire.{HeldWire}
-use Rattle.enip_devicer.specs.Rounds.{ServerState, state_of, ended_in}
+use Rattle.enip_server.specs.declared.held_wire.HeldWire.{HeldWire}
+use Rattle.enip_server.specs.Rounds.{ServerState, state_of, ended_in}
 use Rattle.kept_server.specs.Rounds.{IsHeldRound, with_marks}
 use Rattle.kept_server.proofs.RoundLemmas.{nothing_sent, round_taken}
 use Rattle.kept_server.proofs.round.take_round.Goals as goal

@@ -1,9 +1,9 @@
 use Rattle.std.proofs.Common.{◌<◌, length, take, subst, None, refl}
 use Rattle.std.specs.Io.KnownBytes.{Appends}
 use Rattle.std.specs.Prelude.{IfSome}
-use Rattle.enip_devicer.specs.PeerStates.{IsCutShort, IsWaiting}
-use Rattle.enip_devicer.proofs.ReleaseLemmas.{released_not, released_some}
-use Rattle.enip_devicer.proofs.held_wire.HeldWire.release.Goals as goal
+use Rattle.enip_server.specs.PeerStates.{IsCutShort, IsWaiting}
+use Rattle.enip_server.proofs.ReleaseLemmas.{released_not, released_some}
+use Rattle.enip_server.proofs.held_wire.HeldWire.release.Goals as goal
 
 pub returns-then-self : goal.returns-then-self
 returns-then-self g c =

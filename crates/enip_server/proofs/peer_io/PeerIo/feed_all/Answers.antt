@@ -1,9 +1,9 @@
 use Rattle.std.proofs.Common.{refl, sym, ◌∙◌}
-use Rattle.enip_devicer.specs.PeerStates.{peer_state_of}
-use Rattle.enip_devicer.proofs.TurnLemmas.{still_same, still_after, cut_after}
-use Rattle.enip_devicer.proofs.FeedLemmas.{none_fed, one_more, none_there, some_there}
-use Rattle.enip_devicer.specs.declared.peer_io.Turn.TheVariants.{More}
-use Rattle.enip_devicer.proofs.peer_io.PeerIo.feed_all.Goals as goal
+use Rattle.enip_server.specs.PeerStates.{peer_state_of}
+use Rattle.enip_server.proofs.TurnLemmas.{still_same, still_after, cut_after}
+use Rattle.enip_server.proofs.FeedLemmas.{none_fed, one_more, none_there, some_there}
+use Rattle.enip_server.specs.declared.peer_io.Turn.TheVariants.{More}
+use Rattle.enip_server.proofs.peer_io.PeerIo.feed_all.Goals as goal
 
 pub loop-self-init : goal.loop-self-init
 loop-self-init g c = record {

@@ -1,6 +1,6 @@
 use Rattle.std.proofs.Common.{◌≡◌, [], None, length}
-use Rattle.enip_devicer.specs.PeerStates.{peer_state_of, AreFed, GoesOn}
-use Rattle.enip_devicer.proofs.peer_io.PeerIo.feed_all.Given as goal
+use Rattle.enip_server.specs.PeerStates.{peer_state_of, AreFed, GoesOn}
+use Rattle.enip_server.proofs.peer_io.PeerIo.feed_all.Given as goal
 
 abbrev pub invariant-loop-self : goal.invariant-loop-self
 invariant-loop-self g l = record {

@@ -1,9 +1,9 @@
 use Rattle.std.proofs.Common.{◌≡◌, ◌<◌, length, take, refl, subst}
 use Rattle.std.specs.Prelude.{IfSome, IfNone}
 use Rattle.std.specs.Io.KnownBytes.{Appends}
-use Rattle.enip_devicer.specs.PeerStates.{IsWaiting}
-use Rattle.enip_devicer.proofs.FlushLemmas.{flushed_by, out_by, waits_by, cut_by}
-use Rattle.enip_devicer.proofs.peer_io.PeerIo.flush.Goals as goal
+use Rattle.enip_server.specs.PeerStates.{IsWaiting}
+use Rattle.enip_server.proofs.FlushLemmas.{flushed_by, out_by, waits_by, cut_by}
+use Rattle.enip_server.proofs.peer_io.PeerIo.flush.Goals as goal
 
 pub returns-clause-flushed : goal.returns-clause-flushed
 returns-clause-flushed g c = λ adapter.

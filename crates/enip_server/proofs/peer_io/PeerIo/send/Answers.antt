@@ -1,7 +1,7 @@
 use Rattle.std.proofs.Common.{refl, sym, ◌∙◌}
-use Rattle.enip_devicer.proofs.FlushLemmas.{from_index, flushed_by, all_gone, out_by, waits_by, cut_by}
-use Rattle.enip_devicer.proofs.FeedLemmas.{none_there}
-use Rattle.enip_devicer.proofs.peer_io.PeerIo.send.Goals as goal
+use Rattle.enip_server.proofs.FlushLemmas.{from_index, flushed_by, all_gone, out_by, waits_by, cut_by}
+use Rattle.enip_server.proofs.FeedLemmas.{none_there}
+use Rattle.enip_server.proofs.peer_io.PeerIo.send.Goals as goal
 
 pub returns-then-is_some-clause-sent : goal.returns-then-is_some-clause-sent
 returns-then-is_some-clause-sent g c = λ adapter.

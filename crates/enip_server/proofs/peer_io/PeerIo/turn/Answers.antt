@@ -1,9 +1,9 @@
 use Rattle.std.proofs.Common.{sym, ◌∙◌, subst}
-use Rattle.enip_devicer.specs.PeerStates.{peer_state_of, AreFed, is_closed_now}
-use Rattle.enip_devicer.proofs.TurnLemmas.{turn_waits, turn_thrown, turn_served}
-use Rattle.enip_devicer.proofs.TurnLemmas.{told_fed, told_unsent, told_fetched, told_all_fed, told_cut_short}
-use Rattle.enip_devicer.proofs.FeedLemmas.{none_fed, none_there, some_there, some_left, none_left}
-use Rattle.enip_devicer.proofs.peer_io.PeerIo.turn.Goals as goal
+use Rattle.enip_server.specs.PeerStates.{peer_state_of, AreFed, is_closed_now}
+use Rattle.enip_server.proofs.TurnLemmas.{turn_waits, turn_thrown, turn_served}
+use Rattle.enip_server.proofs.TurnLemmas.{told_fed, told_unsent, told_fetched, told_all_fed, told_cut_short}
+use Rattle.enip_server.proofs.FeedLemmas.{none_fed, none_there, some_there, some_left, none_left}
+use Rattle.enip_server.proofs.peer_io.PeerIo.turn.Goals as goal
 
 pub returns-in-Some-clause-turn : goal.returns-in-Some-clause-turn
 returns-in-Some-clause-turn g c =

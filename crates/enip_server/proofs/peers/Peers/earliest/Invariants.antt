@@ -1,7 +1,7 @@
 use Rattle.std.proofs.Common.{◌≡◌, drop}
 use Rattle.std.specs.Box.{boxed_slice_items}
-use Rattle.enip_devicer.specs.Rounds.{earliest_of}
-use Rattle.enip_devicer.proofs.peers.Peers.earliest.Given as goal
+use Rattle.enip_server.specs.Rounds.{earliest_of}
+use Rattle.enip_server.proofs.peers.Peers.earliest.Given as goal
 
 abbrev pub invariant-loop-io : goal.invariant-loop-io
 invariant-loop-io g l =

@@ -1,8 +1,8 @@
 use Rattle.std.proofs.Common.{refl, arith}
 use Rattle.std.specs.Box.{boxed_slice_with_item}
-use Rattle.enip_devicer.specs.declared.peers.Peers.{Peers}
-use Rattle.enip_devicer.proofs.RoundLemmas.{woken_free}
-use Rattle.enip_devicer.proofs.peers.Peers.mark_ready.Goals as goal
+use Rattle.enip_server.specs.declared.peers.Peers.{Peers}
+use Rattle.enip_server.proofs.RoundLemmas.{woken_free}
+use Rattle.enip_server.proofs.peers.Peers.mark_ready.Goals as goal
 
 pub returns-in_default : goal.returns-in_default
 returns-in_default g c =

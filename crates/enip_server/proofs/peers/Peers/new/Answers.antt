@@ -1,7 +1,7 @@
 use Rattle.std.proofs.Common.{refl, le_antisymm, ◌∙◌}
-use Rattle.enip_devicer.specs.declared.peers.Peers.{Peers}
-use Rattle.enip_devicer.proofs.RoundLemmas.{all_free}
-use Rattle.enip_devicer.proofs.peers.Peers.new.Goals as goal
+use Rattle.enip_server.specs.declared.peers.Peers.{Peers}
+use Rattle.enip_server.proofs.RoundLemmas.{all_free}
+use Rattle.enip_server.proofs.peers.Peers.new.Goals as goal
 
 pub returns : goal.returns
 returns g c =

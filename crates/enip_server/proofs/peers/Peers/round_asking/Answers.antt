@@ -4,9 +4,9 @@ use Rattle.std.specs.Prelude.{◌^◌, min, unwrap_or}
 use Rattle.std.specs.Box.{boxed_slice_items, boxed_slice_with_items}
 use Rattle.std.specs.List.{list_any}
 use Rattle.cip_manager.specs.Connection.{earliest_deadline}
-use Rattle.enip_devicer.specs.Rounds.{earliest_of, is_ready, moment_or_none}
-use Rattle.enip_devicer.proofs.RoundLemmas.{due_ready, due_moment, earliest_after}
-use Rattle.enip_devicer.proofs.peers.Peers.round_asking.Goals as goal
+use Rattle.enip_server.specs.Rounds.{earliest_of, is_ready, moment_or_none}
+use Rattle.enip_server.proofs.RoundLemmas.{due_ready, due_moment, earliest_after}
+use Rattle.enip_server.proofs.peers.Peers.round_asking.Goals as goal
 
 pub returns-clause-ready : goal.returns-clause-ready
 returns-clause-ready g c =

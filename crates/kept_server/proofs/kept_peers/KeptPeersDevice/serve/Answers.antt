@@ -1,7 +1,7 @@
 use Rattle.std.proofs.Common.{◌≡◌, refl, sym, ap, ◌∙◌}
 use Rattle.enip_adapter.specs.Calls.{AdapterState}
 use Rattle.enip_keep.specs.Kept.{Kept, pairs_of}
-use Rattle.enip_devicer.specs.Rounds.{state_of}
+use Rattle.enip_server.specs.Rounds.{state_of}
 use Rattle.kept_server.specs.Changes.{newest}
 use Rattle.kept_server.proofs.RoundLemmas.{same_contents}
 use Rattle.kept_server.proofs.kept_peers.KeptPeersDevice.serve.Goals as goal
