@@ -186,36 +186,17 @@ impl<'a> Inspection<'a, '_> {
         shows_refusals: bool,
         lines: &mut String,
     ) -> Result<(), CommandError<'a>> {
+        let alloc = self.rt.alloc();
         let refused = self.ask(path)?;
+        let reply = self.session.reply();
         let is_refused = refused.is_some()
-            || matches!(ReplyView::read(self.session.reply()), Ok(view) if view.status != 0);
+            || matches!(ReplyView::read(reply), Ok(view) if view.status != 0);
         if is_refused && !shows_refusals {
             return Ok(());
         }
-        let text = self.shown(refused, value_type)?;
-        let value = str::from_utf8(text.as_slice()).unwrap_or("").trim_end();
-        let line = if self.device.style.is_json {
-            let comma = if lines.is_empty() { "" } else { "," };
-            format!(in self.rt.alloc(); "{comma}\"{name}\":{value}")?
-        } else {
-            format!(in self.rt.alloc(); "  {name}: {value}\n")?
-        };
-        lines.push_str(line.as_str())?;
-        Ok(())
-    }
-
-    /// The last reply, or the refusal of a router, as it is printed.
-    fn shown(
-        &self,
-        refused: Option<(u8, u16)>,
-        value_type: Option<ValueType>,
-    ) -> Result<Vec<u8>, CommandError<'a>> {
-        let alloc = self.rt.alloc();
-        let reply = self.session.reply();
-        let is_json = self.device.style.is_json;
         let style = Style {
             value_type,
-            is_json,
+            is_json: self.device.style.is_json,
         };
         let mut text = Vec::new(alloc);
         let mut shown = match refused {
@@ -225,13 +206,24 @@ impl<'a> Inspection<'a, '_> {
         if let Err(RequestFailure::Shape(..)) = shown {
             // the device has the attribute in another form
             text.clear();
-            let digits = Style { is_json, ..DIGITS };
+            let digits = Style {
+                is_json: style.is_json,
+                ..DIGITS
+            };
             shown = show_reply(alloc, &mut text, digits, reply);
         }
-        match shown {
-            Ok(_) => Ok(text),
-            Err(failure) => Err(error_of_failure(failure, self.device.address, None)),
+        if let Err(failure) = shown {
+            return Err(error_of_failure(failure, self.device.address, None));
         }
+        let value = str::from_utf8(text.as_slice()).unwrap_or("").trim_end();
+        let line = if style.is_json {
+            let comma = if lines.is_empty() { "" } else { "," };
+            format!(in alloc; "{comma}\"{name}\":{value}")?
+        } else {
+            format!(in alloc; "  {name}: {value}\n")?
+        };
+        lines.push_str(line.as_str())?;
+        Ok(())
     }
 
     /// Adds an object with these lines to the report, if there are any.
