@@ -172,10 +172,12 @@ impl<C: Clock> Source for SocketSource<'_, C> {
     }
 }
 
-/// The writing side of a connection.
+/// The writing side of a connection. The first write of a frame gets the whole frame, and each further one the rest.
 #[derive(Drop)]
 pub struct SocketSink<'a> {
     stream: &'a TcpStream,
+    frames: u64,
+    unwritten: usize,
     failures: u64,
     fault: Option<StreamFault>,
 }
@@ -187,9 +189,16 @@ impl<'a> SocketSink<'a> {
     {
         SocketSink {
             stream,
+            frames: 0,
+            unwritten: 0,
             failures: 0,
             fault: None,
         }
+    }
+
+    /// How many frames were passed to the system, the last one maybe in part.
+    pub(crate) fn frames(&self) -> u64 {
+        self.frames
     }
 
     /// Why the last write failed, if it did.
@@ -204,9 +213,15 @@ impl Sink for SocketSink<'_> {
     ghost failures = { λ s. s.failures };
 
     fn write(&mut self, from: &[u8]) -> Result<usize, Failed> {
+        if self.unwritten == 0 {
+            self.frames = self.frames.saturating_add(1);
+        }
         let mut stream = self.stream;
         let error = match write_some(&mut stream, from) {
-            Ok(count) if count > 0 || from.is_empty() => return Ok(count),
+            Ok(count) if count > 0 || from.is_empty() => {
+                self.unwritten = from.len().saturating_sub(count);
+                return Ok(count);
+            }
             Ok(_) => io::Error::from(ErrorKind::WriteZero),
             Err(error) => error,
         };

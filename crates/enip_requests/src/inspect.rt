@@ -126,7 +126,7 @@ impl<'a> Inspection<'a, '_> {
                 attribute: Some(*number),
                 member: None,
             };
-            self.read_attribute(path, *name, form.value_type(), &mut lines)?;
+            self.read_attribute(path, *name, form.value_type(), self.is_verbose, &mut lines)?;
         }
         self.add_object(object.name, lines.as_str())
     }
@@ -145,11 +145,7 @@ impl<'a> Inspection<'a, '_> {
                 attribute: Some(DATA),
                 member: None,
             };
-            let is_verbose = self.is_verbose;
-            self.is_verbose = false;
-            let read = self.read_attribute(path, "data", None, &mut lines);
-            self.is_verbose = is_verbose;
-            read?;
+            self.read_attribute(path, "data", None, false, &mut lines)?;
             let name = format!(in self.rt.alloc(); "assembly {instance}")?;
             self.add_object(name.as_str(), lines.as_str())?;
         }
@@ -177,12 +173,13 @@ impl<'a> Inspection<'a, '_> {
     }
 
     /// Reads an attribute, and adds a line with its name and value. One that the device refuses is left out, unless
-    /// refusals are printed.
+    /// `shows_refusals` is set.
     fn read_attribute(
         &mut self,
         path: Path,
         name: &str,
         value_type: Option<ValueType>,
+        shows_refusals: bool,
         lines: &mut String,
     ) -> Result<(), CommandError<'a>> {
         let alloc = self.rt.alloc();
@@ -190,7 +187,7 @@ impl<'a> Inspection<'a, '_> {
         let reply = self.session.reply();
         let is_refused = refused.is_some()
             || matches!(ReplyView::read(reply), Ok(view) if view.status != 0);
-        if is_refused && !self.is_verbose {
+        if is_refused && !shows_refusals {
             return Ok(());
         }
         let style = Style {

@@ -14,7 +14,7 @@ use clap::ArgMatches;
 use enip_client::ClientFault;
 use enip_commands::{
     DIGITS, DeviceRequest, DeviceSession, ReplyOutcome, RequestFailure, Style, TypedRequest, WANTS,
-    show_refusal, show_reply,
+    exchange_with, show_refusal, show_reply,
 };
 use enip_common::{
     ArgumentError, CLOCK, CommandError, ErrorKeeping, Fault, HostPort, Note, NumberArgument,
@@ -77,6 +77,11 @@ impl<'a> Device<'a> {
         })
     }
 
+    /// How many frames are sent before the request: RegisterSession, and the opening of a connection.
+    fn frames_before(self) -> u64 {
+        if self.connected { 2 } else { 1 }
+    }
+
     /// The outcome of a reply that is not printed on standard output: with `--quiet` a refusal, and `ok`.
     pub(crate) fn quiet_outcome(self, reply: &[u8]) -> Option<ReplyOutcome> {
         if !self.is_quiet {
@@ -130,13 +135,15 @@ impl<'a: 'm, 'm> Request<'a, 'm> {
         })
     }
 
-    /// The error, with what is known of the request. Only a request that changes the device has that.
-    fn noted(self, error: CommandError<'a>, is_sent: bool) -> CommandError<'a> {
+    /// The error, with what is known of the request after this many frames and with this reply, if one arrived. Only a
+    /// request that changes the device has that.
+    fn noted(self, error: CommandError<'a>, frames: u64, reply: &[u8]) -> CommandError<'a> {
+        let is_unanswered = frames > self.device.frames_before() && reply.is_empty();
         let is_read = matches!(
             self.service,
             GET_ATTRIBUTES_ALL | GET_ATTRIBUTE_SINGLE | GET_MEMBER
         );
-        if is_sent && !is_read && error.may_pass() {
+        if is_unanswered && !is_read && error.may_pass() {
             error.with_note(Note::NoReply)
         } else {
             error
@@ -273,63 +280,56 @@ fn exchange<'a>(
     let stream = address.connect(rt, device.timeout)?;
     let mut source = SocketSource::new(&stream, rt, start, device.timeout);
     let mut sink = SocketSink::new(&stream);
-    let begun = DeviceSession::begin_with(
-        rt.alloc(),
-        &wants,
-        &mut source,
-        &mut sink,
-        route,
-        device.connected,
-    );
-    let exchanged = match begun {
-        Ok(mut session) => exchange_in(
-            rt,
-            &mut session,
+    let exchanged = if device.tries == 1 {
+        exchange_with(
+            rt.alloc(),
+            &wants,
             &mut source,
             &mut sink,
-            device,
+            &route,
             bytes,
+            device.connected,
             reply,
-        ),
-        Err(failure) => Err((failure, false)),
+        )
+    } else {
+        let begun = DeviceSession::begin_with(
+            rt.alloc(),
+            &wants,
+            &mut source,
+            &mut sink,
+            route,
+            device.connected,
+        );
+        exchange_in(rt, begun, &mut source, &mut sink, device, bytes, reply)
     };
     match exchanged {
         Ok(()) => Ok(None),
-        Err((RequestFailure::Client(ClientFault::Refused(status, extended)), _)) => {
+        Err(RequestFailure::Client(ClientFault::Refused(status, extended))) => {
             Ok(Some(ReplyOutcome::Refused(status, extended)))
         }
-        Err((failure, is_sent)) => {
-            let network = match source.fault().or(sink.fault()) {
-                Some(fault) => Some(fault.reason(device.address, device.timeout)),
-                None => None,
-            };
-            let error = error_of_failure(failure, device.address, network);
-            Err(request.noted(error, is_sent))
+        Err(failure) => {
+            let error = error_in_session(device, failure, &source, &sink);
+            Err(request.noted(error, sink.frames(), reply.as_slice()))
         }
     }
 }
 
-/// Sends the request in a session, ends the session, and keeps the reply. An error says whether the request may have been
-/// sent.
+/// Sends the request in a new session, and again on the connection after each timeout. Ends the session, and keeps the
+/// reply.
 fn exchange_in<C: Clock>(
     clock: &C,
-    session: &mut DeviceSession,
+    begun: Result<DeviceSession, RequestFailure>,
     source: &mut SocketSource<'_, C>,
     sink: &mut SocketSink<'_>,
     device: Device<'_>,
     bytes: &[u8],
     reply: &mut ReplyBuf,
-) -> Result<(), (RequestFailure, bool)> {
-    match ask(clock, session, source, sink, device, bytes) {
-        Ok(()) => {}
-        Err(failure) => return Err((failure, true)),
-    }
+) -> Result<(), RequestFailure> {
+    let mut session = begun?;
+    ask(clock, &mut session, source, sink, device, bytes)?;
     reply.clear();
     let _ = reply.try_extend_from_slice(session.reply());
-    match session.end(source, sink) {
-        Ok(()) => Ok(()),
-        Err(failure) => Err((failure, false)),
-    }
+    session.end(source, sink)
 }
 
 /// Sends a request in a session, and again on the connection after each timeout, up to the number of tries.
