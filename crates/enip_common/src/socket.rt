@@ -197,7 +197,7 @@ impl<'a> SocketSink<'a> {
     }
 
     /// How many frames were passed to the system, the last one maybe in part.
-    pub(crate) fn frames(&self) -> u64 {
+    pub fn frames(&self) -> u64 {
         self.frames
     }
 
