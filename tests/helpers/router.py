@@ -106,9 +106,9 @@ def refusal(service, refused):
 class Router(threading.Thread):
     """A node that is reached over TCP. It also opens connections to the nodes behind it."""
 
-    def __init__(self, node):
+    def __init__(self, node, port=0):
         super().__init__(daemon=True)
-        self.node, self.listener = node, socket.create_server(("127.0.0.1", 0))
+        self.node, self.listener = node, socket.create_server(("127.0.0.1", port))
         self.at = "127.0.0.1:%d" % self.listener.getsockname()[1]
         self.start()
 
