@@ -1,5 +1,7 @@
 //! Arguments that `clap` accepts and a command refuses.
 
+ghost use Rattle.std.specs.Prelude.{◌≡◌};
+
 use cip_names::Name;
 use cip_route::RouteFault;
 use cip_values::ValueType;
@@ -125,7 +127,9 @@ fn write_names<W: fmt::Write>(
 pub const ARGUMENTS_REFUSED: u8 = 2;
 
 /// Prints why an argument is refused. Returns the exit status.
-pub fn print_argument_error(rt: &HostRuntime, error: ArgumentError<'_>) -> u8 {
+pub fn print_argument_error(rt: &HostRuntime, error: ArgumentError<'_>) -> u8
+    ensures { result ≡ 2 }
+{
     let _ = eprintln!(rt; "error: {error}\n\nFor more information, try '--help'.");
     ARGUMENTS_REFUSED
 }

@@ -1,6 +1,6 @@
 //! Streams of the program that keep their last error.
 
-ghost use Rattle.std.specs.Prelude.{None};
+ghost use Rattle.std.specs.Prelude.{◌≡◌, None};
 
 use crate::reason::{Reason, SystemError};
 use crate::retry::read_some;
@@ -14,7 +14,11 @@ pub struct ErrorKeeping<S> {
 }
 
 impl<S> ErrorKeeping<S> {
-    pub fn new(stream: S) -> ErrorKeeping<S> {
+    /// The stream, which has not failed.
+    pub fn new(stream: S) -> ErrorKeeping<S>
+        ensures stream { result.stream ≡ stream }
+        ensures error { result.last_error ≡ None }
+    {
         ErrorKeeping {
             stream,
             last_error: None,

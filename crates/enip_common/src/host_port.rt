@@ -1,5 +1,7 @@
 //! The address of a device as an argument gives it, and the timeout of a client.
 
+ghost use Rattle.std.specs.Prelude.{◌≡◌};
+
 use crate::argument_error::{ArgumentError, parse_seconds};
 use crate::reason::{CLOCK, CommandError, Reason, SystemError};
 use clap::ArgMatches;
@@ -31,12 +33,16 @@ impl<'a> HostPort<'a> {
     }
 
     /// The argument, for messages.
-    pub fn text(self) -> &'a str {
+    pub fn text(self) -> &'a str
+        ensures { result ≡ self.text }
+    {
         self.text
     }
 
     /// The port, 0 for any.
-    pub fn port(self) -> u16 {
+    pub fn port(self) -> u16
+        ensures { result ≡ self.port }
+    {
         self.port
     }
 
@@ -231,7 +237,9 @@ impl<'a> Timeout<'a> {
     }
 
     /// How long a read may take. `None` is no limit.
-    pub fn limit(self) -> Option<Duration> {
+    pub fn limit(self) -> Option<Duration>
+        ensures { result ≡ self.limit }
+    {
         self.limit
     }
 

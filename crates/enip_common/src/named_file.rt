@@ -1,5 +1,7 @@
 //! Files that arguments name, and why one is refused.
 
+ghost use Rattle.std.specs.Prelude.{◌≡◌};
+
 use crate::INPUT;
 use crate::fault::Fault;
 use crate::owner::owner_need;
@@ -78,7 +80,9 @@ impl<'a> NamedFile<'a> {
     }
 
     /// The name as the argument gives it.
-    pub fn name(&self) -> &'a str {
+    pub fn name(&self) -> &'a str
+        ensures { result ≡ self.now.name }
+    {
         self.name
     }
 

@@ -1,5 +1,7 @@
 //! Numbers and names in arguments: decimal, hexadecimal, or a name of a table.
 
+ghost use Rattle.std.specs.Prelude.{◌≡◌, ◌≤◌, ◌-◌, ◌^◌, min, IfOk, IfSome};
+
 use crate::argument_error::{ArgumentError, Choices};
 use cip_message::Path;
 use cip_names::{
@@ -105,7 +107,9 @@ impl NumberArgument {
     };
 
     /// The number that the arguments give, or `None` if they leave it out and there is no default.
-    pub fn value<'a>(self, matches: &ArgMatches<'a>) -> Result<Option<u64>, ArgumentError<'a>> {
+    pub fn value<'a>(self, matches: &ArgMatches<'a>) -> Result<Option<u64>, ArgumentError<'a>>
+        ensures { IfOk result (λ given. IfSome given (λ n. (self.least ≤ n) × (n ≤ self.most))) }
+    {
         let Some(text) = matches.get_str(self.id) else {
             return Ok(None);
         };
@@ -206,11 +210,15 @@ fn unnamed<'a>(
 }
 
 /// A number that was read up to 65,535.
-pub fn u16_of(number: u64) -> u16 {
+pub fn u16_of(number: u64) -> u16
+    ensures { result ≡ min number (2 ^ 16 - 1) }
+{
     u16::try_from(number).unwrap_or(u16::MAX)
 }
 
 /// A number that was read up to 4,294,967,295.
-pub fn u32_of(number: u64) -> u32 {
+pub fn u32_of(number: u64) -> u32
+    ensures { result ≡ min number (2 ^ 32 - 1) }
+{
     u32::try_from(number).unwrap_or(u32::MAX)
 }

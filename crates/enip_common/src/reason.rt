@@ -1,5 +1,8 @@
 //! Why a command fails, as text for people. It comes before the line that goes with the exit status.
 
+ghost use Rattle.std.specs.Prelude.{◌≡◌, Some};
+ghost use Rattle.enip_common.specs.Statuses.{exit_status};
+
 use crate::fault::Fault;
 use crate::owner::OwnerNeed;
 use cip_bytes::StatusText;
@@ -251,7 +254,11 @@ pub struct CommandError<'a> {
 }
 
 impl<'a> CommandError<'a> {
-    pub fn new(fault: Fault, reason: Reason<'a>) -> CommandError<'a> {
+    /// An error with this fault and this reason.
+    pub fn new(fault: Fault, reason: Reason<'a>) -> CommandError<'a>
+        ensures fault { result.fault ≡ fault }
+        ensures reason { result.reason ≡ reason }
+    {
         CommandError {
             fault,
             reason,
@@ -260,7 +267,10 @@ impl<'a> CommandError<'a> {
     }
 
     /// The same error, with what became of the command.
-    pub fn with_note(self, note: Note) -> CommandError<'a> {
+    pub fn with_note(self, note: Note) -> CommandError<'a>
+        ensures fault { result.fault ≡ self.fault }
+        ensures note { result.note ≡ Some note }
+    {
         CommandError {
             note: Some(note),
             ..self
@@ -290,24 +300,34 @@ impl<'a> CommandError<'a> {
     }
 
     /// A file, a stream or a device failed for this reason.
-    pub fn of_reason(reason: Reason<'a>) -> CommandError<'a> {
+    pub fn of_reason(reason: Reason<'a>) -> CommandError<'a>
+        ensures status { exit_status result.fault ≡ 5 }
+        ensures reason { result.reason ≡ reason }
+    {
         CommandError::new(Fault::Run(enip_commands::ProgramFault::Device), reason)
     }
 
     /// Memory was refused.
-    pub fn of_memory() -> CommandError<'a> {
+    pub fn of_memory() -> CommandError<'a>
+        ensures { exit_status result.fault ≡ 5 }
+    {
         CommandError::new(
             Fault::Run(enip_commands::ProgramFault::Memory),
             Reason::Memory,
         )
     }
 
-    pub fn into_reason(self) -> Reason<'a> {
+    /// Why the command ended early.
+    pub fn into_reason(self) -> Reason<'a>
+        ensures { result ≡ self.reason }
+    {
         self.reason
     }
 
     /// Prints both lines on standard error. Returns the exit status.
-    pub fn print<E: Eprint>(self, rt: &E) -> u8 {
+    pub fn print<E: Eprint>(self, rt: &E) -> u8
+        ensures { result ≡ exit_status self.fault }
+    {
         match self.note {
             Some(note) => {
                 let _ = eprintln!(rt; "enip: {}; {note}", self.reason);

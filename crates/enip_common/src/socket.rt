@@ -70,7 +70,9 @@ impl<'a, C: Clock> SocketSource<'a, C> {
     }
 
     /// Why the last read gave nothing, if it did.
-    pub fn fault(&self) -> Option<StreamFault> {
+    pub fn fault(&self) -> Option<StreamFault>
+        ensures { result ≡ self.now.fault }
+    {
         self.fault
     }
 
@@ -197,12 +199,16 @@ impl<'a> SocketSink<'a> {
     }
 
     /// How many frames were passed to the system, the last one maybe in part.
-    pub fn frames(&self) -> u64 {
+    pub fn frames(&self) -> u64
+        ensures { result ≡ self.now.frames }
+    {
         self.frames
     }
 
     /// Why the last write failed, if it did.
-    pub fn fault(&self) -> Option<StreamFault> {
+    pub fn fault(&self) -> Option<StreamFault>
+        ensures { result ≡ self.now.fault }
+    {
         self.fault
     }
 }
