@@ -8,8 +8,8 @@ use crate::texts::{
     COUNT_DETAILS, DATA_DETAILS, DEADLINE_DETAILS, EVERY_DETAILS, KEEP_DETAILS, KEPT_FILE_DETAILS,
     MEMBER_DETAILS, MULTIPLIER_DETAILS, ONCE_DETAILS, ORIGINATOR_SERIAL_DETAILS, PENDING_DETAILS,
     PRINTED_TYPE_DETAILS, QUIET_DETAILS, READ_MULTIPLIER_DETAILS, READ_TRIES_DETAILS,
-    REPLY_TYPE_DETAILS, ROUTE_DETAILS, RPI_DETAILS, SESSION_MULTIPLIER_DETAILS, SIZE_DETAILS,
-    TRIES_DETAILS, WAIT_DETAILS, WRITTEN_TYPE_DETAILS,
+    REPLY_TYPE_DETAILS, ROUTE_DETAILS, RPI_DETAILS, SERVED_ADDRESS_DETAILS,
+    SESSION_MULTIPLIER_DETAILS, SIZE_DETAILS, TRIES_DETAILS, WAIT_DETAILS, WRITTEN_TYPE_DETAILS,
 };
 use clap::{Arg, ArgAction};
 use std::alloc::{AllocError, Global};
@@ -20,6 +20,7 @@ pub(crate) enum Argument {
     Config,
     CheckedConfig,
     Example,
+    ServedAddress,
     Script,
     Ladder,
     ListenAddress,
@@ -92,6 +93,7 @@ impl Argument {
             Argument::Config => config(alloc).required(true),
             Argument::CheckedConfig => config(alloc).required_unless_present("example")?,
             Argument::Example => example(alloc)?,
+            Argument::ServedAddress => served_address(alloc),
             Argument::Script => script(alloc),
             Argument::Ladder => ladder(alloc),
             Argument::ListenAddress => listen_address(alloc),
@@ -171,7 +173,16 @@ fn example<'a>(alloc: Global) -> Result<Arg<'a>, AllocError> {
         .action(ArgAction::SetTrue)
         .help("Print a configuration with every key, with comments")
         .conflicts_with("CONFIG")?
-        .conflicts_with("keep")
+        .conflicts_with("keep")?
+        .conflicts_with("address")
+}
+
+fn served_address<'a>(alloc: Global) -> Arg<'a> {
+    Arg::new(alloc, "address")
+        .long("address")
+        .value_name("ADDRESS")
+        .help("Warn if discovery reports another address than this one")
+        .long_help(SERVED_ADDRESS_DETAILS)
 }
 
 fn script<'a>(alloc: Global) -> Arg<'a> {

@@ -60,6 +60,7 @@ static COMMANDS: [Row; 14] = [
         arguments: &[
             Argument::CheckedConfig,
             Argument::KeptFile,
+            Argument::ServedAddress,
             Argument::Example,
         ],
     },

@@ -11,6 +11,7 @@ use answer::answer;
 use checking::print_device;
 use clap::ArgMatches;
 use clap::error::ErrorKind;
+use enip_adapter::Listen;
 use enip_cli::{OsArg, PROGRAM, arguments_after, os_args, program, reserve_streams};
 use enip_client::ListCommand;
 use enip_common::{
@@ -18,7 +19,7 @@ use enip_common::{
     Reason, error_of_run, is_input, print_argument_error,
 };
 use enip_config::EXAMPLE;
-use enip_device::{print_kept_values, run_serve};
+use enip_device::{print_kept_values, run_serve, warn_of_address};
 use enip_requests::{
     Query, is_help_of_objects, run_batch, run_call, run_get, run_help_of_objects, run_inspect,
     run_query, run_set, run_watch,
@@ -156,6 +157,13 @@ fn run_check<'a>(
     print_device(rt.alloc(), &configuration, rt.stdout()).map_err(|error| CommandError::of_system(
         OUTPUT, error,
     ))?;
+    if let Some(address) = matches.get_str("address") {
+        let listen = Listen {
+            address: configuration.address,
+            port: configuration.port,
+        };
+        warn_of_address(rt, config.name(), listen, address)?;
+    }
     if let Some(file) = matches.get_str("keep") {
         print_kept_values(rt, args, &config, file)?;
     }

@@ -55,6 +55,14 @@ impl<'a> HostPort<'a> {
         }
     }
 
+    /// The first address of the host, with the port.
+    pub fn first_address(self, rt: &HostRuntime) -> Result<SocketAddr, CommandError<'a>> {
+        for address in self.addresses(rt)? {
+            return Ok(address);
+        }
+        Err(CommandError::of_reason(Reason::NoHost(self.text)))
+    }
+
     /// Listens at the first address of the host at which that is possible.
     pub fn bind(self, rt: &HostRuntime) -> Result<TcpListener, CommandError<'a>> {
         let mut last = CommandError::of_reason(Reason::NoHost(self.text));

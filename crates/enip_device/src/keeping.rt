@@ -7,8 +7,8 @@ ghost use Rattle.kept_server.specs.Rounds.{kept_of};
 use crate::serving::Serving;
 use arrayvec::ArrayVec;
 use enip_adapter::DiscoveryBuffer;
-use enip_server::{RoundEnd, Wire};
 use enip_keep::{Device, KeepError, Keeper, Server};
+use enip_server::{RoundEnd, Wire};
 use kept_server::{KeptDevice, KeptPeers, MOST_READY, ReadyWire, RoundInput};
 
 /// The peers of a device whose state is kept, and what the next round gets.

@@ -23,4 +23,4 @@ mod serve_command;
 mod serving;
 mod wire;
 
-pub use serve_command::{print_kept_values, run_serve};
+pub use serve_command::{print_kept_values, run_serve, warn_of_address};

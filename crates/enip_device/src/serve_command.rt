@@ -19,8 +19,8 @@ use enip_common::{
     Reason, print_argument_error, u16_of,
 };
 use enip_config::Configuration;
-use enip_server::{NO_IDLE_TIMEOUT, Peers, Wire};
 use enip_keep::{KeepError, Keeper, Server};
+use enip_server::{NO_IDLE_TIMEOUT, Peers, Wire};
 use kept_adapter::{AdapterStart, LedgerStart};
 use kept_server::KeptDevice;
 use mio::net::UdpSocket;
@@ -356,6 +356,21 @@ fn print_listening(
         Some(warning) => eprintln!(rt; "{warning}"),
         None => Ok(()),
     }
+}
+
+/// Prints a warning if discovery reports a device of this configuration elsewhere than where it is to be served.
+pub fn warn_of_address<'a>(
+    rt: &HostRuntime,
+    config: &'a str,
+    listen: Listen,
+    address: &'a str,
+) -> Result<(), CommandError<'a>> {
+    let address = HostPort::parse(address)?;
+    let bound = address.first_address(rt)?;
+    if let Some(warning) = (ReportedAddress { config, listen }).warning(address.port(), bound) {
+        let _ = eprintln!(rt; "{warning}");
+    }
+    Ok(())
 }
 
 /// The idle timeout of so many seconds, in microseconds. 0 is no limit.

@@ -3,8 +3,8 @@
 ghost use Rattle.std.specs.Prelude.{⊤};
 
 use enip_adapter::DiscoveryBuffer;
-use enip_server::{Peers, RoundEnd, Wire};
 use enip_keep::KeepError;
+use enip_server::{Peers, RoundEnd, Wire};
 use std::io;
 
 /// Why a device is not served any longer.
