@@ -11,6 +11,7 @@ mod discovery;
 mod error_keeping;
 pub mod fault;
 mod file_identity;
+mod found_devices;
 mod frame_log;
 mod frame_summary;
 mod host_port;
@@ -59,6 +60,7 @@ use enip_config::EXAMPLE;
 use error_keeping::ErrorKeeping;
 use fault::Fault;
 use host_port::Timeout;
+use found_devices::DeviceForm;
 use inspect::run_inspect;
 use listing::{run_discovery, run_list};
 use named_file::{NamedFile, error_of_run, is_input};
@@ -232,7 +234,18 @@ fn run_query<'a>(
     let address = matches.get_str("ADDRESS").unwrap_or("");
     match query {
         Query::List(command) => run_list(rt, command, is_json, address, timeout),
-        Query::Discovery => run_discovery(rt, is_json, address, timeout),
+        Query::Discovery => {
+            let is_verbose = matches.get_flag("verbose");
+            run_discovery(
+                rt,
+                DeviceForm {
+                    is_json,
+                    is_verbose,
+                },
+                address,
+                timeout,
+            )
+        }
     }
 }
 
