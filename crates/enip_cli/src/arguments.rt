@@ -54,6 +54,7 @@ pub(crate) enum Argument {
     AllReplies,
     Stop,
     Verbose,
+    Sources,
     WatchedRequest,
     Rounds,
     RoundInterval,
@@ -135,6 +136,7 @@ impl Argument {
             Argument::Rounds => rounds(alloc),
             Argument::RoundInterval => round_interval(alloc),
             Argument::Connected => connected(alloc),
+            Argument::Sources => sources(alloc),
             Argument::Route => route(alloc),
             Argument::ConnectionSerial => connection_serial(alloc)?,
             Argument::OriginatorSerial => originator_serial(alloc)?,
@@ -418,6 +420,13 @@ fn watched_request<'a>(alloc: Global) -> Arg<'a> {
         "Attribute to read: the arguments of `enip get`, in quotes",
     )
 }
+fn sources<'a>(alloc: Global) -> Arg<'a> {
+    Arg::new(alloc, "verbose")
+        .long("verbose")
+        .action(ArgAction::SetTrue)
+        .help("Print where each answer came from, too")
+}
+
 
 fn rounds<'a>(alloc: Global) -> Arg<'a> {
     Arg::new(alloc, "count")

@@ -21,14 +21,14 @@ const VERSION: &str = "0.1.0";
 struct Row {
     name: &'static str,
     /// What it does, in a line.
-    about: &'static str,
+    pub(crate) about: &'static str,
     /// The usage, if it is not that of the arguments.
-    usage: Option<&'static str>,
+    pub(crate) usage: Option<&'static str>,
     /// The end of its help under `-h`.
-    examples: &'static str,
+    pub(crate) examples: &'static str,
     /// The end of its help under `--help`.
-    details: &'static str,
-    arguments: &'static [Argument],
+    pub(crate) details: &'static str,
+    pub(crate) arguments: &'static [Argument],
 }
 
 /// The commands in the order in which the help lists them.
@@ -251,6 +251,7 @@ static COMMANDS: [Row; 14] = [
         ],
     },
     Row {
+            Argument::Sources,
         name: "services",
         about: "Print the encapsulation services that a device offers",
         usage: None,

@@ -390,6 +390,11 @@ answers in time:
 A datagram that is not a whole answer is ignored. With --json, each device is
 one object on one line. The exit status is 0 even if no device answers.
 
+With --verbose, ` from ADDRESS` ends each line: the address and the port that
+the answer came from. Warnings on standard error say if an answer came from
+another address than the device reports, or if two devices report the same
+address or serial number.
+
 Examples:
   enip discover
   enip discover 192.168.1.255 --timeout 3

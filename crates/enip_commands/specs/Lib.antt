@@ -7,6 +7,8 @@ pub mod Asking
 pub mod Listing
 pub mod Styles
 pub mod Identities
+pub mod Discovering
+pub mod Interfaces
 pub mod Readings
 pub mod Json
 pub mod CommandFiles

@@ -9,7 +9,9 @@
 //!   [`read_commander`] and [`write_commander`] keep a commander in a file, [`read_life`] and [`begin_once`] say what is
 //!   sent, and a [`LedgerRefusal`] what a refusal means.
 //! - [`list_over`] and [`identities_over`] ask a device for its identity or its services. [`print_devices`] and
-//!   [`print_device_objects`] print the answers to a broadcast.
+//!   [`print_device_objects`] print the answers to a broadcast, [`print_answer`] and [`print_answer_object`] with the
+//!   address that each came from. A [`DiscoveryAnswer`] is compared with others.
+//! - An [`InterfaceConfiguration`] is printed as lines or, by [`interface_object`], as JSON.
 //!
 //! A command over lines is built from [`TakeLines`], [`read_lines`], [`decode`], [`decimal`] and [`Digits`].
 //! `enip_replay` uses them for scripts.
@@ -26,10 +28,12 @@ mod answering;
 mod asking;
 mod command_file;
 mod digits;
+mod discovering;
 mod fault;
 mod hexadecimal;
 mod identities;
 mod input_lines;
+mod interface;
 mod json_text;
 mod line_fault;
 mod lines;
@@ -50,9 +54,11 @@ pub use asking::{
 };
 pub use command_file::{CommandFile, CommandFileFault, read_commander, write_commander};
 pub use digits::{Digits, decode};
+pub use discovering::{DiscoveryAnswer, Remarks, print_answer, print_answer_object};
 pub use fault::ProgramFault;
 pub use identities::{identities_over, print_device_objects};
 pub use input_lines::{TakeLines, read_lines};
+pub use interface::{InterfaceConfiguration, interface_object};
 pub use line_fault::LineFault;
 pub use lines::decimal;
 pub use listing::{list_over, print_devices};

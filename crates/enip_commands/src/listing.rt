@@ -41,7 +41,7 @@ impl fmt::Display for NameByte {
 
 /// A name, printed byte by byte.
 #[derive(Clone, Copy)]
-struct Name<'a>(&'a [u8]);
+pub(crate) struct Name<'a>(pub(crate) &'a [u8]);
 
 impl fmt::Display for Name<'_> {
     ghost use Rattle.enip_commands.specs.Listing.{name_text};
@@ -176,7 +176,7 @@ impl fmt::Display for EntryLines<'_> {
 
 /// A device on one line.
 #[derive(Clone, Copy)]
-struct DeviceLine<'a, 'b>(&'b IdentityView<'a>);
+pub(crate) struct DeviceLine<'a, 'b>(pub(crate) &'b IdentityView<'a>);
 
 impl fmt::Display for DeviceLine<'_, '_> {
     ghost use Rattle.enip_client.specs.Identity.{identity_in};

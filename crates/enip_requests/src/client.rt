@@ -1,5 +1,6 @@
 //! The commands that send one request: `get`, `set`, `call`, `identity`, `services` and `discover`.
 
+use crate::found_devices::DeviceForm;
 use crate::listing::{run_discovery, run_list};
 use crate::once::{OnceOptions, run_once};
 use crate::polling::{PollOptions, run_polling};
@@ -35,7 +36,14 @@ pub fn run_query<'a>(
     let address = matches.get_str("ADDRESS").unwrap_or("");
     match query {
         Query::List(command) => run_list(rt, command, is_json, address, timeout),
-        Query::Discovery => run_discovery(rt, is_json, address, timeout),
+        Query::Discovery => {
+            let is_verbose = matches.get_flag("verbose");
+            let form = DeviceForm {
+                is_json,
+                is_verbose,
+            };
+            run_discovery(rt, form, address, timeout)
+        }
     }
 }
 

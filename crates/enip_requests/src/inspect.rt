@@ -1,20 +1,20 @@
 //! `enip inspect`: reads what a device says of itself.
 
 use crate::GET_ATTRIBUTE_SINGLE;
-use crate::inspected::{INSPECTED, InspectedObject};
+use crate::inspected::{Form, INSPECTED, InspectedObject};
 use crate::request::{Device, ask, error_in_session, error_of_failure};
 use cip_message::{Path, ReplyView};
-use cip_values::ValueType;
 use clap::ArgMatches;
 use enip_client::ClientFault;
 use enip_commands::{
-    DIGITS, DeviceRequest, DeviceSession, LONG_LIVED, RequestFailure, Style, show_refusal,
-    show_reply,
+    DIGITS, DeviceRequest, DeviceSession, InterfaceConfiguration, LONG_LIVED, RequestFailure,
+    Style, interface_object, show_refusal, show_reply,
 };
 use enip_common::{
     ArgumentError, CLOCK, CommandError, ErrorKeeping, HostPort, OUTPUT, Reason, SocketSink,
     SocketSource, Timeout, print_argument_error,
 };
+use std::alloc::{AllocError, Global};
 use std::io::Write;
 use std::time::Instant;
 
@@ -126,7 +126,7 @@ impl<'a> Inspection<'a, '_> {
                 attribute: Some(*number),
                 member: None,
             };
-            self.read_attribute(path, *name, form.value_type(), self.is_verbose, &mut lines)?;
+            self.read_attribute(path, *name, *form, self.is_verbose, &mut lines)?;
         }
         self.add_object(object.name, lines.as_str())
     }
@@ -145,7 +145,7 @@ impl<'a> Inspection<'a, '_> {
                 attribute: Some(DATA),
                 member: None,
             };
-            self.read_attribute(path, "data", None, false, &mut lines)?;
+            self.read_attribute(path, "data", Form::Bytes, false, &mut lines)?;
             let name = format!(in self.rt.alloc(); "assembly {instance}")?;
             self.add_object(name.as_str(), lines.as_str())?;
         }
@@ -178,48 +178,74 @@ impl<'a> Inspection<'a, '_> {
         &mut self,
         path: Path,
         name: &str,
-        value_type: Option<ValueType>,
+        form: Form,
         shows_refusals: bool,
         lines: &mut String,
     ) -> Result<(), CommandError<'a>> {
         let alloc = self.rt.alloc();
         let refused = self.ask(path)?;
-        let reply = self.session.reply();
         let is_refused = refused.is_some()
-            || matches!(ReplyView::read(reply), Ok(view) if view.status != 0);
+            || matches!(ReplyView::read(self.session.reply()), Ok(view) if view.status != 0);
         if is_refused && !shows_refusals {
             return Ok(());
         }
-        let style = Style {
-            value_type,
-            is_json: self.device.style.is_json,
+        let text = match refused {
+            Some((status, extended)) => self.refusal_text(status, extended)?,
+            None => self.reply_text(form)?,
         };
-        let mut text = Vec::new(alloc);
-        let mut shown = match refused {
-            Some((status, extended)) => show_refusal(alloc, &mut text, style, status, extended),
-            None => show_reply(alloc, &mut text, style, reply),
-        };
-        if let Err(RequestFailure::Shape(..)) = shown {
-            // the device has the attribute in another form
-            text.clear();
-            let digits = Style {
-                is_json: style.is_json,
-                ..DIGITS
-            };
-            shown = show_reply(alloc, &mut text, digits, reply);
-        }
-        if let Err(failure) = shown {
-            return Err(error_of_failure(failure, self.device.address, None));
-        }
-        let value = str::from_utf8(text.as_slice()).unwrap_or("").trim_end();
-        let line = if style.is_json {
+        let value = text.as_str().trim_end();
+        let line = if self.device.style.is_json {
             let comma = if lines.is_empty() { "" } else { "," };
             format!(in alloc; "{comma}\"{name}\":{value}")?
+        } else if value.starts_with('\n') {
+            // the value has lines of its own
+            format!(in alloc; "  {name}:{value}\n")?
         } else {
             format!(in alloc; "  {name}: {value}\n")?
         };
         lines.push_str(line.as_str())?;
         Ok(())
+    }
+
+    /// What is printed of a refusal by a router.
+    fn refusal_text(&self, status: u8, extended: u16) -> Result<String, CommandError<'a>> {
+        let alloc = self.rt.alloc();
+        let style = Style {
+            is_json: self.device.style.is_json,
+            ..DIGITS
+        };
+        let mut text = Vec::new(alloc);
+        match show_refusal(alloc, &mut text, style, status, extended) {
+            Ok(_) => Ok(String::from_utf8_lossy(alloc, text.as_slice())?),
+            Err(failure) => Err(error_of_failure(failure, self.device.address, None)),
+        }
+    }
+
+    /// What is printed of the reply: its data in a form, or in hexadecimal if they have another one.
+    fn reply_text(&self, form: Form) -> Result<String, CommandError<'a>> {
+        let alloc = self.rt.alloc();
+        let (reply, is_json) = (self.session.reply(), self.device.style.is_json);
+        if let Form::InterfaceConfiguration = form {
+            if let Some(text) = interface_text(alloc, reply, is_json)? {
+                return Ok(text);
+            }
+        }
+        let style = Style {
+            value_type: form.value_type(),
+            is_json,
+        };
+        let mut text = Vec::new(alloc);
+        let mut shown = show_reply(alloc, &mut text, style, reply);
+        if let Err(RequestFailure::Shape(..)) = shown {
+            // the device has the attribute in another form
+            text.clear();
+            let digits = Style { is_json, ..DIGITS };
+            shown = show_reply(alloc, &mut text, digits, reply);
+        }
+        match shown {
+            Ok(_) => Ok(String::from_utf8_lossy(alloc, text.as_slice())?),
+            Err(failure) => Err(error_of_failure(failure, self.device.address, None)),
+        }
     }
 
     /// Adds an object with these lines to the report, if there are any.
@@ -259,6 +285,29 @@ impl<'a> Inspection<'a, '_> {
             Err(failure) => Err(error_in_session(device, failure, &self.source, &self.sink)),
         }
     }
+}
+
+/// What is printed of a reply with an interface configuration. `None` for another reply.
+fn interface_text(
+    alloc: Global,
+    reply: &[u8],
+    is_json: bool,
+) -> Result<Option<String>, AllocError> {
+    let Ok(view) = ReplyView::read(reply) else {
+        return Ok(None);
+    };
+    if view.status != 0 {
+        return Ok(None);
+    }
+    let Some(configuration) = InterfaceConfiguration::read(view.data) else {
+        return Ok(None);
+    };
+    let text = if is_json {
+        interface_object(alloc, view.data, &configuration)?
+    } else {
+        format!(in alloc; "{configuration}")?
+    };
+    Ok(Some(text))
 }
 
 /// The request that reads an attribute.

@@ -12,17 +12,19 @@ pub(crate) enum Form {
     One(ElementaryType),
     /// Values of a type, one after the other.
     List(ElementaryType),
+    /// The interface configuration of TCP/IP Interface.
+    InterfaceConfiguration,
     /// Bytes, which are printed in hexadecimal.
     Bytes,
 }
 
 impl Form {
-    /// The type of the value. `None` if it is printed in hexadecimal.
+    /// The type of the value. `None` if it has none.
     pub(crate) fn value_type(self) -> Option<ValueType> {
         let (element, is_list) = match self {
             Form::One(element) => (element, false),
             Form::List(element) => (element, true),
-            Form::Bytes => return None,
+            Form::InterfaceConfiguration | Form::Bytes => return None,
         };
         Some(ValueType { element, is_list })
     }
@@ -89,7 +91,7 @@ pub(crate) static INSPECTED: [InspectedObject; 7] = [
                 Form::One(ElementaryType::Dword),
             ),
             (3, "configuration-control", Form::One(ElementaryType::Dword)),
-            (5, "interface-configuration", Form::Bytes),
+            (5, "interface-configuration", Form::InterfaceConfiguration),
             (6, "host-name", Form::One(ElementaryType::String)),
             (13, "inactivity-timeout", Form::One(ElementaryType::Uint)),
         ],

@@ -8,6 +8,7 @@
 mod batch;
 mod client;
 mod connection_options;
+mod found_devices;
 mod inspect;
 mod inspected;
 mod line_request;

@@ -2,16 +2,15 @@
 
 ghost use Rattle.std.specs.Prelude.{◌≤◌, length, IfOk, IfSome};
 
+use crate::found_devices::{DeviceForm, FoundDevices};
 use crate::request::reason_of_client;
-use enip_client::{ListCommand, Sent, write_list};
-use enip_commands::{
-    RequestFailure, identities_over, list_over, print_device_objects, print_devices,
-};
+use enip_client::ListCommand;
+use enip_commands::{RequestFailure, identities_over, list_over};
 use enip_common::{
     CLOCK, CommandError, ErrorKeeping, Fault, HostPort, Reason, SocketSink, SocketSource, Timeout,
 };
 use std::io::{ErrorKind, Write};
-use std::net::UdpSocket;
+use std::net::{SocketAddr, UdpSocket};
 use std::time::Instant;
 
 /// More bytes than a datagram can have, so that none is cut off.
@@ -70,7 +69,7 @@ fn error_of_failure<'a>(failure: RequestFailure, stream_reason: Reason<'a>) -> C
 /// Sends one ListIdentity as a datagram, and prints the devices that answer within the timeout. Returns the exit status.
 pub(crate) fn run_discovery<'a>(
     rt: &HostRuntime,
-    is_json: bool,
+    form: DeviceForm,
     address: &'a str,
     timeout: Timeout<'a>,
 ) -> Result<u8, CommandError<'a>> {
@@ -79,17 +78,17 @@ pub(crate) fn run_discovery<'a>(
     let start = Instant::now(rt).map_err(|error| CommandError::of_system(CLOCK, error))?;
     let mut buffer = Vec::from_elem(rt.alloc(), 0, DATAGRAM_CAPACITY)?;
     let mut output = ErrorKeeping::new(rt.stdout());
+    let mut found = FoundDevices::new(rt.alloc(), form);
     for _ in 0..MAX_DATAGRAMS {
-        let Some(size) = next_datagram(rt, &socket, target, timeout, start, &mut buffer)? else {
+        let Some((size, source)) = next_datagram(rt, &socket, target, timeout, start, &mut buffer)?
+        else {
             break;
         };
-        let datagram = &buffer[..size];
-        let printed = if is_json {
-            print_device_objects(rt.alloc(), &mut output, datagram)
-        } else {
-            print_devices(&mut output, datagram)
+        // A refused datagram has no source.
+        let Some(source) = source else {
+            continue;
         };
-        if let Err(fault) = printed {
+        if let Err(fault) = found.take(rt, &mut output, &buffer[..size], source) {
             return Err(error_of_output(fault, output.reason(OUTPUT)));
         }
     }
@@ -110,7 +109,7 @@ fn error_of_output<'a>(
     }
 }
 
-/// Reads the next datagram into a buffer. Returns its size, or `None` once the timeout is over.
+/// Reads the next datagram into a buffer. Returns its size and where it came from, or `None` once the timeout is over.
 fn next_datagram<'a>(
     rt: &HostRuntime,
     socket: &UdpSocket,
@@ -118,8 +117,8 @@ fn next_datagram<'a>(
     timeout: Timeout<'a>,
     start: Instant,
     buffer: &mut [u8],
-) -> Result<Option<usize>, CommandError<'a>>
-    ensures { IfOk result (λ received. IfSome received (λ size. size ≤ length buffer.new)) }
+) -> Result<Option<(usize, Option<SocketAddr>)>, CommandError<'a>>
+    ensures { IfOk result (λ received. IfSome received (λ datagram. datagram.0 ≤ length buffer.new)) }
 {
     let elapsed = start
         .elapsed(rt)
@@ -136,11 +135,11 @@ fn next_datagram<'a>(
         .set_read_timeout(left)
         .map_err(|error| CommandError::of_system(target.text(), error))?;
     match socket.recv_from(buffer) {
-        Ok((size, _)) => Ok(Some(size)),
+        Ok((size, source)) => Ok(Some((size, Some(source)))),
         Err(error) => match error.kind() {
             ErrorKind::WouldBlock | ErrorKind::TimedOut => Ok(None),
             // A machine without a device refuses the datagram. Others may still answer.
-            ErrorKind::Interrupted | ErrorKind::ConnectionRefused => Ok(Some(0)),
+            ErrorKind::Interrupted | ErrorKind::ConnectionRefused => Ok(Some((0, None))),
             _ => Err(CommandError::of_system(target.text(), error)),
         },
     }

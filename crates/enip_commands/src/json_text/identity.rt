@@ -54,7 +54,7 @@ fn identity_object(alloc: Global, identity: &IdentityView<'_>) -> Result<Value, 
 }
 
 /// An address in dotted decimal, without a port.
-fn host_of(alloc: Global, address: [u8; 4]) -> Result<String, AllocError>
+pub(crate) fn host_of(alloc: Global, address: [u8; 4]) -> Result<String, AllocError>
     ensures { IfOk result (λ host. string_bytes host ≡ host_text address) }
 {
     let [first, second, third, fourth] = address;

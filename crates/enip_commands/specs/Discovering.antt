@@ -1,0 +1,68 @@
+-- What an answer to a discovery shows: where it came from, and what two answers have in common.
+use Rattle.std.specs.Prelude.{ℕ, Bool, false, not, ◌==◌, ◌&&◌, List, [], ◌∷◌, ◌++◌, codes, slice_index}
+use Rattle.std.specs.Net.Addr.{ipv4_octets}
+use Rattle.std.specs.Net.Socket.{socket_ip}
+use Rattle.std.specs.Net.Text.{socket_text}
+use Rattle.std.specs.declared.net.ip_addr.IpAddr.{IpAddr}
+use Rattle.std.specs.declared.net.ip_addr.IpAddr.TheVariants.{V4, V6}
+use Rattle.std.specs.declared.net.socket_addr.SocketAddr.{SocketAddr}
+use Rattle.serde_json.specs.Data.{Data, boolean, string, object, member, no_members}
+use Rattle.serde_json.specs.Written.{compact_text}
+use Rattle.enip_client.specs.Identity.{Identity}
+use Rattle.enip_commands.specs.Json.{count, latin, host_text}
+use Rattle.enip_commands.specs.Lines.{with_newline}
+use Rattle.enip_commands.specs.Listing.{device_text}
+use Rattle.enip_commands.specs.declared.discovering.DiscoveryAnswer.{DiscoveryAnswer}
+use Rattle.enip_commands.specs.declared.discovering.Remarks.{Remarks}
+
+-- Two addresses of four octets are the same.
+abbrev pub is_same_host : List ℕ → List ℕ → Bool
+is_same_host a b =
+    (slice_index a 0 == slice_index b 0) && (slice_index a 1 == slice_index b 1)
+    && (slice_index a 2 == slice_index b 2) && (slice_index a 3 == slice_index b 3)
+
+-- A device that reports 0.0.0.0 reports no address.
+abbrev pub has_address : DiscoveryAnswer → Bool
+has_address a = not (is_same_host a.address (0 ∷ 0 ∷ 0 ∷ 0 ∷ []))
+
+-- The address that the answer came from is another one than the device reports, which has IPv4.
+abbrev pub is_other_host : IpAddr → List ℕ → Bool
+is_other_host (V4 ip) reported = not (is_same_host (ipv4_octets ip) reported)
+is_other_host (V6 ip) reported = false
+
+abbrev pub is_elsewhere : DiscoveryAnswer → Bool
+is_elsewhere a = has_address a && is_other_host (socket_ip a.source) a.address
+
+-- Both report the same address and port.
+abbrev pub has_same_address : DiscoveryAnswer → DiscoveryAnswer → Bool
+has_same_address a b = has_address a && is_same_host a.address b.address && (a.port == b.port)
+
+-- Both report the same serial number of the same vendor.
+abbrev pub has_same_serial : DiscoveryAnswer → DiscoveryAnswer → Bool
+has_same_serial a b = (a.vendor == b.vendor) && (a.serial == b.serial)
+
+-- The line of a device, with the address that its answer came from.
+abbrev pub answer_line : SocketAddr → Identity → List ℕ
+answer_line source i = with_newline (device_text i ++ codes " from " ++ socket_text source)
+
+-- The object of a device: its identity, the address that its answer came from, and what was noticed.
+abbrev pub answer_data : SocketAddr → Remarks → Identity → Data
+answer_data source remarks i =
+    object (member (codes "address") (string (host_text i.address))
+    (member (codes "device_type") (count i.device_type)
+    (member (codes "from") (string (socket_text source))
+    (member (codes "major") (count i.major)
+    (member (codes "minor") (count i.minor)
+    (member (codes "name") (string (latin i.name))
+    (member (codes "other_address") (boolean remarks.other_address)
+    (member (codes "port") (count i.port)
+    (member (codes "product_code") (count i.product_code)
+    (member (codes "same_address") (boolean remarks.same_address)
+    (member (codes "same_serial") (boolean remarks.same_serial)
+    (member (codes "serial") (count i.serial)
+    (member (codes "state") (count i.state)
+    (member (codes "status") (count i.status)
+    (member (codes "vendor") (count i.vendor) no_members)))))))))))))))
+
+abbrev pub answer_object_line : SocketAddr → Remarks → Identity → List ℕ
+answer_object_line source remarks i = with_newline (compact_text (answer_data source remarks i))
