@@ -356,7 +356,8 @@ For exit statuses, see `enip --help`.";
 pub(crate) const EXAMPLES_SERVICES: &str = "\
 Examples:
   enip services 127.0.0.1
-  enip services plc.local:2222 --timeout 1";
+  enip services plc.local:2222 --timeout 1
+  enip services plc.local:2222 --json";
 
 pub(crate) const DETAILS_SERVICES: &str = "\
 Sends ListServices, which needs no session, and prints a line for each field.
@@ -366,9 +367,13 @@ Several services have an empty line between them.
   capability flags 0x0020
   name Communications
 
+A byte of the name that is not printable is written as \\xNN. With --json, each
+service is one object on one line.
+
 Examples:
   enip services 127.0.0.1
   enip services plc.local:2222 --timeout 1
+  enip services plc.local:2222 --json
 
 For exit statuses, see `enip --help`.";
 

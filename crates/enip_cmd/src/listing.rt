@@ -10,7 +10,7 @@ use crate::request::reason_of_client;
 use crate::socket::{SocketSink, SocketSource};
 use enip_client::{ListCommand, Sent, write_list};
 use enip_commands::{
-    RequestFailure, identities_over, list_over, print_device_objects, print_devices,
+    RequestFailure, list_over, objects_over, print_device_objects, print_devices,
 };
 use std::io::{ErrorKind, Write};
 use std::net::UdpSocket;
@@ -39,7 +39,7 @@ pub(crate) fn run_list<'a>(
     let mut source = SocketSource::new(&stream, rt, start, timeout);
     let mut sink = SocketSink::new(&stream);
     let listed = if is_json {
-        identities_over(rt.alloc(), &mut source, &mut sink, &mut output)
+        objects_over(rt.alloc(), &mut source, &mut sink, command, &mut output)
     } else {
         list_over(rt.alloc(), &mut source, &mut sink, command, &mut output)
     };

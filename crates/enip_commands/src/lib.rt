@@ -8,7 +8,7 @@
 //! - [`exchange_over`] and [`show_reply`] are the two halves of `ask_over`, for commands that are executed once:
 //!   [`read_commander`] and [`write_commander`] keep a commander in a file, [`read_life`] and [`begin_once`] say what is
 //!   sent, and a [`LedgerRefusal`] what a refusal means.
-//! - [`list_over`] and [`identities_over`] ask a device for its identity or its services. [`print_devices`] and
+//! - [`list_over`] and [`objects_over`] ask a device for its identity or its services. [`print_devices`] and
 //!   [`print_device_objects`] print the answers to a broadcast.
 //!
 //! A command over lines is built from [`TakeLines`], [`read_lines`], [`decode`], [`decimal`] and [`Digits`].
@@ -28,11 +28,11 @@ mod command_file;
 mod digits;
 mod fault;
 mod hexadecimal;
-mod identities;
 mod input_lines;
 mod json_text;
 mod line_fault;
 mod lines;
+mod list_objects;
 mod listing;
 mod once;
 mod peer_number;
@@ -51,10 +51,10 @@ pub use asking::{
 pub use command_file::{CommandFile, CommandFileFault, read_commander, write_commander};
 pub use digits::{Digits, decode};
 pub use fault::ProgramFault;
-pub use identities::{identities_over, print_device_objects};
 pub use input_lines::{TakeLines, read_lines};
 pub use line_fault::LineFault;
 pub use lines::decimal;
+pub use list_objects::{objects_over, print_device_objects};
 pub use listing::{list_over, print_devices};
 pub use once::{
     LIFE_REQUEST, LedgerRefusal, LifeFault, OnceRefusal, PendingChoice, begin_once, check_once,

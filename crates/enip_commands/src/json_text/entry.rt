@@ -1,14 +1,15 @@
-//! The object of an identity.
+//! The objects of an identity and of a service.
 
 ghost use Rattle.std.specs.Prelude.{◌≡◌, IfOk, string_bytes};
 ghost use Rattle.enip_client.specs.Identity.{identity_in};
-ghost use Rattle.enip_commands.specs.Json.{identity_data, host_text};
+ghost use Rattle.enip_client.specs.Service.{service_in};
+ghost use Rattle.enip_commands.specs.Json.{identity_data, service_data, host_text};
 ghost use Rattle.serde_json.specs.View.{view};
 ghost use Rattle.serde_json.specs.Written.{compact_text};
 
 use crate::json_text::latin::latin_text;
-use enip_client::IdentityView;
-use serde_json::{Map, Value, put};
+use enip_client::{IdentityView, ServiceView};
+use serde_json::{Map, Value, json, put};
 use std::alloc::{AllocError, Global};
 
 /// The line of an identity: what the device reports about itself.
@@ -59,4 +60,23 @@ fn host_of(alloc: Global, address: [u8; 4]) -> Result<String, AllocError>
 {
     let [first, second, third, fourth] = address;
     format!(in alloc; "{first}.{second}.{third}.{fourth}")
+}
+
+/// The line of a service: what the device reports about it.
+///
+/// # Errors
+///
+/// `AllocError` if memory is refused.
+pub fn service_line(alloc: Global, service: &ServiceView<'_>) -> Result<String, AllocError>
+    ensures { IfOk result (λ line. string_bytes line ≡ compact_text (service_data (service_in service.now))) }
+{
+    service_object(alloc, service)?.to_string(alloc)
+}
+
+/// The object of a service.
+fn service_object(alloc: Global, service: &ServiceView<'_>) -> Result<Value, AllocError>
+    ensures { IfOk result (λ object. view object ≡ service_data (service_in service.now)) }
+{
+    let name = latin_text(alloc, service.name)?;
+    json!(in alloc; {"capability_flags": service.flags, "name": &name, "version": service.version})
 }

@@ -1,9 +1,9 @@
 use Rattle.std.proofs.Common.{ap, subst}
 use Rattle.std.specs.Io.KnownBytes.{Appends}
 use Rattle.enip_client.specs.Lists.{entries_left, entry_shown}
-use Rattle.enip_commands.specs.Identities.{object_line, object_lines}
+use Rattle.enip_commands.specs.ListObjects.{object_line, object_lines}
 use Rattle.enip_commands.proofs.ListingLemmas.{printed_none, printed_more, printed_all}
-use Rattle.enip_commands.proofs.identities.print_objects.Goals as goal
+use Rattle.enip_commands.proofs.list_objects.print_objects.Goals as goal
 
 pub loop-entry-init : goal.loop-entry-init
 loop-entry-init g c = printed_none object_line (g.O.Write.contents c.args.output.now) (entries_left c.into_iter-entry-iterator.result)

@@ -1,7 +1,7 @@
 use Rattle.enip_client.specs.Lists.{entries_left}
-use Rattle.enip_commands.specs.Identities.{object_line}
+use Rattle.enip_commands.specs.ListObjects.{object_line}
 use Rattle.enip_commands.proofs.ListingLemmas.{Printed}
-use Rattle.enip_commands.proofs.identities.print_objects.Given as goal
+use Rattle.enip_commands.proofs.list_objects.print_objects.Given as goal
 
 abbrev pub invariant-loop-entry : goal.invariant-loop-entry
 invariant-loop-entry g l =

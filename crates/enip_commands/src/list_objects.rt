@@ -1,49 +1,51 @@
-//! `enip identity --json` and `enip discover --json`: one object per line for each identity.
+//! `enip identity --json`, `enip services --json` and `enip discover --json`: one object per line for each entry.
 
 ghost use Rattle.std.specs.Prelude.{◌<◌, IfErr, OnOk};
 ghost use Rattle.std.specs.Io.KnownBytes.{Appends};
 ghost use Rattle.enip_client.specs.Listing.{list_state};
 ghost use Rattle.enip_client.specs.Lists.{entries_left, entry_shown};
-ghost use Rattle.enip_commands.specs.Identities.{AreIdentitiesPrinted, object_line, object_lines, datagram_objects};
+ghost use Rattle.enip_commands.specs.ListObjects.{AreObjectsPrinted, object_line, object_lines, datagram_objects};
 ghost use Rattle.enip_commands.specs.Listing.{IsListAsked};
 ghost use Rattle.enip_commands.specs.Statuses.{IsOfDevices};
 
 use crate::asking::RequestFailure;
 use crate::fault::ProgramFault;
-use crate::json_text::identity_line;
+use crate::json_text::{identity_line, service_line};
 use enip_client::{ListCommand, ListEntries, ListEntry, ask_list, read_list};
 use enip_wire::{FrameReader, Sink, Source};
 use std::alloc::Global;
 use std::io::{BufWriter, Write};
 
-/// Asks a device for its identity over a reader and a writer, without a session. Prints one JSON object per line on
-/// `output` for each identity in the answer.
+/// Asks a device for a list over a reader and a writer, without a session. Prints one JSON object per line on `output`
+/// for each entry of the answer.
 ///
 /// # Errors
 ///
 /// As for [`list_over`](crate::list_over).
-pub fn identities_over<R: Source, W: Sink, O: Write + Drop>(
+pub fn objects_over<R: Source, W: Sink, O: Write + Drop>(
     alloc: Global,
     reader: &mut R,
     writer: &mut W,
+    command: ListCommand,
     output: O,
 ) -> Result<(), RequestFailure>
     requires reads { R.failures reader.old < u64.MAX }
     requires writes { W.failures writer.old < u64.MAX }
-    ensures { IsListAsked ListCommand.Identity
+    ensures { IsListAsked command
         (list_state (R.left reader.old) (R.reads reader.old) (W.written writer.old))
         (list_state (R.left reader.new) (R.reads reader.new) (W.written writer.new)) result }
 {
     let mut frames = FrameReader::new(alloc)?;
     let mut output = BufWriter::new(alloc, output)?;
-    print_identities(alloc, &mut frames, reader, writer, &mut output)?;
+    print_answer(alloc, command, &mut frames, reader, writer, &mut output)?;
     output.flush()?;
     Ok(())
 }
 
-/// Asks for the identities and prints them.
-fn print_identities<R: Source, W: Sink, O: Write>(
+/// Asks for a list and prints its objects.
+fn print_answer<R: Source, W: Sink, O: Write>(
     alloc: Global,
+    command: ListCommand,
     frames: &mut FrameReader,
     reader: &mut R,
     writer: &mut W,
@@ -51,12 +53,12 @@ fn print_identities<R: Source, W: Sink, O: Write>(
 ) -> Result<(), RequestFailure>
     requires reads { R.failures reader.old < u64.MAX }
     requires writes { W.failures writer.old < u64.MAX }
-    ensures { AreIdentitiesPrinted
+    ensures { AreObjectsPrinted command
         (list_state (R.left reader.old) (R.reads reader.old) (W.written writer.old))
         (list_state (R.left reader.new) (R.reads reader.new) (W.written writer.new))
         (O.contents output.old) (O.contents output.new) result }
 {
-    let entries = ask_list(ListCommand::Identity, frames, reader, writer)?;
+    let entries = ask_list(command, frames, reader, writer)?;
     print_objects(alloc, output, entries)?;
     Ok(())
 }
@@ -98,7 +100,7 @@ fn print_objects<O: Write>(
     Ok(())
 }
 
-/// Prints the object of an identity. A service has none.
+/// Prints the object of an entry.
 fn print_object<O: Write>(
     alloc: Global,
     output: &mut O,
@@ -112,7 +114,7 @@ fn print_object<O: Write>(
         ListEntry::Identity(identity) => {
             writeln!(output, "{}", identity_line(alloc, identity)?)?;
         }
-        ListEntry::Service(_) => {}
+        ListEntry::Service(service) => writeln!(output, "{}", service_line(alloc, service)?)?,
     }
     Ok(())
 }
