@@ -9,6 +9,7 @@ use crate::request::{Device, ask, error_in_session, error_of_failure};
 use crate::socket::{SocketSink, SocketSource};
 use crate::{GET_ATTRIBUTE_SINGLE, OUTPUT, print_argument_error};
 use cip_message::{Path, ReplyView};
+use cip_layouts::ValueShape;
 use cip_values::ValueType;
 use clap::ArgMatches;
 use enip_client::ClientFault;
@@ -198,7 +199,7 @@ impl<'a> Inspection<'a, '_> {
             return Ok(());
         }
         let style = Style {
-            value_type,
+            shape: value_type.map(ValueShape::Type),
             is_json: self.device.style.is_json,
         };
         let mut text = Vec::new(alloc);

@@ -14,7 +14,7 @@ use Rattle.enip_client.specs.declared.lists.ListCommand.TheVariants as lists
 use Rattle.enip_commands.specs.Lines.{with_newline}
 use Rattle.enip_commands.specs.Statuses.{IsOfDevices}
 use Rattle.enip_commands.specs.declared.asking.RequestFailure.{RequestFailure}
-use Rattle.enip_commands.specs.declared.asking.RequestFailure.TheVariants.{Hex, Session, Client, Shape, Program}
+use Rattle.enip_commands.specs.declared.asking.RequestFailure.TheVariants.{Hex, Session, Client, Shape, Fields, Program}
 
 -- The line of an entry.
 abbrev pub object_line : Entry → List ℕ
@@ -41,4 +41,5 @@ AreObjectsPrinted command old new before after (Err Hex) = ⊥
 AreObjectsPrinted command old new before after (Err (Session status)) = ⊥
 AreObjectsPrinted command old new before after (Err (Client fault)) = IsListed command old new (Err (ask.Client fault))
 AreObjectsPrinted command old new before after (Err (Shape value_type fault)) = ⊥
+AreObjectsPrinted command old new before after (Err (Fields fault)) = ⊥
 AreObjectsPrinted command old new before after (Err (Program fault)) = IsOfDevices fault

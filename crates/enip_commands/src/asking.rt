@@ -18,6 +18,7 @@ use arrayvec::ArrayVec;
 use cip_message::{Path, ReplyView, write_path};
 use cip_objects::ReplyBuf;
 use cip_route::Route;
+use cip_layouts::FieldsFault;
 use cip_values::{ValueFault, ValueType};
 use enip_client::{AskFault, Client, ClientFault, Wants};
 use enip_wire::{Sink, Source};
@@ -141,6 +142,9 @@ pub enum RequestFailure {
     /// The data of the reply are not values of this type.
     #[error("fault {}", ClientFault::Malformed.number())]
     Shape(ValueType, ValueFault<'static>),
+    /// The data of the reply are not values of the layout.
+    #[error("fault {}", ClientFault::Malformed.number())]
+    Fields(FieldsFault<'static>),
     /// The program itself failed.
     #[error("{0}")]
     Program(ProgramFault),
@@ -153,7 +157,8 @@ impl RequestFailure {
     {
         match self {
             RequestFailure::Hex => 2,
-            RequestFailure::Session(_) | RequestFailure::Client(_) | RequestFailure::Shape(..) => 7,
+            RequestFailure::Session(_) | RequestFailure::Client(_) => 7,
+            RequestFailure::Shape(..) | RequestFailure::Fields(_) => 7,
             RequestFailure::Program(fault) => fault.exit_status(),
         }
     }
@@ -224,7 +229,7 @@ pub fn ask_over<R: Source, W: Sink, O: Write + Drop>(
     writer: &mut W,
     request: &[u8],
     connected: bool,
-    style: Style,
+    style: Style<'_>,
     output: O,
 ) -> Result<ReplyOutcome, RequestFailure>
     requires reads { R.failures reader.old < u64.MAX }
@@ -328,7 +333,7 @@ fn session_refusal(asked: Result<(), AskFault>, is_registered: bool) -> Result<(
 fn print_asked<O: Write>(
     alloc: Global,
     output: &mut O,
-    style: Style,
+    style: Style<'_>,
     asked: Result<(), RequestFailure>,
     reply: &[u8],
 ) -> Result<ReplyOutcome, RequestFailure>
@@ -350,12 +355,13 @@ fn print_asked<O: Write>(
 ///
 /// # Errors
 ///
-/// `Client` with `Malformed` if the bytes are not a reply. `Shape` if its data are not values of the style's type.
+/// `Client` with `Malformed` if the bytes are not a reply. `Shape` or `Fields` if its data are not values of the style's type
+/// or layout.
 /// `Program` if the output failed or memory was refused.
 pub fn show_reply<O: Write + Drop>(
     alloc: Global,
     output: O,
-    style: Style,
+    style: Style<'_>,
     bytes: &[u8],
 ) -> Result<ReplyOutcome, RequestFailure>
     ensures rendered { IfOk result (IsReplyPrinted bytes.now) }
@@ -375,7 +381,7 @@ pub fn show_reply<O: Write + Drop>(
 pub fn show_refusal<O: Write + Drop>(
     alloc: Global,
     output: O,
-    style: Style,
+    style: Style<'_>,
     status: u8,
     extended: u16,
 ) -> Result<ReplyOutcome, RequestFailure>
@@ -396,7 +402,7 @@ pub fn show_refusal<O: Write + Drop>(
 pub(crate) fn print_reply<O: Write>(
     alloc: Global,
     output: &mut O,
-    style: Style,
+    style: Style<'_>,
     bytes: &[u8],
 ) -> Result<ReplyOutcome, RequestFailure>
     ensures rendered { IfOk result (IsReplyPrinted bytes.now) }
@@ -430,11 +436,12 @@ pub(crate) struct ReplyObject {
 ///
 /// # Errors
 ///
-/// `Client` with `Malformed` if the bytes are not a reply. `Shape` if its data are not values of the style's type.
+/// `Client` with `Malformed` if the bytes are not a reply. `Shape` or `Fields` if its data are not values of the style's type
+/// or layout.
 /// `Program` if memory was refused.
 pub(crate) fn reply_object(
     alloc: Global,
-    style: Style,
+    style: Style<'_>,
     bytes: &[u8],
 ) -> Result<ReplyObject, RequestFailure>
     ensures rendered { IfOk result (λ rendered. IsReplyPrinted bytes.now rendered.replied) }
@@ -460,7 +467,7 @@ pub(crate) fn reply_object(
 fn print_refusal<O: Write>(
     alloc: Global,
     output: &mut O,
-    style: Style,
+    style: Style<'_>,
     status: u8,
     extended: u16,
 ) -> Result<ReplyOutcome, RequestFailure>

@@ -2,8 +2,8 @@
 //!
 //! - [`answer`] runs an adapter over lines of hexadecimal pieces, and prints its answers.
 //! - [`show_frames`] prints the fields of frames, one frame per line of input.
-//! - [`ask_over`] sends one request and prints the reply. A [`DeviceRequest`] or a [`TypedRequest`] makes the
-//!   request, and [`report_outcome`] gives the exit status. [`DeviceSession`], [`Readings`] and [`print_reading`] are
+//! - [`ask_over`] sends one request and prints the reply. A [`DeviceRequest`], a [`TypedRequest`] or a
+//!   [`LayoutRequest`] makes the request, and [`report_outcome`] gives the exit status. [`DeviceSession`], [`Readings`] and [`print_reading`] are
 //!   for repeated reads.
 //! - [`exchange_over`] and [`show_reply`] are the two halves of `ask_over`, for commands that are executed once:
 //!   [`read_commander`] and [`write_commander`] keep a commander in a file, [`read_life`] and [`begin_once`] say what is
@@ -64,4 +64,4 @@ pub use reading::{Readings, print_reading};
 pub use session::{DeviceSession, LONG_LIVED};
 pub use showing::show_frames;
 pub use style::{DIGITS, Style};
-pub use typed::TypedRequest;
+pub use typed::{LayoutRequest, TypedRequest};

@@ -67,12 +67,13 @@ impl Readings {
 ///
 /// # Errors
 ///
-/// `Client` with `Malformed` if the bytes are not a reply. `Shape` if its data are not values of the style's type.
+/// `Client` with `Malformed` if the bytes are not a reply. `Shape` or `Fields` if its data are not values of the style's type
+/// or layout.
 /// `Program` if the output failed or memory was refused.
 pub fn print_reading<O: Write + Drop>(
     alloc: Global,
     output: O,
-    style: Style,
+    style: Style<'_>,
     moment: u64,
     reply: &[u8],
 ) -> Result<ReplyOutcome, RequestFailure>
@@ -87,7 +88,7 @@ pub fn print_reading<O: Write + Drop>(
 fn print_timed<O: Write>(
     alloc: Global,
     output: &mut O,
-    style: Style,
+    style: Style<'_>,
     moment: u64,
     reply: &[u8],
 ) -> Result<ReplyOutcome, RequestFailure>
@@ -109,7 +110,7 @@ fn print_timed<O: Write>(
 fn print_timed_object<O: Write>(
     alloc: Global,
     output: &mut O,
-    style: Style,
+    style: Style<'_>,
     moment: u64,
     reply: &[u8],
 ) -> Result<ReplyOutcome, RequestFailure>

@@ -1,0 +1,3 @@
+pub mod ParseLemmas
+pub mod ReadLemmas
+pub mod WriteLemmas

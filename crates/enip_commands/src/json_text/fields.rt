@@ -1,0 +1,75 @@
+//! The values of fields as JSON.
+
+use crate::json_text::value::{json_of, list_of};
+use cip_layouts::{Field, Layout};
+use cip_values::Value;
+use serde_json::{Map, Value as Json, json, put};
+use std::alloc::{AllocError, Global};
+
+/// The line of a successful reply: its data in hexadecimal, and as the values of a layout. With names they are an object,
+/// and without an array. A field that is an array is an array.
+///
+/// # Errors
+///
+/// `AllocError` if memory is refused.
+pub fn fields_line(
+    alloc: Global,
+    bytes: &[u8],
+    layout: &Layout<'_>,
+    values: &[Value<'_>],
+) -> Result<String, AllocError> {
+    let given = if layout.is_named() {
+        members_of(alloc, layout.fields(), values)?
+    } else {
+        items_of(alloc, layout.fields(), values)?
+    };
+    let digits = hex::encode(alloc, bytes)?;
+    let name = format!(in alloc; "{layout}")?;
+    json!(in alloc; {"data": &digits, "status": 0u8, "type": &name, "values": given})?
+        .to_string(alloc)
+}
+
+/// The object of fields with names.
+fn members_of(
+    alloc: Global,
+    fields: &[Field<'_>],
+    values: &[Value<'_>],
+) -> Result<Json, AllocError> {
+    let mut members = Map::new(alloc);
+    let mut rest = values;
+    for field in fields {
+        let (mine, behind) = rest.split_at(field.values().min(rest.len()));
+        let value = field_json(alloc, field, mine)?;
+        put(&mut members, alloc, field.name.unwrap_or(""), value)?;
+        rest = behind;
+    }
+    Ok(Json::Object(members))
+}
+
+/// The array of fields without names.
+fn items_of(
+    alloc: Global,
+    fields: &[Field<'_>],
+    values: &[Value<'_>],
+) -> Result<Json, AllocError> {
+    let mut items = Vec::new(alloc);
+    let mut rest = values;
+    for field in fields {
+        let (mine, behind) = rest.split_at(field.values().min(rest.len()));
+        items.push(field_json(alloc, field, mine)?)?;
+        rest = behind;
+    }
+    Ok(Json::Array(items))
+}
+
+/// The values of one field: an array if the field is one, otherwise its value.
+fn field_json(
+    alloc: Global,
+    field: &Field<'_>,
+    values: &[Value<'_>],
+) -> Result<Json, AllocError> {
+    match (field.count, values) {
+        (None, [value]) => json_of(alloc, *value),
+        _ => list_of(alloc, values),
+    }
+}
