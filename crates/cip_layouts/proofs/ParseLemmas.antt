@@ -8,7 +8,7 @@ use Rattle.std.proofs.Math.Seq.{take-suc-set}
 use Rattle.std.proofs.lemmas.Bool.{le-ltb, lt-ltb}
 use Rattle.std.proofs.lemmas.List.{map-append}
 use Rattle.std.proofs.lemmas.Slice.Eq.{bytes_eq-Decides}
-use Rattle.cip_values.specs.Types.{name_of}
+use Rattle.cip_values.specs.Types.{name_of as type_name}
 use Rattle.cip_values.specs.declared.element.ElementaryType.{ElementaryType}
 use Rattle.cip_values.specs.declared.element.ElementaryType.TheVariants as types
 use Rattle.cip_layouts.specs.Layouts.{Field, field_in, is_byte, has_byte, cut_in, cut_seen, elements, element_named, differ, mixes}
@@ -34,7 +34,7 @@ finds_none : {X : Type 0} (p : X → Bool) (xs : List X) → ((x : X) → p x �
 finds_none p [] none = refl
 finds_none p (x ∷ xs) none = rw (none x) (finds_none p xs none)
 
-named_again : (element : ElementaryType) → element_named (name_of element) ≡ Some element
+named_again : (element : ElementaryType) → element_named (type_name element) ≡ Some element
 unfolding element_named
 named_again types.Bool = refl
 named_again types.Sint = refl
@@ -68,14 +68,14 @@ other_name name other differs = by (bytes_eq name other) refl
     by false e = refl
     by true e = absurd (differs (sym ((bytes_eq-Decides name other).0 e)))
 
-pub element_is : (name : List ℕ) (r : Option ElementaryType) → IfSome r (λ element. name_of element ≡ name)
-    → (r ≡ None → (element : ElementaryType) → name_of element ≡ name → ⊥) → element_named name ≡ r
+pub element_is : (name : List ℕ) (r : Option ElementaryType) → IfSome r (λ element. type_name element ≡ name)
+    → (r ≡ None → (element : ElementaryType) → type_name element ≡ name → ⊥) → element_named name ≡ r
 unfolding element_named
 element_is name (Some element) named other =
     subst (λ (text : List ℕ). element_named text ≡ Some element) named (named_again element)
 element_is name None named other =
-    finds_none (λ (element : ElementaryType). bytes_eq name (name_of element)) elements
-    (λ (element : ElementaryType). other_name name (name_of element) (other refl element))
+    finds_none (λ (element : ElementaryType). bytes_eq name (type_name element)) elements
+    (λ (element : ElementaryType). other_name name (type_name element) (other refl element))
 
 -- ---- the fields so far
 

@@ -123,18 +123,19 @@ IsWriteFaultFrom number (field ∷ fields) words fault =
 
 -- ---- the words of one field
 
--- The bytes of the values that the words parse as are appended.
-pub record FieldIsAppended (field : Field) (words : List (List ℕ)) (old new : List ℕ) : Type 0 where
+-- The first words parse as the values of the field, whose bytes are appended, and the rest follows.
+pub record FieldIsWritten (field : Field) (words rest : List (List ℕ)) (old new : List ℕ) : Type 0 where
+  pub mine : List (List ℕ)
+  pub split : words ≡ mine ++ rest
+  pub counted : length mine ≡ count_of field
   pub bytes : List ℕ
-  pub written : AreWritten (list_type field) words bytes
+  pub written : AreWritten (list_type field) mine bytes
   pub appended : new ≡ old ++ bytes
 
--- Why the words of a field are refused, or memory was refused.
+-- Why the first words are refused as the values of the field with this number, or memory was refused.
 abbrev pub IsFieldRefused : ℕ → Field → List (List ℕ) → FieldsFault → Type 0
 IsFieldRefused number field words faults.Memory = ⊤
-IsFieldRefused number field words (faults.Field place fault) =
-    (place ≡ number) × (fault ≢ value_faults.Memory) × IsWriteFault (list_type field) words fault
-IsFieldRefused number field words fault = ⊥
+IsFieldRefused number field words fault = IsUnwritten number field words fault
 
 -- ---- all words
 

@@ -2,11 +2,12 @@
 use Rattle.std.specs.Prelude.{ℕ, ◌≡◌, ◌+◌, ◌-◌, ◌*◌, ◌==◌, ◌&&◌, ◌||◌, Bool, true, false, List, [], ◌∷◌, ◌++◌, length, map, take, slice_index, codes}
 use Rattle.std.specs.Prelude.{Option, Some, None, Result, Ok, Err, nat_lt, nat_le, option_map, if◌then◌else◌}
 use Rattle.std.specs.Borrow.{Bor}
-use Rattle.std.specs.List.{position_or_len, before_first, after_first, slice_split, list_all, list_any, find}
+use Rattle.std.specs.List.{position_or_len, before_first, after_first, slice_split, list_all, list_any, find, flat_map}
 use Rattle.std.specs.Str.{bytes_eq}
 use Rattle.std.specs.Fmt.{decimal}
+use Rattle.std.specs.Char.{encode_utf8}
 use Rattle.cip_bytes.specs.Reading.{◌>>=◌}
-use Rattle.cip_values.specs.Types.{name_of}
+use Rattle.cip_values.specs.Types.{name_of as type_name}
 use Rattle.cip_values.specs.declared.element.ElementaryType.{ElementaryType}
 use Rattle.cip_values.specs.declared.element.ElementaryType.TheVariants as types
 use Rattle.cip_layouts.specs.declared.fault.FieldFault.{FieldFault}
@@ -15,6 +16,8 @@ use Rattle.cip_layouts.specs.declared.fault.LayoutFault.{LayoutFault}
 use Rattle.cip_layouts.specs.declared.field.Field.{Field as FieldInCode}
 use Rattle.cip_layouts.specs.declared.layout.Layout.{Layout}
 use Rattle.cip_layouts.specs.declared.layout.TheConstants.{MOST_FIELDS}
+use Rattle.cip_layouts.specs.declared.name.FieldName.{FieldName}
+use Rattle.cip_layouts.specs.declared.name.TheConstants.{LONGEST_NAME}
 
 -- A field: its name, if the layout has names, the type of its values, and their number, if it is an array.
 pub record Field : Type 0 where
@@ -22,13 +25,13 @@ pub record Field : Type 0 where
   pub element : ElementaryType
   pub count : Option ℕ
 
--- A name, or none.
-abbrev pub optional : Option (Bor (List ℕ)) → Option (List ℕ)
-optional name = option_map (λ name. name.now) name
+-- The characters of a name.
+abbrev pub name_of : FieldName → List ℕ
+name_of name = take name.length name.bytes
 
 -- A field and the fields of a layout of the code, as those of the specification.
 abbrev pub field_in : FieldInCode → Field
-field_in f = record { name = optional f.name; element = f.element; count = f.count }
+field_in f = record { name = option_map name_of f.name; element = f.element; count = f.count }
 
 -- The fields of a layout, as the code has them.
 abbrev pub fields_of : Layout → List FieldInCode
@@ -63,7 +66,7 @@ elements =
 
 -- The type with this name, if there is one.
 unfoldable pub element_named : List ℕ → Option ElementaryType
-element_named name = find (λ element. bytes_eq name (name_of element)) elements
+element_named name = find (λ element. bytes_eq name (type_name element)) elements
 
 abbrev pub element_by : Option ElementaryType → Result ElementaryType FieldFault
 element_by None = Err fault.Type
@@ -117,12 +120,20 @@ is_name_byte byte =
     || (byte == 45) || (byte == 46)
 
 abbrev pub is_name : List ℕ → Bool
-is_name text = nat_lt 0 (length text) && list_all is_name_byte text
+is_name text = nat_lt 0 (length text) && nat_le (length text) LONGEST_NAME && list_all is_name_byte text
+
+abbrev pub name_in : List ℕ → Option (List ℕ)
+name_in text = if is_name text then Some text else None
+
+-- A field whose name is this one, if it is a name.
+abbrev pub named_by : Option (List ℕ) → List ℕ → Result Field FieldFault
+named_by None rest = Err fault.Name
+named_by (Some name) rest = typed_in (Some name) rest
 
 -- A field that is cut at its colon, if it has one.
 abbrev pub field_by_cut : List ℕ → Option (List ℕ × List ℕ) → Result Field FieldFault
 field_by_cut text None = typed_in None text
-field_by_cut text (Some (name, rest)) = if is_name name then typed_in (Some name) rest else Err fault.Name
+field_by_cut text (Some (name, rest)) = named_by (name_in name) rest
 
 -- The field that a text is.
 abbrev pub field_of : List ℕ → Result Field FieldFault
@@ -197,6 +208,10 @@ layout_seen (Err why) = Err why
 
 -- ---- printing
 
+-- A name as it prints: each byte as a character.
+abbrev pub name_shown : FieldName → List ℕ
+name_shown name = flat_map encode_utf8 (name_of name)
+
 abbrev pub name_text : Option (List ℕ) → List ℕ
 name_text None = []
 name_text (Some name) = name ++ codes ":"
@@ -206,4 +221,4 @@ count_text None = []
 count_text (Some count) = codes "[" ++ decimal count ++ codes "]"
 
 abbrev pub field_text : Field → List ℕ
-field_text field = name_text field.name ++ name_of field.element ++ count_text field.count
+field_text field = name_text field.name ++ type_name field.element ++ count_text field.count

@@ -13,7 +13,7 @@ pub enum FieldFault {
     #[error("empty")]
     Empty,
     /// What precedes the colon is not a name.
-    #[error("a name has letters, digits, '_', '-' and '.'")]
+    #[error("a name has 1 to 32 letters, digits, '_', '-' and '.'")]
     Name,
     /// No elementary type has this name.
     #[error("not a type")]

@@ -1,29 +1,31 @@
 //! One field of a layout, and its text.
 
 ghost use Rattle.std.specs.Prelude.{◌≡◌, ◌<◌, ◌^◌, option_map};
-ghost use Rattle.cip_layouts.specs.Layouts.{cut_in, cut_seen, element_in, count_in, number_in, is_digit, is_name, is_name_byte};
+ghost use Rattle.std.specs.List.{list_all};
+ghost use Rattle.cip_layouts.specs.Layouts.{cut_in, cut_seen, element_in, count_in, number_in, is_digit, is_name, is_name_byte, is_same, name_of};
 
 use crate::fault::FieldFault;
+use crate::name::{FieldName, LONGEST_NAME};
 use cip_values::{ElementaryType, ValueType};
 use std::fmt;
 
 /// One field of a layout: values of an elementary type, and maybe a name.
 #[derive(Clone, Copy, Debug)]
-pub struct Field<'a> {
+pub struct Field {
     /// The name, or `None` in a layout without names.
-    pub name: Option<&'a str>,
+    pub name: Option<FieldName>,
     /// The type of each value.
     pub element: ElementaryType,
     /// The number of values, or `None` if the field is one value and not an array.
     pub count: Option<u16>,
 }
 
-impl<'a> Field<'a> {
+impl Field {
     ghost use Rattle.cip_layouts.specs.Fields.{count_of, list_type};
-    ghost use Rattle.cip_layouts.specs.Layouts.{field_seen, field_of, typed_in, optional};
+    ghost use Rattle.cip_layouts.specs.Layouts.{field_seen, field_of, typed_in};
 
     /// A field that is in no layout.
-    pub(crate) const UNUSED: Field<'static> = Field {
+    pub(crate) const UNUSED: Field = Field {
         name: None,
         element: ElementaryType::Usint,
         count: None,
@@ -52,7 +54,7 @@ impl<'a> Field<'a> {
 
     /// Parses a field: a name and a colon, or neither, then the name of a type, and for an array the number of its
     /// values in brackets.
-    pub(crate) fn parse(text: &'a str) -> Result<Field<'a>, FieldFault>
+    pub(crate) fn parse(text: &str) -> Result<Field, FieldFault>
         ensures { field_seen result ≡ field_of text.now }
     {
         if text.is_empty() {
@@ -60,18 +62,16 @@ impl<'a> Field<'a> {
         }
         match cut(text, ':') {
             None => Field::parse_typed(None, text),
-            Some((name, rest)) => {
-                if !is_name(name.as_bytes()) {
-                    return Err(FieldFault::Name);
-                }
-                Field::parse_typed(Some(name), rest)
-            }
+            Some((name, rest)) => match FieldName::parse(name.as_bytes()) {
+                Some(name) => Field::parse_typed(Some(name), rest),
+                None => Err(FieldFault::Name),
+            },
         }
     }
 
     /// Parses the type of a field, and the number of its values.
-    fn parse_typed(name: Option<&'a str>, text: &'a str) -> Result<Field<'a>, FieldFault>
-        ensures { field_seen result ≡ typed_in (optional name.entry) text.now }
+    fn parse_typed(name: Option<FieldName>, text: &str) -> Result<Field, FieldFault>
+        ensures { field_seen result ≡ typed_in (option_map name_of name) text.now }
     {
         match cut(text, '[') {
             None => Ok(Field {
@@ -92,7 +92,7 @@ impl<'a> Field<'a> {
     }
 }
 
-impl fmt::Display for Field<'_> {
+impl fmt::Display for Field {
     ghost use Rattle.std.specs.Prelude.{Some};
     ghost use Rattle.cip_layouts.specs.Layouts.{field_in, field_text};
 
@@ -117,6 +117,16 @@ pub(crate) fn cut(text: &str, at: char) -> Option<(&str, &str)>
     ensures { option_map cut_seen result ≡ cut_in at text.now }
 {
     text.split_once(at)
+}
+
+/// Whether there is a name, and it is this one.
+pub(crate) fn is_same(name: Option<FieldName>, other: FieldName) -> bool
+    ensures { result ≡ is_same (option_map name_of name) (name_of other) }
+{
+    match name {
+        Some(name) => name.as_slice() == other.as_slice(),
+        None => false,
+    }
 }
 
 /// The type with this name.
@@ -166,11 +176,18 @@ fn is_digit(byte: u8) -> bool
     b'0' <= byte && byte <= b'9'
 }
 
-/// Whether a text is a name: letters, digits, `_`, `-` and `.`.
-fn is_name(text: &[u8]) -> bool
+/// Whether a text is a name: 1 to 32 letters, digits, `_`, `-` and `.`.
+pub(crate) fn is_name(text: &[u8]) -> bool
     ensures { result ≡ is_name text.now }
 {
-    !text.is_empty() && text.iter().all(|byte| is_name_byte(*byte))
+    !text.is_empty() && text.len() <= LONGEST_NAME && are_name_bytes(text)
+}
+
+/// Whether every byte may be in a name.
+fn are_name_bytes(text: &[u8]) -> bool
+    ensures { result ≡ list_all is_name_byte text.now }
+{
+    text.iter().all(|byte| is_name_byte(*byte))
 }
 
 /// Whether a byte may be in a name.

@@ -2,10 +2,10 @@
 
 ghost use Rattle.std.specs.Prelude.{◌≡◌, ◌≤◌, ◌==◌, map, length};
 ghost use Rattle.std.specs.List.{slice_split};
-ghost use Rattle.cip_layouts.specs.Layouts.{is_same, optional};
 
 use crate::fault::{FieldFault, LayoutFault};
-use crate::field::{Field, cut};
+use crate::field::{Field, cut, is_same};
+use crate::name::FieldName;
 use cip_values::ValueType;
 use std::fmt;
 
@@ -19,15 +19,15 @@ pub const MOST_FIELDS: usize = 32;
 /// assert_eq!(rt; layout.fields().len(), 2);
 /// ```
 #[derive(Clone, Copy, Debug)]
-pub struct Layout<'a> {
-    fields: [Field<'a>; MOST_FIELDS],
+pub struct Layout {
+    fields: [Field; MOST_FIELDS],
     length: usize,
     pub ghost within: { length ≤ 32 },
 }
 
-impl<'a> Layout<'a> {
+impl Layout {
     ghost use Rattle.cip_layouts.specs.Layouts.{fields_of, fields_in, field_in, layout_in, layout_seen, changed, with_texts, with_text};
-    ghost use Rattle.cip_layouts.specs.Layouts.{with_field, mixes, doubles, has_name};
+    ghost use Rattle.cip_layouts.specs.Layouts.{with_field, mixes, doubles, has_name, name_of};
 
     /// Parses a layout: fields with a comma between each two. A field is the name of a type, and for an array the number
     /// of its values in brackets. A name and a colon precede it, in all fields or in none.
@@ -35,7 +35,7 @@ impl<'a> Layout<'a> {
     /// # Errors
     ///
     /// The first field that is refused.
-    pub fn parse(text: &'a str) -> Result<Layout<'a>, LayoutFault>
+    pub fn parse(text: &str) -> Result<Layout, LayoutFault>
         ensures { layout_seen result ≡ layout_in text.now }
     {
         let mut layout = Layout {
@@ -47,7 +47,7 @@ impl<'a> Layout<'a> {
     }
 
     /// The fields, in their order.
-    pub fn fields(&self) -> &[Field<'a>]
+    pub fn fields(&self) -> &[Field]
         ensures fields { result.now ≡ fields_of self.now }
         ensures most { length result.now ≤ MOST_FIELDS }
     {
@@ -63,7 +63,7 @@ impl<'a> Layout<'a> {
     }
 
     /// Adds the fields of a text.
-    fn add_all(&mut self, text: &'a str) -> Result<(), LayoutFault>
+    fn add_all(&mut self, text: &str) -> Result<(), LayoutFault>
         ensures { changed result (fields_in self.new) ≡ with_texts (fields_in self.old) (slice_split (λ b. b == 44) text.now) }
     {
         match cut(text, ',') {
@@ -77,7 +77,7 @@ impl<'a> Layout<'a> {
 
     /// Adds the field that a text is.
     #[tactic(auto, unfolding(crate::specs::Layouts::with_text))]
-    fn add_text(&mut self, text: &'a str) -> Result<(), LayoutFault>
+    fn add_text(&mut self, text: &str) -> Result<(), LayoutFault>
         ensures { changed result (fields_in self.new) ≡ with_text (fields_in self.old) text.now }
     {
         let number = self.length + 1;
@@ -93,8 +93,8 @@ impl<'a> Layout<'a> {
 
     /// Adds a field.
     #[tactic(auto, unfolding(crate::specs::Layouts::with_field))]
-    fn add(&mut self, field: Field<'a>) -> Result<(), FieldFault>
-        ensures { changed result (fields_in self.new) ≡ with_field (fields_in self.old) (field_in field.entry) }
+    fn add(&mut self, field: Field) -> Result<(), FieldFault>
+        ensures { changed result (fields_in self.new) ≡ with_field (fields_in self.old) (field_in field) }
     {
         if self.mixes(field) {
             return Err(FieldFault::Mixed);
@@ -111,8 +111,8 @@ impl<'a> Layout<'a> {
     }
 
     /// Whether this field has a name and the others have none, or the other way round.
-    fn mixes(&self, field: Field<'_>) -> bool
-        ensures { result ≡ mixes (fields_in self.now) (field_in field.entry) }
+    fn mixes(&self, field: Field) -> bool
+        ensures { result ≡ mixes (fields_in self.now) (field_in field) }
     {
         let [first, ..] = self.fields() else {
             return false;
@@ -124,8 +124,8 @@ impl<'a> Layout<'a> {
     }
 
     /// Whether a field has the same name as this one.
-    fn doubles(&self, field: Field<'_>) -> bool
-        ensures { result ≡ doubles (fields_in self.now) (field_in field.entry) }
+    fn doubles(&self, field: Field) -> bool
+        ensures { result ≡ doubles (fields_in self.now) (field_in field) }
     {
         match field.name {
             Some(name) => self.has_name(name),
@@ -134,24 +134,14 @@ impl<'a> Layout<'a> {
     }
 
     /// Whether a field has this name.
-    fn has_name(&self, name: &str) -> bool
-        ensures { result ≡ has_name (fields_in self.now) name.now }
+    fn has_name(&self, name: FieldName) -> bool
+        ensures { result ≡ has_name (fields_in self.now) (name_of name) }
     {
         self.fields().iter().any(|field| is_same(field.name, name))
     }
 }
 
-/// Whether there is a name, and it is this one.
-fn is_same(name: Option<&str>, other: &str) -> bool
-    ensures { result ≡ is_same (optional name.entry) other.now }
-{
-    match name {
-        Some(name) => name == other,
-        None => false,
-    }
-}
-
-impl fmt::Display for Layout<'_> {
+impl fmt::Display for Layout {
     fn fmt<W: fmt::Write>(&self, f: &mut fmt::Formatter<W>) -> fmt::Result {
         for (index, field) in self.fields().iter().enumerate() {
             if index != 0 {
@@ -165,9 +155,9 @@ impl fmt::Display for Layout<'_> {
 
 /// How values are laid out in data.
 #[derive(Clone, Copy, Debug)]
-pub enum ValueShape<'a> {
+pub enum ValueShape {
     /// One value of a type, or a list of its values.
     Type(ValueType),
     /// The fields of a structure.
-    Layout(Layout<'a>),
+    Layout(Layout),
 }

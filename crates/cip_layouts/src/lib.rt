@@ -13,6 +13,7 @@
 mod fault;
 mod field;
 mod layout;
+mod name;
 mod reading;
 mod text;
 mod writing;
@@ -20,6 +21,7 @@ mod writing;
 pub use fault::{FieldFault, FieldsFault, LayoutFault};
 pub use field::Field;
 pub use layout::{Layout, MOST_FIELDS, ValueShape};
+pub use name::{FieldName, LONGEST_NAME};
 pub use reading::read_fields;
-pub use text::FieldsText;
+pub use text::{FieldsText, split_values};
 pub use writing::write_fields;

@@ -17,7 +17,7 @@ use std::alloc::Global;
 /// if memory is refused.
 pub fn read_fields<'a>(
     alloc: Global,
-    fields: &[Field<'_>],
+    fields: &[Field],
     bytes: &'a [u8],
 ) -> Result<Vec<Value<'a>>, FieldsFault<'static>>
     ensures read { IfOk result (λ values. AreBytesOfFields fields.now bytes.now (map value_in values.items)) }
@@ -41,7 +41,7 @@ pub fn read_fields<'a>(
 fn read_field<'a>(
     alloc: Global,
     number: usize,
-    field: &Field<'_>,
+    field: &Field,
     bytes: &'a [u8],
     values: &mut Vec<Value<'a>>,
 ) -> Result<&'a [u8], FieldsFault<'static>>

@@ -1,7 +1,7 @@
 //! Parses words as the values of fields, and returns their bytes.
 
-ghost use Rattle.std.specs.Prelude.{◌≡◌, ◌≤◌, map, length, IfOk, IfErr, OnOk};
-ghost use Rattle.cip_layouts.specs.Fields.{AreFieldsWritten, IsFieldsWriteFault, total, count_of, FieldIsAppended, IsFieldRefused};
+ghost use Rattle.std.specs.Prelude.{◌≡◌, ◌≤◌, map, length, IfOk, IfErr};
+ghost use Rattle.cip_layouts.specs.Fields.{AreFieldsWritten, IsFieldsWriteFault, total, count_of, FieldIsWritten, IsFieldRefused};
 
 use crate::fault::FieldsFault;
 use crate::field::Field;
@@ -17,7 +17,7 @@ use std::alloc::Global;
 /// `Memory` if memory is refused.
 pub fn write_fields<'a>(
     alloc: Global,
-    fields: &[Field<'_>],
+    fields: &[Field],
     words: &[&'a str],
 ) -> Result<Vec<u8>, FieldsFault<'a>>
     requires { length fields.now ≤ MOST_FIELDS }
@@ -31,18 +31,16 @@ pub fn write_fields<'a>(
     let mut bytes = Vec::new(alloc);
     let mut rest = words;
     for (index, field) in fields.iter().enumerate() {
-        let (mine, behind) = rest.split_at(field.values());
-        match write_field(alloc, index + 1, field, mine, &mut bytes) {
-            Ok(()) => {}
+        match write_field(alloc, index + 1, field, rest, &mut bytes) {
+            Ok(behind) => rest = behind,
             Err(fault) => return Err(fault),
         }
-        rest = behind;
     }
     Ok(bytes)
 }
 
 /// How many values the fields have.
-fn total(fields: &[Field<'_>]) -> usize
+fn total(fields: &[Field]) -> usize
     requires { length fields.now ≤ MOST_FIELDS }
     ensures { result ≡ total fields.now }
 {
@@ -53,22 +51,24 @@ fn total(fields: &[Field<'_>]) -> usize
     total
 }
 
-/// Parses words as the values of the field with this number, and appends their bytes.
-fn write_field<'a>(
+/// Parses the first words as the values of the field with this number, and appends their bytes. Returns the other words.
+fn write_field<'w, 'a>(
     alloc: Global,
     number: usize,
-    field: &Field<'_>,
-    words: &[&'a str],
+    field: &Field,
+    words: &'w [&'a str],
     out: &mut Vec<u8>,
-) -> Result<(), FieldsFault<'a>>
-    requires { length words.now ≡ count_of field.now }
-    ensures written { OnOk result (FieldIsAppended field.now (map (λ word. word.now) words.now) out.old.items out.new.items) }
+) -> Result<&'w [&'a str], FieldsFault<'a>>
+    requires { count_of field.now ≤ length words.now }
+    ensures written { IfOk result (λ rest. FieldIsWritten field.now (map (λ word. word.now) words.now)
+        (map (λ word. word.now) rest.now) out.old.items out.new.items) }
     ensures refused { IfErr result (IsFieldRefused number field.now (map (λ word. word.now) words.now)) }
 {
-    match write_values(alloc, field.list_type(), words) {
+    let (mine, rest) = words.split_at(field.values());
+    match write_values(alloc, field.list_type(), mine) {
         Ok(bytes) => {
             out.extend_from_slice(bytes.as_slice())?;
-            Ok(())
+            Ok(rest)
         }
         Err(ValueFault::Memory) => Err(FieldsFault::Memory),
         Err(fault) => Err(FieldsFault::Field(number, fault)),

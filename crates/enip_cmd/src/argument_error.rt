@@ -67,7 +67,7 @@ pub(crate) fn parse_seconds<'a>(
 pub(crate) fn parse_shape<'a>(
     option: &'static str,
     name: Option<&'a str>,
-) -> Result<Option<ValueShape<'a>>, ArgumentError<'a>> {
+) -> Result<Option<ValueShape>, ArgumentError<'a>> {
     let Some(name) = name else {
         return Ok(None);
     };

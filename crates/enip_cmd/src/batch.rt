@@ -5,7 +5,7 @@ ghost use Rattle.std.specs.Prelude.{⊤};
 use crate::argument_error::ArgumentError;
 use crate::error_keeping::ErrorKeeping;
 use crate::host_port::{HostPort, Timeout};
-use crate::line_request::{LineRefusal, read_request, words_of};
+use crate::line_request::{LineRefusal, read_request};
 use crate::reason::{CLOCK, CommandError, Reason};
 use crate::request::{Device, ask, error_in_session, error_of_failure, reason_of_refusal};
 use crate::socket::{SocketSink, SocketSource};
@@ -129,37 +129,17 @@ impl<'a> Batch<'a, '_> {
         let Ok(line) = str::from_utf8(text) else {
             return Ok(self.refuse(number, &"not UTF-8"));
         };
-        match words_of(self.rt.alloc(), None, line) {
+        match read_request(self.rt.alloc(), None, line, self.device.timeout) {
             Ok(None) => Ok(0),
-            Ok(Some(words)) => self.run_words(words.as_slice(), number, output),
-            Err(refusal) => self.refused_by(number, refusal),
-        }
-    }
-
-    /// Sends the request of the words of a line, and prints the reply. Returns the exit status of the line.
-    fn run_words<W: Write>(
-        &mut self,
-        words: &[&str],
-        number: u64,
-        output: &mut W,
-    ) -> Result<u8, CommandError<'a>> {
-        match read_request(self.rt.alloc(), words, self.device.timeout) {
-            Ok(request) => {
+            Ok(Some(request)) => {
                 let style = Style {
                     is_json: self.device.style.is_json,
                     ..request.style
                 };
                 self.send(request.bytes.as_slice(), style, number, output)
             }
-            Err(refusal) => self.refused_by(number, refusal),
-        }
-    }
-
-    /// Reports why a line is not a request. Returns the exit status of the line.
-    fn refused_by(&mut self, number: u64, refusal: LineRefusal) -> Result<u8, CommandError<'a>> {
-        match refusal {
-            LineRefusal::Memory => Err(CommandError::of_memory()),
-            LineRefusal::Text(reason) => Ok(self.refuse(number, &reason)),
+            Err(LineRefusal::Memory) => Err(CommandError::of_memory()),
+            Err(LineRefusal::Text(reason)) => Ok(self.refuse(number, &reason)),
         }
     }
 
@@ -167,7 +147,7 @@ impl<'a> Batch<'a, '_> {
     fn send<W: Write>(
         &mut self,
         bytes: &[u8],
-        style: Style<'_>,
+        style: Style,
         number: u64,
         output: &mut W,
     ) -> Result<u8, CommandError<'a>> {

@@ -18,9 +18,9 @@ const NOT_A_REQUEST: &str = "not get, set or call with arguments";
 
 /// A request: its bytes, and how its reply is printed as text.
 #[derive(Drop)]
-pub(crate) struct LineRequest<'a> {
+pub(crate) struct LineRequest {
     pub(crate) bytes: Vec<u8>,
-    pub(crate) style: Style<'a>,
+    pub(crate) style: Style,
 }
 
 /// Why a text is not a request.
@@ -54,12 +54,13 @@ impl LineRefusal {
     }
 }
 
-/// The words of a text, or nothing if it has none. `command` comes before them.
-pub(crate) fn words_of<'t>(
+/// Reads a text as a request, or as nothing if it has no words. `command` comes before the words of the text.
+pub(crate) fn read_request(
     alloc: Global,
     command: Option<&'static str>,
-    text: &'t str,
-) -> Result<Option<Vec<&'t str>>, LineRefusal> {
+    text: &str,
+    timeout: Timeout<'_>,
+) -> Result<Option<LineRequest>, LineRefusal> {
     let mut words = Vec::new(alloc);
     if let Some(command) = command {
         words.push(command)?;
@@ -71,21 +72,12 @@ pub(crate) fn words_of<'t>(
     if words.len() == first {
         return Ok(None);
     }
-    Ok(Some(words))
-}
-
-/// Reads words as a request.
-pub(crate) fn read_request<'a>(
-    alloc: Global,
-    words: &'a [&'a str],
-    timeout: Timeout<'a>,
-) -> Result<LineRequest<'a>, LineRefusal> {
     let name = words.first().copied().unwrap_or("");
     let Some(parser) = line_command(alloc, name)? else {
         return Err(LineRefusal::of(alloc, &NOT_A_REQUEST));
     };
-    match parser.try_get_matches_from(words) {
-        Ok(matches) => request_of(alloc, name, &matches, timeout),
+    match parser.try_get_matches_from(words.as_slice()) {
+        Ok(matches) => Ok(Some(request_of(alloc, name, &matches, timeout)?)),
         Err(error) if error.kind() == ErrorKind::OutOfMemory => Err(LineRefusal::Memory),
         Err(error) if !error.use_stderr() => Err(LineRefusal::of(alloc, &NOT_A_REQUEST)),
         Err(error) => {
@@ -102,7 +94,7 @@ fn request_of<'a>(
     command: &str,
     matches: &ArgMatches<'a>,
     timeout: Timeout<'a>,
-) -> Result<LineRequest<'a>, LineRefusal> {
+) -> Result<LineRequest, LineRefusal> {
     let request = match described(command, matches, timeout) {
         Ok(request) => request,
         Err(error) => return Err(LineRefusal::of(alloc, &error)),

@@ -36,7 +36,7 @@ enum RequestData<'a, 'm> {
     /// Values of a type, one in each argument.
     Values(ValueType, &'m [&'a str]),
     /// Values of the fields of a layout, one in each argument.
-    Fields(Layout<'a>, &'m [&'a str]),
+    Fields(Layout, &'m [&'a str]),
 }
 
 /// The device that a request goes to, how it is sent, and how the reply is printed.
@@ -48,7 +48,7 @@ pub(crate) struct Device<'a> {
     pub(crate) connection: ConnectionOptions,
     /// How often a request is sent on the connection if no answer comes. 0 is no limit.
     pub(crate) tries: u64,
-    pub(crate) style: Style<'a>,
+    pub(crate) style: Style,
     /// Whether standard output has only values.
     pub(crate) is_quiet: bool,
     pub(crate) timeout: Timeout<'a>,
@@ -198,7 +198,7 @@ impl<'a: 'm, 'm> Request<'a, 'm> {
 
 /// The data that the arguments give: values if there is a type or a layout, otherwise the digits of one argument.
 fn data_of<'a: 'm, 'm>(
-    shape: Option<ValueShape<'a>>,
+    shape: Option<ValueShape>,
     arguments: &'m [&'a str],
 ) -> Result<RequestData<'a, 'm>, ArgumentError<'a>> {
     match (shape, arguments) {

@@ -3,7 +3,7 @@
 use crate::argument_error::{ArgumentError, parse_seconds};
 use crate::error_keeping::ErrorKeeping;
 use crate::host_port::{HostPort, Timeout};
-use crate::line_request::{LineRefusal, read_request, words_of};
+use crate::line_request::{LineRefusal, read_request};
 use crate::number_argument::NumberArgument;
 use crate::polling::{SessionEnd, pause_after_loss, session_end_of};
 use crate::reason::{CLOCK, CommandError, Reason, print_reason};
@@ -27,7 +27,7 @@ struct Watched<'a> {
     /// The argument, as the output names the attribute.
     text: &'a str,
     bytes: Vec<u8>,
-    style: Style<'a>,
+    style: Style,
     readings: Readings,
 }
 
@@ -42,11 +42,11 @@ struct WatchOptions {
 
 /// The state of a watch.
 #[derive(Drop)]
-struct Watch<'a, 'w, 'r> {
+struct Watch<'a, 'r> {
     rt: &'r HostRuntime,
     device: Device<'a>,
     options: WatchOptions,
-    watched: Vec<Watched<'w>>,
+    watched: Vec<Watched<'a>>,
     start: Instant,
     /// The table on a terminal. `None` if each change is a line.
     table: Option<WatchTable>,
@@ -63,15 +63,13 @@ pub(crate) fn run_watch<'a>(
         Ok(options) => options,
         Err(error) => return Ok(print_argument_error(rt, error)),
     };
-    let mut lines = Vec::new(rt.alloc());
-    let read = add_lines(rt, matches, &mut lines);
-    let watched = match watched_of(rt, lines.as_slice(), device) {
+    let watched = match watched_of(rt, matches, device) {
         Ok(watched) => watched,
-        Err((text, refusal)) => return refused_argument(rt, text, refusal),
+        Err((_, LineRefusal::Memory)) => return Err(CommandError::of_memory()),
+        Err((text, LineRefusal::Text(reason))) => {
+            return Ok(refuse_argument(rt, text, reason.as_str()));
+        }
     };
-    if let Err((text, refusal)) = read {
-        return refused_argument(rt, text, refusal);
-    }
     let is_table = rt.stdout().is_terminal() && !device.style.is_json;
     let mut watch = Watch {
         rt,
@@ -103,56 +101,31 @@ fn options_of<'a>(
     Ok((Device::from_matches(matches, timeout)?, options))
 }
 
-/// An argument and its words, after the name of the command.
-#[derive(Drop)]
-struct WatchLine<'a> {
-    text: &'a str,
-    words: Vec<&'a str>,
-}
-
-/// Adds the words of the arguments, up to the first one that has none. The error is that argument, and why.
-fn add_lines<'a>(
+/// The attributes in the arguments, or the argument that is not a request, and why.
+fn watched_of<'a>(
     rt: &HostRuntime,
     matches: &ArgMatches<'a>,
-    lines: &mut Vec<WatchLine<'a>>,
-) -> Result<(), (&'a str, LineRefusal)> {
+    device: Device<'a>,
+) -> Result<Vec<Watched<'a>>, (&'a str, LineRefusal)> {
+    let mut watched = Vec::new(rt.alloc());
     for text in matches.get_strs("REQUEST").unwrap_or(&[]) {
-        let words = match words_of(rt.alloc(), Some("get"), *text) {
-            Ok(Some(words)) => words,
+        let request = match read_request(rt.alloc(), Some("get"), *text, device.timeout) {
+            Ok(Some(request)) => request,
             Ok(None) => return Err((*text, no_request(rt))),
             Err(refusal) => return Err((*text, refusal)),
-        };
-        if lines.push(WatchLine { text: *text, words }).is_err() {
-            return Err((*text, LineRefusal::Memory));
-        }
-    }
-    Ok(())
-}
-
-/// The attributes in the arguments, or the argument that is not a request, and why.
-fn watched_of<'w>(
-    rt: &HostRuntime,
-    lines: &'w [WatchLine<'w>],
-    device: Device<'w>,
-) -> Result<Vec<Watched<'w>>, (&'w str, LineRefusal)> {
-    let mut watched = Vec::new(rt.alloc());
-    for line in lines {
-        let request = match read_request(rt.alloc(), line.words.as_slice(), device.timeout) {
-            Ok(request) => request,
-            Err(refusal) => return Err((line.text, refusal)),
         };
         let style = Style {
             is_json: device.style.is_json,
             ..request.style
         };
         let pushed = watched.push(Watched {
-            text: line.text,
+            text: *text,
             bytes: request.bytes,
             style,
             readings: Readings::new(rt.alloc()),
         });
         if pushed.is_err() {
-            return Err((line.text, LineRefusal::Memory));
+            return Err((*text, LineRefusal::Memory));
         }
     }
     Ok(watched)
@@ -167,23 +140,14 @@ fn no_request(rt: &HostRuntime) -> LineRefusal {
 }
 
 /// Prints why an argument is not a request. Returns the exit status.
-fn refused_argument<'a>(
-    rt: &HostRuntime,
-    text: &str,
-    refusal: LineRefusal,
-) -> Result<u8, CommandError<'a>> {
-    match refusal {
-        LineRefusal::Memory => Err(CommandError::of_memory()),
-        LineRefusal::Text(reason) => {
-            let _ = eprintln!(rt;
-                "error: invalid value '{text}' for '<REQUEST>': {reason}\n\nFor more information, try '--help'."
-            );
-            Ok(ARGUMENTS_REFUSED)
-        }
-    }
+fn refuse_argument(rt: &HostRuntime, text: &str, reason: &str) -> u8 {
+    let _ = eprintln!(rt;
+        "error: invalid value '{text}' for '<REQUEST>': {reason}\n\nFor more information, try '--help'."
+    );
+    ARGUMENTS_REFUSED
 }
 
-impl<'a> Watch<'a, '_, '_> {
+impl<'a> Watch<'a, '_> {
     /// Reads the attributes again and again. A device that is lost is tried again.
     fn run(&mut self) -> Result<u8, CommandError<'a>> {
         for _ in 0..u64::MAX {

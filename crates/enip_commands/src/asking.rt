@@ -229,7 +229,7 @@ pub fn ask_over<R: Source, W: Sink, O: Write + Drop>(
     writer: &mut W,
     request: &[u8],
     connected: bool,
-    style: Style<'_>,
+    style: Style,
     output: O,
 ) -> Result<ReplyOutcome, RequestFailure>
     requires reads { R.failures reader.old < u64.MAX }
@@ -333,7 +333,7 @@ fn session_refusal(asked: Result<(), AskFault>, is_registered: bool) -> Result<(
 fn print_asked<O: Write>(
     alloc: Global,
     output: &mut O,
-    style: Style<'_>,
+    style: Style,
     asked: Result<(), RequestFailure>,
     reply: &[u8],
 ) -> Result<ReplyOutcome, RequestFailure>
@@ -361,7 +361,7 @@ fn print_asked<O: Write>(
 pub fn show_reply<O: Write + Drop>(
     alloc: Global,
     output: O,
-    style: Style<'_>,
+    style: Style,
     bytes: &[u8],
 ) -> Result<ReplyOutcome, RequestFailure>
     ensures rendered { IfOk result (IsReplyPrinted bytes.now) }
@@ -381,7 +381,7 @@ pub fn show_reply<O: Write + Drop>(
 pub fn show_refusal<O: Write + Drop>(
     alloc: Global,
     output: O,
-    style: Style<'_>,
+    style: Style,
     status: u8,
     extended: u16,
 ) -> Result<ReplyOutcome, RequestFailure>
@@ -402,7 +402,7 @@ pub fn show_refusal<O: Write + Drop>(
 pub(crate) fn print_reply<O: Write>(
     alloc: Global,
     output: &mut O,
-    style: Style<'_>,
+    style: Style,
     bytes: &[u8],
 ) -> Result<ReplyOutcome, RequestFailure>
     ensures rendered { IfOk result (IsReplyPrinted bytes.now) }
@@ -441,7 +441,7 @@ pub(crate) struct ReplyObject {
 /// `Program` if memory was refused.
 pub(crate) fn reply_object(
     alloc: Global,
-    style: Style<'_>,
+    style: Style,
     bytes: &[u8],
 ) -> Result<ReplyObject, RequestFailure>
     ensures rendered { IfOk result (λ rendered. IsReplyPrinted bytes.now rendered.replied) }
@@ -467,7 +467,7 @@ pub(crate) fn reply_object(
 fn print_refusal<O: Write>(
     alloc: Global,
     output: &mut O,
-    style: Style<'_>,
+    style: Style,
     status: u8,
     extended: u16,
 ) -> Result<ReplyOutcome, RequestFailure>

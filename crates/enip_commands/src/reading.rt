@@ -73,7 +73,7 @@ impl Readings {
 pub fn print_reading<O: Write + Drop>(
     alloc: Global,
     output: O,
-    style: Style<'_>,
+    style: Style,
     moment: u64,
     reply: &[u8],
 ) -> Result<ReplyOutcome, RequestFailure>
@@ -88,7 +88,7 @@ pub fn print_reading<O: Write + Drop>(
 fn print_timed<O: Write>(
     alloc: Global,
     output: &mut O,
-    style: Style<'_>,
+    style: Style,
     moment: u64,
     reply: &[u8],
 ) -> Result<ReplyOutcome, RequestFailure>
@@ -110,7 +110,7 @@ fn print_timed<O: Write>(
 fn print_timed_object<O: Write>(
     alloc: Global,
     output: &mut O,
-    style: Style<'_>,
+    style: Style,
     moment: u64,
     reply: &[u8],
 ) -> Result<ReplyOutcome, RequestFailure>

@@ -17,15 +17,15 @@ use std::io::Write;
 
 /// How the data of a reply are printed.
 #[derive(Clone, Copy, Debug)]
-pub struct Style<'a> {
+pub struct Style {
     /// The type or the layout of the values, or `None` for hexadecimal.
-    pub shape: Option<ValueShape<'a>>,
+    pub shape: Option<ValueShape>,
     /// Whether a JSON object is printed.
     pub is_json: bool,
 }
 
 /// Hexadecimal digits, without JSON.
-pub const DIGITS: Style<'static> = Style {
+pub const DIGITS: Style = Style {
     shape: None,
     is_json: false,
 };
@@ -38,7 +38,7 @@ pub const DIGITS: Style<'static> = Style {
 pub(crate) fn print_data<O: Write>(
     alloc: Global,
     output: &mut O,
-    style: Style<'_>,
+    style: Style,
     bytes: &[u8],
 ) -> Result<(), RequestFailure>
     ensures { IfErr result (IsUnprinted style bytes.now) }
@@ -64,7 +64,7 @@ pub(crate) fn print_data<O: Write>(
 /// `Shape` or `Fields` if the data are not values of the type or of the layout. `Program` if memory was refused.
 pub(crate) fn data_object(
     alloc: Global,
-    style: Style<'_>,
+    style: Style,
     bytes: &[u8],
 ) -> Result<String, RequestFailure>
     ensures { IfErr result (IsUnprinted style bytes.now) }
@@ -109,7 +109,7 @@ fn values_of(
 /// `Fields` if they are not. `Program` if memory was refused.
 fn fields_of<'a>(
     alloc: Global,
-    fields: &[Field<'_>],
+    fields: &[Field],
     bytes: &'a [u8],
 ) -> Result<Vec<Value<'a>>, RequestFailure>
     ensures read { IfOk result (λ values. AreBytesOfFields fields.now bytes.now (map value_in values.items)) }
@@ -125,7 +125,7 @@ fn fields_of<'a>(
 /// Prints the values of fields on one line.
 fn print_fields<O: Write>(
     output: &mut O,
-    fields: &[Field<'_>],
+    fields: &[Field],
     values: &[Value<'_>],
 ) -> Result<(), ProgramFault>
     ensures { IfErr result IsOfDevices }

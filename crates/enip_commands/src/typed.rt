@@ -48,7 +48,7 @@ pub struct LayoutRequest<'a, 'b> {
     /// The object that the request goes to.
     pub path: Path,
     /// The fields.
-    pub layout: Layout<'a>,
+    pub layout: Layout,
     /// The values as text, one element each.
     pub words: &'b [&'a str],
 }

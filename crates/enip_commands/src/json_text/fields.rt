@@ -1,7 +1,8 @@
 //! The values of fields as JSON.
 
+use crate::json_text::latin::latin_text;
 use crate::json_text::value::{json_of, list_of};
-use cip_layouts::{Field, Layout};
+use cip_layouts::{Field, Layout, split_values};
 use cip_values::Value;
 use serde_json::{Map, Value as Json, json, put};
 use std::alloc::{AllocError, Global};
@@ -15,7 +16,7 @@ use std::alloc::{AllocError, Global};
 pub fn fields_line(
     alloc: Global,
     bytes: &[u8],
-    layout: &Layout<'_>,
+    layout: &Layout,
     values: &[Value<'_>],
 ) -> Result<String, AllocError> {
     let given = if layout.is_named() {
@@ -32,15 +33,17 @@ pub fn fields_line(
 /// The object of fields with names.
 fn members_of(
     alloc: Global,
-    fields: &[Field<'_>],
+    fields: &[Field],
     values: &[Value<'_>],
 ) -> Result<Json, AllocError> {
     let mut members = Map::new(alloc);
     let mut rest = values;
     for field in fields {
-        let (mine, behind) = rest.split_at(field.values().min(rest.len()));
-        let value = field_json(alloc, field, mine)?;
-        put(&mut members, alloc, field.name.unwrap_or(""), value)?;
+        let (value, behind) = first_json(alloc, field, rest)?;
+        if let Some(name) = field.name {
+            let name = latin_text(alloc, name.as_slice())?;
+            put(&mut members, alloc, name.as_str(), value)?;
+        }
         rest = behind;
     }
     Ok(Json::Object(members))
@@ -49,23 +52,33 @@ fn members_of(
 /// The array of fields without names.
 fn items_of(
     alloc: Global,
-    fields: &[Field<'_>],
+    fields: &[Field],
     values: &[Value<'_>],
 ) -> Result<Json, AllocError> {
     let mut items = Vec::new(alloc);
     let mut rest = values;
     for field in fields {
-        let (mine, behind) = rest.split_at(field.values().min(rest.len()));
-        items.push(field_json(alloc, field, mine)?)?;
+        let (value, behind) = first_json(alloc, field, rest)?;
+        items.push(value)?;
         rest = behind;
     }
     Ok(Json::Array(items))
 }
 
+/// The values of a field, the first of these, and the others.
+fn first_json<'a, 'b>(
+    alloc: Global,
+    field: &Field,
+    values: &'b [Value<'a>],
+) -> Result<(Json, &'b [Value<'a>]), AllocError> {
+    let (mine, rest) = split_values(values, field.values());
+    Ok((field_json(alloc, field, mine)?, rest))
+}
+
 /// The values of one field: an array if the field is one, otherwise its value.
 fn field_json(
     alloc: Global,
-    field: &Field<'_>,
+    field: &Field,
     values: &[Value<'_>],
 ) -> Result<Json, AllocError> {
     match (field.count, values) {
