@@ -1,18 +1,21 @@
 -- Parsing a layout: texts that are cut, types by their names, and fields that are added.
-use Rattle.std.proofs.Common.{◌≡◌, ℕ, ◌+◌, ◌<◌, ◌≤◌, Bool, true, false, List, [], ◌∷◌, ◌++◌, length, map, take, get_or, set, Option, Some, None, Result, Ok, Err, refl, sym, ap, subst, ◌∙◌, arith}
-use Rattle.std.specs.Prelude.{IfSome, MatchOption, option_map, cond}
+use Rattle.std.proofs.Common.{◌≡◌, ℕ, ◌+◌, ◌<◌, ◌≤◌, Bool, true, false, not, suc, cond, ltb, add-one, List, [], ◌∷◌, ◌++◌, length, map, take, get_or, set, Option, Some, None, Result, Ok, Err, refl, sym, ap, subst, ◌∙◌, arith}
+use Rattle.std.specs.Prelude.{IfSome, MatchOption, option_map}
 use Rattle.std.specs.Borrow.{Bor}
-use Rattle.std.specs.List.{position_or_len, before_first, after_first, slice_split, list_any, find}
+use Rattle.std.specs.List.{position_or_len, before_first, after_first, slice_split, list_any, find, onto_first}
 use Rattle.std.specs.Str.{bytes_eq}
-use Rattle.std.proofs.Math.Seq.{take-suc-set}
-use Rattle.std.proofs.lemmas.Bool.{le-ltb, lt-ltb}
-use Rattle.std.proofs.lemmas.List.{map-append}
+use lib.Seq.{take-suc-set}
+use Rattle.std.proofs.lemmas.Bool.{le-ltb, lt-ltb, ltb-true, ltb-false}
+use Rattle.std.proofs.lemmas.List.{map-append, length-map, length-take-le}
+use Rattle.std.proofs.lemmas.List.Splits.{slice_split_first}
+use Rattle.cip_bytes.specs.Reading.{◌>>=◌}
 use Rattle.std.proofs.lemmas.Slice.Eq.{bytes_eq-Decides}
 use Rattle.cip_values.specs.Types.{name_of as type_name}
 use Rattle.cip_values.specs.declared.element.ElementaryType.{ElementaryType}
 use Rattle.cip_values.specs.declared.element.ElementaryType.TheVariants as types
-use Rattle.cip_layouts.specs.Layouts.{Field, field_in, is_byte, has_byte, cut_in, cut_seen, elements, element_named, differ, mixes}
+use Rattle.cip_layouts.specs.Layouts.{Field, field_in, is_byte, has_byte, cut_in, cut_seen, elements, element_named, differ, mixes, with_text, with_texts}
 use Rattle.cip_layouts.specs.declared.field.Field.{Field as FieldInCode}
+use Rattle.cip_layouts.specs.declared.fault.LayoutFault.{LayoutFault}
 
 -- ---- a text cut in two
 
@@ -91,3 +94,68 @@ mixes_first (x ∷ xs) d field some = refl
 pub mixes_none : (xs : List FieldInCode) (field : Field) → length xs ≡ 0 → mixes (map field_in xs) field ≡ false
 mixes_none [] field none = refl
 mixes_none (x ∷ xs) field none = absurd (omega (arith, none))
+
+pub fields_length : (xs : List FieldInCode) (n : ℕ) → n ≤ length xs → length (map field_in (take n xs)) ≡ n
+fields_length xs n fits = length-map field_in (take n xs) ∙ length-take-le n xs fits
+
+pub fields_more : (xs : List FieldInCode) (n : ℕ) (field : FieldInCode) → n < length xs
+    → map field_in (take (n + 1) (set xs n field)) ≡ map field_in (take n xs) ++ field_in field ∷ []
+fields_more xs n field inside =
+    ap (λ (k : ℕ). map field_in (take k (set xs n field))) (add-one n)
+    ∙ ap (map field_in) (take-suc-set xs n field inside) ∙ map-append field_in (take n xs) (field ∷ [])
+
+-- ---- the texts between commas
+
+only_by : (t : Bool) (p : ℕ → Bool) (x : ℕ) (xs : List ℕ) → p x ≡ t → suc (length xs) ≤ cond (not t) (1 + position_or_len p xs) 0
+    → (length xs ≤ position_or_len p xs → slice_split p xs ≡ xs ∷ [])
+    → cond t ([] ∷ slice_split p xs) (onto_first x (slice_split p xs)) ≡ (x ∷ xs) ∷ []
+only_by true p x xs e none rest = absurd (omega (arith, none))
+only_by false p x xs e none rest = ap (onto_first x) (rest (omega (arith, none)))
+
+only_one : (p : ℕ → Bool) (xs : List ℕ) → length xs ≤ position_or_len p xs → slice_split p xs ≡ xs ∷ []
+only_one p [] none = refl
+only_one p (x ∷ xs) none = only_by (p x) p x xs refl none (only_one p xs)
+
+cut_none : (c : ℕ) (text : List ℕ) → cut_in c text ≡ None → slice_split (is_byte c) text ≡ text ∷ []
+unfolding cut_in
+cut_none c text e = by (has_byte c text) refl e
+  where
+    by : (t : Bool) → has_byte c text ≡ t → cond t (Some (before_first (is_byte c) text, after_first (is_byte c) text)) None ≡ None
+        → slice_split (is_byte c) text ≡ text ∷ []
+    by true t e = absurd cc
+    by false t e = only_one (is_byte c) text (ltb-false _ _ t)
+
+cut_some : (c : ℕ) (text first rest : List ℕ) → cut_in c text ≡ Some (first, rest)
+    → slice_split (is_byte c) text ≡ first ∷ slice_split (is_byte c) rest
+unfolding cut_in
+cut_some c text first rest e = by (has_byte c text) refl e
+  where
+    by : (t : Bool) → has_byte c text ≡ t → cond t (Some (before_first (is_byte c) text, after_first (is_byte c) text)) None ≡ Some (first, rest)
+        → slice_split (is_byte c) text ≡ first ∷ slice_split (is_byte c) rest
+    by true t e =
+        let same : (before_first (is_byte c) text, after_first (is_byte c) text) ≡ (first, rest) = cc in
+        slice_split_first (is_byte c) text 0 (ltb-true _ _ t)
+        ∙ ap (λ (p : List ℕ × List ℕ). p.0 ∷ slice_split (is_byte c) p.1) same
+    by false t e = absurd cc
+
+bind_done : (r : Result (List Field) LayoutFault) → (r >>= λ more. Ok more) ≡ r
+bind_done (Ok more) = refl
+bind_done (Err why) = refl
+
+pub adds_last : (fields : List Field) (text : List ℕ) (r : Result (List Field) LayoutFault) → r ≡ with_text fields text
+    → cut_in 44 text ≡ None → r ≡ with_texts fields (slice_split (is_byte 44) text)
+adds_last fields text r e none =
+    e ∙ sym (bind_done (with_text fields text)) ∙ ap (with_texts fields) (sym (cut_none 44 text none))
+
+pub adds_first : (fields more : List Field) (text first rest : List ℕ) → Ok more ≡ with_text fields first
+    → cut_in 44 text ≡ Some (first, rest)
+    → with_texts fields (slice_split (is_byte 44) text) ≡ with_texts more (slice_split (is_byte 44) rest)
+adds_first fields more text first rest e cut =
+    ap (with_texts fields) (cut_some 44 text first rest cut)
+    ∙ ap (λ (r : Result (List Field) LayoutFault). r >>= λ longer. with_texts longer (slice_split (is_byte 44) rest)) (sym e)
+
+pub fails_first : (fields : List Field) (text first rest : List ℕ) (why : LayoutFault) → Err why ≡ with_text fields first
+    → cut_in 44 text ≡ Some (first, rest) → with_texts fields (slice_split (is_byte 44) text) ≡ Err why
+fails_first fields text first rest why e cut =
+    ap (with_texts fields) (cut_some 44 text first rest cut)
+    ∙ ap (λ (r : Result (List Field) LayoutFault). r >>= λ longer. with_texts longer (slice_split (is_byte 44) rest)) (sym e)

@@ -212,13 +212,13 @@ layout_seen (Err why) = Err why
 abbrev pub name_shown : FieldName → List ℕ
 name_shown name = flat_map encode_utf8 (name_of name)
 
-abbrev pub name_text : Option (List ℕ) → List ℕ
+abbrev pub name_text : Option FieldName → List ℕ
 name_text None = []
-name_text (Some name) = name ++ codes ":"
+name_text (Some name) = name_shown name ++ codes ":"
 
 abbrev pub count_text : Option ℕ → List ℕ
 count_text None = []
 count_text (Some count) = codes "[" ++ decimal count ++ codes "]"
 
-abbrev pub field_text : Field → List ℕ
+abbrev pub field_text : FieldInCode → List ℕ
 field_text field = name_text field.name ++ type_name field.element ++ count_text field.count

@@ -1,7 +1,7 @@
 //! One field of a layout, and its text.
 
-ghost use Rattle.std.specs.Prelude.{◌≡◌, ◌<◌, ◌^◌, option_map};
-ghost use Rattle.std.specs.List.{list_all};
+ghost use Rattle.std.specs.Prelude.{◌≡◌, ◌<◌, ◌^◌, IfSome, length, option_map};
+ghost use Rattle.std.specs.List.{list_all, list_any};
 ghost use Rattle.cip_layouts.specs.Layouts.{cut_in, cut_seen, element_in, count_in, number_in, is_digit, is_name, is_name_byte, is_same, name_of};
 
 use crate::fault::FieldFault;
@@ -94,16 +94,47 @@ impl Field {
 
 impl fmt::Display for Field {
     ghost use Rattle.std.specs.Prelude.{Some};
-    ghost use Rattle.cip_layouts.specs.Layouts.{field_in, field_text};
+    ghost use Rattle.cip_layouts.specs.Layouts.{field_text};
 
-    ghost output = { λ field. Some (field_text (field_in field)) };
+    ghost output = { λ field. Some (field_text field) };
 
     fn fmt<W: fmt::Write>(&self, f: &mut fmt::Formatter<W>) -> fmt::Result {
-        if let Some(name) = self.name {
-            write!(f, "{name}:")?;
-        }
+        write!(f, "{}", NameText(self.name))?;
         write!(f, "{}", self.element)?;
-        match self.count {
+        write!(f, "{}", CountText(self.count))
+    }
+}
+
+/// A name and a colon, or nothing.
+#[derive(Clone, Copy)]
+struct NameText(Option<FieldName>);
+
+impl fmt::Display for NameText {
+    ghost use Rattle.std.specs.Prelude.{Some};
+    ghost use Rattle.cip_layouts.specs.Layouts.{name_text};
+
+    ghost output = { λ text. Some (name_text text.0) };
+
+    fn fmt<W: fmt::Write>(&self, f: &mut fmt::Formatter<W>) -> fmt::Result {
+        match self.0 {
+            Some(name) => write!(f, "{name}:"),
+            None => Ok(()),
+        }
+    }
+}
+
+/// A count in brackets, or nothing.
+#[derive(Clone, Copy)]
+struct CountText(Option<u16>);
+
+impl fmt::Display for CountText {
+    ghost use Rattle.std.specs.Prelude.{Some};
+    ghost use Rattle.cip_layouts.specs.Layouts.{count_text};
+
+    ghost output = { λ text. Some (count_text text.0) };
+
+    fn fmt<W: fmt::Write>(&self, f: &mut fmt::Formatter<W>) -> fmt::Result {
+        match self.0 {
             Some(count) => write!(f, "[{count}]"),
             None => Ok(()),
         }
@@ -114,13 +145,21 @@ impl fmt::Display for Field {
 #[tactic(auto, unfolding(crate::specs::Layouts::cut_in))]
 pub(crate) fn cut(text: &str, at: char) -> Option<(&str, &str)>
     requires { at < 128 }
-    ensures { option_map cut_seen result ≡ cut_in at text.now }
+    ensures cut { option_map cut_seen result ≡ cut_in at text.now }
+    ensures shorter { IfSome result (λ cut. length cut.1.now < length text.now) }
 {
     text.split_once(at)
 }
 
+/// Whether one of the fields has this name.
+pub(crate) fn any_named(fields: &[Field], name: FieldName) -> bool
+    ensures { result ≡ list_any (λ field. is_same (option_map name_of field.name) (name_of name)) fields.now }
+{
+    fields.iter().any(|field| is_same(field.name, name))
+}
+
 /// Whether there is a name, and it is this one.
-pub(crate) fn is_same(name: Option<FieldName>, other: FieldName) -> bool
+fn is_same(name: Option<FieldName>, other: FieldName) -> bool
     ensures { result ≡ is_same (option_map name_of name) (name_of other) }
 {
     match name {

@@ -4,7 +4,7 @@ ghost use Rattle.std.specs.Prelude.{◌≡◌, ◌≤◌, ◌==◌, map, length}
 ghost use Rattle.std.specs.List.{slice_split};
 
 use crate::fault::{FieldFault, LayoutFault};
-use crate::field::{Field, cut, is_same};
+use crate::field::{Field, any_named, cut};
 use crate::name::FieldName;
 use cip_values::ValueType;
 use std::fmt;
@@ -137,7 +137,7 @@ impl Layout {
     fn has_name(&self, name: FieldName) -> bool
         ensures { result ≡ has_name (fields_in self.now) (name_of name) }
     {
-        self.fields().iter().any(|field| is_same(field.name, name))
+        any_named(self.fields(), name)
     }
 }
 

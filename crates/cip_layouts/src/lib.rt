@@ -12,6 +12,7 @@
 
 mod fault;
 mod field;
+pub mod laws;
 mod layout;
 mod name;
 mod reading;
