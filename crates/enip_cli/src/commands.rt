@@ -259,6 +259,7 @@ static COMMANDS: [Row; 14] = [
         details: DETAILS_SERVICES,
         arguments: &[
             Argument::DeviceAddress,
+            Argument::Json,
             Argument::Timeout,
             Argument::Deadline,
         ],

@@ -360,7 +360,8 @@ For exit statuses, see `enip --help`.";
 pub(crate) const EXAMPLES_SERVICES: &str = "\
 Examples:
   enip services 127.0.0.1
-  enip services plc.local:2222 --timeout 1";
+  enip services plc.local:2222 --timeout 1
+  enip services plc.local:2222 --json";
 
 pub(crate) const DETAILS_SERVICES: &str = "\
 Sends ListServices, which needs no session, and prints a line for each field.
@@ -370,9 +371,13 @@ Several services have an empty line between them.
   capability flags 0x0020
   name Communications
 
+A byte of the name that is not printable is written as \\xNN. With --json, each
+service is one object on one line.
+
 Examples:
   enip services 127.0.0.1
   enip services plc.local:2222 --timeout 1
+  enip services plc.local:2222 --json
 
 For exit statuses, see `enip --help`.";
 
@@ -565,12 +570,16 @@ SHORT_STRING             up to 255 characters; \\xNN is a byte that is
 STRING                   the same, up to 65535 characters
 STRING2                  up to 65535 characters of 16 bits; \\uNNNN is
                          one that is not printable ASCII
-EPATH                    up to 255 words, as hexadecimal digits";
+EPATH                    up to 255 words, as hexadecimal digits
+
+The values of a structure are given by the types of its fields, with a
+comma between them, such as UINT,REAL,USINT[4]: [N] is an array of N
+values. All fields or none have names, such as speed:UINT,limit:REAL";
 
 pub(crate) const REPLY_TYPE_DETAILS: &str = "\
 Print the data of the reply as a value of this type, or with [] after
-it, as any number of values, with a space between them. The types are
-those of --as of `enip get`";
+it, as any number of values, with a space between them, or as the
+fields of a structure. The types are those of --as of `enip get`";
 
 pub(crate) const WRITTEN_TYPE_DETAILS: &str = "\
 Take a value of this type, or with [] after it, any number of values,
@@ -591,11 +600,16 @@ SHORT_STRING STRING      up to 255 and 65535 characters; \\xNN is a
                          byte, \\\\ a backslash
 STRING2                  up to 65535 ASCII characters; \\uNNNN is any
                          character
-EPATH                    up to 255 words, as hexadecimal digits";
+EPATH                    up to 255 words, as hexadecimal digits
+
+The values of a structure are given by the types of its fields, with a
+comma between them, such as UINT,REAL,USINT[4]: [N] is an array of N
+values. All fields or none have names, such as speed:UINT,limit:REAL";
 
 pub(crate) const CALLED_TYPE_DETAILS: &str = "\
 Take a value of this type, or with [] after it, any number of values,
-each as one argument. The types are those of --as of `enip set`";
+each as one argument, or those of the fields of a structure. The types
+are those of --as of `enip set`";
 
 pub(crate) const DATA_DETAILS: &str = "\
 Data in hexadecimal, as one argument; spaces are ignored. Numbers have

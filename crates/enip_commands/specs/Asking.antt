@@ -15,7 +15,7 @@ use Rattle.enip_client.specs.declared.wants.Wants.{Wants}
 use Rattle.enip_commands.specs.declared.asking.ReplyOutcome.{ReplyOutcome}
 use Rattle.enip_commands.specs.declared.asking.ReplyOutcome.TheVariants.{Done, Refused}
 use Rattle.enip_commands.specs.declared.asking.RequestFailure.{RequestFailure}
-use Rattle.enip_commands.specs.declared.asking.RequestFailure.TheVariants.{Hex, Session, Client, Shape, Program}
+use Rattle.enip_commands.specs.declared.asking.RequestFailure.TheVariants.{Hex, Session, Client, Shape, Fields, Program}
 use Rattle.enip_commands.specs.declared.fault.ProgramFault.TheVariants.{Device, Memory}
 use Rattle.enip_commands.specs.declared.style.Style.{Style}
 use Rattle.enip_commands.specs.Digits.{bytes_spelled}
@@ -80,6 +80,7 @@ IsOfExchange Hex = ⊥
 IsOfExchange (Session status) = ⊤
 IsOfExchange (Client fault) = ⊤
 IsOfExchange (Shape value_type fault) = ⊤
+IsOfExchange (Fields fault) = ⊤
 IsOfExchange (Program fault) = IsOfDevices fault
 
 -- The outcome of a reply: general status 0 is success. Any other is a refusal, with the first additional word or 0.
@@ -97,4 +98,5 @@ IsNotPrinted style bytes (Session status) = ⊥
 IsNotPrinted style bytes (Client fault) = (fault ≡ client.Malformed) × ((a : Reply) → reply_of bytes ≡ Ok a → ⊥)
 IsNotPrinted style bytes (Shape value_type fault) =
     (a : Reply) × (reply_of bytes ≡ Ok a) × IsUnprinted style a.«data» (Shape value_type fault)
+IsNotPrinted style bytes (Fields fault) = (a : Reply) × (reply_of bytes ≡ Ok a) × IsUnprinted style a.«data» (Fields fault)
 IsNotPrinted style bytes (Program fault) = IsOfDevices fault

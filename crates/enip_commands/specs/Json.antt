@@ -11,6 +11,7 @@ use Rattle.cip_values.specs.Texts.{path_text, date_text, clock_text}
 use Rattle.cip_values.specs.Types.{type_name_of}
 use Rattle.cip_values.specs.declared.element.ValueType.{ValueType}
 use Rattle.enip_client.specs.Identity.{Identity}
+use Rattle.enip_client.specs.Service.{Service}
 use Rattle.json.specs.Lex.{tokens}
 use Rattle.json.specs.Print.{print}
 use Rattle.serde_json.specs.Read.{read}
@@ -44,6 +45,13 @@ identity_data i =
     (member (codes "state") (count i.state)
     (member (codes "status") (count i.status)
     (member (codes "vendor") (count i.vendor) no_members)))))))))))
+
+-- A service of ListServices.
+abbrev pub service_data : Service → Data
+service_data s =
+    object (member (codes "capability_flags") (count s.flags)
+    (member (codes "name") (string (latin s.name))
+    (member (codes "version") (count s.version) no_members)))
 
 -- A reply, with its data in hexadecimal.
 abbrev pub data_told : List ℕ → Data

@@ -6,7 +6,7 @@ pub mod Answering
 pub mod Asking
 pub mod Listing
 pub mod Styles
-pub mod Identities
+pub mod ListObjects
 pub mod Discovering
 pub mod Interfaces
 pub mod Readings

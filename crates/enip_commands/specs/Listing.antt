@@ -18,7 +18,7 @@ use Rattle.enip_client.specs.declared.lists.ListCommand.TheVariants as lists
 use Rattle.enip_commands.specs.Lines.{with_newline}
 use Rattle.enip_commands.specs.Statuses.{IsOfDevices}
 use Rattle.enip_commands.specs.declared.asking.RequestFailure.{RequestFailure}
-use Rattle.enip_commands.specs.declared.asking.RequestFailure.TheVariants.{Hex, Session, Client, Shape, Program}
+use Rattle.enip_commands.specs.declared.asking.RequestFailure.TheVariants.{Hex, Session, Client, Shape, Fields, Program}
 
 -- Numbers of two and of four bytes, in hexadecimal.
 abbrev pub hex_word : ℕ → List ℕ
@@ -107,6 +107,7 @@ IsListPrinted command old new before after (Err Hex) = ⊥
 IsListPrinted command old new before after (Err (Session status)) = ⊥
 IsListPrinted command old new before after (Err (Client fault)) = IsListed command old new (Err (ask.Client fault))
 IsListPrinted command old new before after (Err (Shape value_type fault)) = ⊥
+IsListPrinted command old new before after (Err (Fields fault)) = ⊥
 IsListPrinted command old new before after (Err (Program fault)) = IsOfDevices fault
 
 -- The same, without what was printed.
@@ -116,4 +117,5 @@ IsListAsked command old new (Err Hex) = ⊥
 IsListAsked command old new (Err (Session status)) = ⊥
 IsListAsked command old new (Err (Client fault)) = IsListed command old new (Err (ask.Client fault))
 IsListAsked command old new (Err (Shape value_type fault)) = ⊥
+IsListAsked command old new (Err (Fields fault)) = ⊥
 IsListAsked command old new (Err (Program fault)) = IsOfDevices fault

@@ -27,6 +27,7 @@ request_failure_status asking.Hex = 2
 request_failure_status (asking.Session status) = 7
 request_failure_status (asking.Client fault) = 7
 request_failure_status (asking.Shape value_type fault) = 7
+request_failure_status (asking.Fields fault) = 7
 request_failure_status (asking.Program fault) = exit_status fault
 
 -- The exit status of a request: that of its reply, or of its failure.

@@ -15,6 +15,7 @@ use crate::hexadecimal::is_hexadecimal;
 use crate::json_text::refusal_line;
 use crate::style::{Style, data_object, print_data};
 use arrayvec::ArrayVec;
+use cip_layouts::FieldsFault;
 use cip_message::{Path, ReplyView, write_path};
 use cip_objects::ReplyBuf;
 use cip_route::Route;
@@ -141,6 +142,9 @@ pub enum RequestFailure {
     /// The data of the reply are not values of this type.
     #[error("fault {}", ClientFault::Malformed.number())]
     Shape(ValueType, ValueFault<'static>),
+    /// The data of the reply are not values of the layout.
+    #[error("fault {}", ClientFault::Malformed.number())]
+    Fields(FieldsFault<'static>),
     /// The program itself failed.
     #[error("{0}")]
     Program(ProgramFault),
@@ -153,7 +157,8 @@ impl RequestFailure {
     {
         match self {
             RequestFailure::Hex => 2,
-            RequestFailure::Session(_) | RequestFailure::Client(_) | RequestFailure::Shape(..) => 7,
+            RequestFailure::Session(_) | RequestFailure::Client(_) => 7,
+            RequestFailure::Shape(..) | RequestFailure::Fields(_) => 7,
             RequestFailure::Program(fault) => fault.exit_status(),
         }
     }
@@ -350,7 +355,8 @@ fn print_asked<O: Write>(
 ///
 /// # Errors
 ///
-/// `Client` with `Malformed` if the bytes are not a reply. `Shape` if its data are not values of the style's type.
+/// `Client` with `Malformed` if the bytes are not a reply. `Shape` or `Fields` if its data are not values of the style's type
+/// or layout.
 /// `Program` if the output failed or memory was refused.
 pub fn show_reply<O: Write + Drop>(
     alloc: Global,
@@ -430,7 +436,8 @@ pub(crate) struct ReplyObject {
 ///
 /// # Errors
 ///
-/// `Client` with `Malformed` if the bytes are not a reply. `Shape` if its data are not values of the style's type.
+/// `Client` with `Malformed` if the bytes are not a reply. `Shape` or `Fields` if its data are not values of the style's type
+/// or layout.
 /// `Program` if memory was refused.
 pub(crate) fn reply_object(
     alloc: Global,

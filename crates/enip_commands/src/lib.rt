@@ -2,13 +2,13 @@
 //!
 //! - [`answer`] runs an adapter over lines of hexadecimal pieces, and prints its answers.
 //! - [`show_frames`] prints the fields of frames, one frame per line of input.
-//! - [`ask_over`] sends one request and prints the reply. A [`DeviceRequest`] or a [`TypedRequest`] makes the
-//!   request, and [`report_outcome`] gives the exit status. [`DeviceSession`], [`Readings`] and [`print_reading`] are
+//! - [`ask_over`] sends one request and prints the reply. A [`DeviceRequest`], a [`TypedRequest`] or a
+//!   [`LayoutRequest`] makes the request, and [`report_outcome`] gives the exit status. [`DeviceSession`], [`Readings`] and [`print_reading`] are
 //!   for repeated reads.
 //! - [`exchange_over`] and [`show_reply`] are the two halves of `ask_over`, for commands that are executed once:
 //!   [`read_commander`] and [`write_commander`] keep a commander in a file, [`read_life`] and [`begin_once`] say what is
 //!   sent, and a [`LedgerRefusal`] what a refusal means.
-//! - [`list_over`] and [`identities_over`] ask a device for its identity or its services. [`print_devices`] and
+//! - [`list_over`] and [`objects_over`] ask a device for its identity or its services. [`print_devices`] and
 //!   [`print_device_objects`] print the answers to a broadcast, [`print_answer`] and [`print_answer_object`] with the
 //!   address that each came from. A [`DiscoveryAnswer`] is compared with others.
 //! - An [`InterfaceConfiguration`] is printed as lines or, by [`interface_object`], as JSON.
@@ -31,12 +31,12 @@ mod digits;
 mod discovering;
 mod fault;
 mod hexadecimal;
-mod identities;
 mod input_lines;
 mod interface;
 mod json_text;
 mod line_fault;
 mod lines;
+mod list_objects;
 mod listing;
 mod once;
 mod peer_number;
@@ -56,11 +56,11 @@ pub use command_file::{CommandFile, CommandFileFault, read_commander, write_comm
 pub use digits::{Digits, decode};
 pub use discovering::{DiscoveryAnswer, Remarks, print_answer, print_answer_object};
 pub use fault::ProgramFault;
-pub use identities::{identities_over, print_device_objects};
 pub use input_lines::{TakeLines, read_lines};
 pub use interface::{InterfaceConfiguration, interface_object};
 pub use line_fault::LineFault;
 pub use lines::decimal;
+pub use list_objects::{objects_over, print_device_objects};
 pub use listing::{list_over, print_devices};
 pub use once::{
     LIFE_REQUEST, LedgerRefusal, LifeFault, OnceRefusal, PendingChoice, begin_once, check_once,
@@ -70,4 +70,4 @@ pub use reading::{Readings, print_reading};
 pub use session::{DeviceSession, LONG_LIVED};
 pub use showing::show_frames;
 pub use style::{DIGITS, Style};
-pub use typed::TypedRequest;
+pub use typed::{LayoutRequest, TypedRequest};

@@ -67,7 +67,8 @@ impl Readings {
 ///
 /// # Errors
 ///
-/// `Client` with `Malformed` if the bytes are not a reply. `Shape` if its data are not values of the style's type.
+/// `Client` with `Malformed` if the bytes are not a reply. `Shape` or `Fields` if its data are not values of the style's type
+/// or layout.
 /// `Program` if the output failed or memory was refused.
 pub fn print_reading<O: Write + Drop>(
     alloc: Global,

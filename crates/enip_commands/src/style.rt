@@ -1,30 +1,32 @@
 //! How the data of a reply are printed: in hexadecimal, as values of a type, or as JSON.
 
 ghost use Rattle.std.specs.Prelude.{IfOk, IfErr, map};
+ghost use Rattle.cip_layouts.specs.Fields.{AreBytesOfFields};
 ghost use Rattle.cip_values.specs.Values.{value_in, AreBytesOf};
-ghost use Rattle.enip_commands.specs.Styles.{IsUnprinted, IsOfValues};
+ghost use Rattle.enip_commands.specs.Styles.{IsUnprinted, IsOfValues, IsOfFields};
 ghost use Rattle.enip_commands.specs.Statuses.{IsOfDevices};
 
 use crate::asking::RequestFailure;
 use crate::digits::print_digits;
 use crate::fault::ProgramFault;
-use crate::json_text::{data_line, values_line};
+use crate::json_text::{data_line, fields_line, values_line};
+use cip_layouts::{Field, FieldsFault, FieldsText, ValueShape, read_fields};
 use cip_values::{Value, ValueFault, ValueType, ValuesText, read_values};
 use std::alloc::Global;
 use std::io::Write;
 
 /// How the data of a reply are printed.
-#[derive(Clone, Copy, Debug, PartialEq, Eq)]
+#[derive(Clone, Copy, Debug)]
 pub struct Style {
-    /// The type of the values, or `None` for hexadecimal.
-    pub value_type: Option<ValueType>,
+    /// The type or the layout of the values, or `None` for hexadecimal.
+    pub shape: Option<ValueShape>,
     /// Whether a JSON object is printed.
     pub is_json: bool,
 }
 
 /// Hexadecimal digits, without JSON.
 pub const DIGITS: Style = Style {
-    value_type: None,
+    shape: None,
     is_json: false,
 };
 
@@ -32,7 +34,7 @@ pub const DIGITS: Style = Style {
 ///
 /// # Errors
 ///
-/// `Shape` if the data are not values of the type. `Program` if the output failed or memory was refused.
+/// `Shape` or `Fields` if the data are not values of the type or of the layout. `Program` if the output failed or memory was refused.
 pub(crate) fn print_data<O: Write>(
     alloc: Global,
     output: &mut O,
@@ -41,10 +43,14 @@ pub(crate) fn print_data<O: Write>(
 ) -> Result<(), RequestFailure>
     ensures { IfErr result (IsUnprinted style bytes.now) }
 {
-    match style.value_type {
-        Some(value_type) => {
+    match style.shape {
+        Some(ValueShape::Type(value_type)) => {
             let values = values_of(alloc, value_type, bytes)?;
             print_values(output, value_type, values.as_slice())?;
+        }
+        Some(ValueShape::Layout(layout)) => {
+            let values = fields_of(alloc, layout.fields(), bytes)?;
+            print_fields(output, layout.fields(), values.as_slice())?;
         }
         None => print_plain(output, bytes)?,
     }
@@ -55,7 +61,7 @@ pub(crate) fn print_data<O: Write>(
 ///
 /// # Errors
 ///
-/// `Shape` if the data are not values of the type. `Program` if memory was refused.
+/// `Shape` or `Fields` if the data are not values of the type or of the layout. `Program` if memory was refused.
 pub(crate) fn data_object(
     alloc: Global,
     style: Style,
@@ -63,10 +69,14 @@ pub(crate) fn data_object(
 ) -> Result<String, RequestFailure>
     ensures { IfErr result (IsUnprinted style bytes.now) }
 {
-    match style.value_type {
-        Some(value_type) => {
+    match style.shape {
+        Some(ValueShape::Type(value_type)) => {
             let values = values_of(alloc, value_type, bytes)?;
             Ok(values_line(alloc, bytes, value_type, values.as_slice())?)
+        }
+        Some(ValueShape::Layout(layout)) => {
+            let values = fields_of(alloc, layout.fields(), bytes)?;
+            Ok(fields_line(alloc, bytes, &layout, values.as_slice())?)
         }
         None => Ok(data_line(alloc, bytes)?),
     }
@@ -90,6 +100,38 @@ fn values_of(
         Err(ValueFault::Memory) => Err(RequestFailure::Program(ProgramFault::Memory)),
         Err(fault) => Err(RequestFailure::Shape(value_type, fault)),
     }
+}
+
+/// Reads data as the values of fields.
+///
+/// # Errors
+///
+/// `Fields` if they are not. `Program` if memory was refused.
+fn fields_of<'a>(
+    alloc: Global,
+    fields: &[Field],
+    bytes: &'a [u8],
+) -> Result<Vec<Value<'a>>, RequestFailure>
+    ensures read { IfOk result (λ values. AreBytesOfFields fields.now bytes.now (map value_in values.items)) }
+    ensures refused { IfErr result (IsOfFields fields.now bytes.now) }
+{
+    match read_fields(alloc, fields, bytes) {
+        Ok(values) => Ok(values),
+        Err(FieldsFault::Memory) => Err(RequestFailure::Program(ProgramFault::Memory)),
+        Err(fault) => Err(RequestFailure::Fields(fault)),
+    }
+}
+
+/// Prints the values of fields on one line.
+fn print_fields<O: Write>(
+    output: &mut O,
+    fields: &[Field],
+    values: &[Value<'_>],
+) -> Result<(), ProgramFault>
+    ensures { IfErr result IsOfDevices }
+{
+    writeln!(output, "{}", FieldsText { fields, values })?;
+    Ok(())
 }
 
 /// Prints values on one line.

@@ -2,6 +2,7 @@
 
 ghost use Rattle.std.specs.Prelude.{◌≡◌};
 
+use cip_layouts::{Layout, LayoutFault, ValueShape};
 use cip_names::Name;
 use cip_route::RouteFault;
 use cip_values::ValueType;
@@ -21,6 +22,9 @@ pub enum ArgumentError<'a> {
         ULINT, BYTE,\n  WORD, DWORD, LWORD, REAL, SHORT_STRING, LREAL, STRING, STRING2, EPATH, DATE,\n  TIME_OF_DAY, \
         DATE_AND_TIME, TIME, LTIME, or one of these and [] for a list]")]
     Type(&'static str, &'a str),
+    /// The value of this option is not a layout.
+    #[error("invalid value '{1}' for '--{0} <TYPE>'\n  [{2}]")]
+    Layout(&'static str, &'a str, LayoutFault),
     /// The text is not a route.
     #[error("invalid value '{0}' for '--route <HOPS>'\n  [{1}]")]
     Route(&'a str, RouteFault),
@@ -61,18 +65,31 @@ pub fn parse_seconds<'a>(
     }
 }
 
-/// The type that the value of an option names, if there is a value.
-pub fn parse_type<'a>(
+/// The type or the layout that the value of an option names, if there is a value.
+pub fn parse_shape<'a>(
     option: &'static str,
     name: Option<&'a str>,
-) -> Result<Option<ValueType>, ArgumentError<'a>> {
+) -> Result<Option<ValueShape>, ArgumentError<'a>> {
     let Some(name) = name else {
         return Ok(None);
     };
-    match ValueType::from_name(name) {
-        Some(value_type) => Ok(Some(value_type)),
-        None => Err(ArgumentError::Type(option, name)),
+    if let Some(value_type) = ValueType::from_name(name) {
+        return Ok(Some(ValueShape::Type(value_type)));
     }
+    if !is_layout(name.strip_suffix("[]").unwrap_or(name)) {
+        return Err(ArgumentError::Type(option, name));
+    }
+    match Layout::parse(name) {
+        Ok(layout) => Ok(Some(ValueShape::Layout(layout))),
+        Err(fault) => Err(ArgumentError::Layout(option, name, fault)),
+    }
+}
+
+/// Whether a text that names no type is to be parsed as a layout.
+fn is_layout(text: &str) -> bool {
+    text.as_bytes()
+        .iter()
+        .any(|byte| matches!(*byte, b',' | b'[' | b':'))
 }
 
 /// The greatest column of a line, from 0.

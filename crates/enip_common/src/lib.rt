@@ -19,7 +19,7 @@ mod retry;
 mod socket;
 
 pub use argument_error::{
-    ARGUMENTS_REFUSED, ArgumentError, Choices, parse_seconds, parse_type, print_argument_error,
+    ARGUMENTS_REFUSED, ArgumentError, Choices, parse_seconds, parse_shape, print_argument_error,
 };
 pub use error_keeping::ErrorKeeping;
 pub use fault::Fault;

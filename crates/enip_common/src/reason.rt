@@ -6,6 +6,7 @@ ghost use Rattle.enip_common.specs.Statuses.{exit_status};
 use crate::fault::Fault;
 use crate::owner::OwnerNeed;
 use cip_bytes::StatusText;
+use cip_layouts::FieldsFault;
 use cip_route::RouteFailure;
 use cip_values::{ValueFault, ValueType};
 use enip_client::ClientFault;
@@ -58,6 +59,12 @@ pub enum Reason<'a> {
     /// The data of the reply are not values of the requested type.
     #[error("the data are not of type {0}: {1}")]
     Shape(ValueType, ValueFault<'static>),
+    /// The arguments are not the values of the requested layout.
+    #[error("{0}")]
+    Fields(FieldsFault<'a>),
+    /// The data of the reply are not the values of the requested layout.
+    #[error("the data are not of the layout: {0}")]
+    Layout(FieldsFault<'static>),
     /// The device refused the session with this encapsulation status.
     #[error("the device refused the session (encapsulation status {0:#06x})")]
     Session(u32),

@@ -3,6 +3,7 @@
 use crate::GET_ATTRIBUTE_SINGLE;
 use crate::inspected::{Form, INSPECTED, InspectedObject};
 use crate::request::{Device, ask, error_in_session, error_of_failure};
+use cip_layouts::ValueShape;
 use cip_message::{Path, ReplyView};
 use clap::ArgMatches;
 use enip_client::ClientFault;
@@ -231,7 +232,7 @@ impl<'a> Inspection<'a, '_> {
             }
         }
         let style = Style {
-            value_type: form.value_type(),
+            shape: form.value_type().map(ValueShape::Type),
             is_json,
         };
         let mut text = Vec::new(alloc);

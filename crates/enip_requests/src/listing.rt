@@ -5,7 +5,7 @@ ghost use Rattle.std.specs.Prelude.{◌≤◌, length, IfOk, IfSome};
 use crate::found_devices::{DeviceForm, FoundDevices};
 use crate::request::reason_of_client;
 use enip_client::ListCommand;
-use enip_commands::{RequestFailure, identities_over, list_over};
+use enip_commands::{RequestFailure, list_over, objects_over};
 use enip_common::{
     CLOCK, CommandError, ErrorKeeping, Fault, HostPort, Reason, SocketSink, SocketSource, Timeout,
 };
@@ -36,7 +36,7 @@ pub(crate) fn run_list<'a>(
     let mut source = SocketSource::new(&stream, rt, start, timeout);
     let mut sink = SocketSink::new(&stream);
     let listed = if is_json {
-        identities_over(rt.alloc(), &mut source, &mut sink, &mut output)
+        objects_over(rt.alloc(), &mut source, &mut sink, command, &mut output)
     } else {
         list_over(rt.alloc(), &mut source, &mut sink, command, &mut output)
     };

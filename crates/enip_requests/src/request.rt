@@ -7,18 +7,19 @@ use crate::{
 };
 use cip_bytes::StatusText;
 use cip_bytes::protocol::{ExtendedStatus, GeneralStatus};
+use cip_layouts::{FieldsFault, Layout, ValueShape};
 use cip_message::{Path, ReplyView};
 use cip_objects::ReplyBuf;
 use cip_values::{ValueFault, ValueType};
 use clap::ArgMatches;
 use enip_client::ClientFault;
 use enip_commands::{
-    DIGITS, DeviceRequest, DeviceSession, ReplyOutcome, RequestFailure, Style, TypedRequest, WANTS,
-    exchange_with, show_refusal, show_reply,
+    DIGITS, DeviceRequest, DeviceSession, LayoutRequest, ReplyOutcome, RequestFailure, Style,
+    TypedRequest, WANTS, exchange_with, show_refusal, show_reply,
 };
 use enip_common::{
     ArgumentError, CLOCK, CommandError, ErrorKeeping, Fault, HostPort, Note, NumberArgument,
-    OUTPUT, Reason, SocketSink, SocketSource, Timeout, parse_type, path_of, print_reason,
+    OUTPUT, Reason, SocketSink, SocketSource, Timeout, parse_shape, path_of, print_reason,
 };
 use std::alloc::Global;
 use std::rt::Clock;
@@ -31,6 +32,8 @@ enum RequestData<'a, 'm> {
     Hex(&'a str),
     /// Values of a type, one in each argument.
     Values(ValueType, &'m [&'a str]),
+    /// Values of the fields of a layout, one in each argument.
+    Fields(Layout, &'m [&'a str]),
 }
 
 /// The device that a request goes to, how it is sent, and how the reply is printed.
@@ -49,14 +52,14 @@ pub(crate) struct Device<'a> {
 }
 
 impl<'a> Device<'a> {
-    /// The device in the arguments. Its replies are printed as values of the type that `--as` of a command that reads,
-    /// or `--reply-as`, names.
+    /// The device in the arguments. Its replies are printed as values of the type or the layout that `--as` of a command
+    /// that reads, or `--reply-as`, names.
     pub(crate) fn from_matches(
         matches: &ArgMatches<'a>,
         timeout: Timeout<'a>,
     ) -> Result<Device<'a>, ArgumentError<'a>> {
-        let read_type = parse_type("as", matches.get_str("as"))?;
-        let reply_type = parse_type("reply-as", matches.get_str("reply-as"))?;
+        let read_shape = parse_shape("as", matches.get_str("as"))?;
+        let reply_shape = parse_shape("reply-as", matches.get_str("reply-as"))?;
         let connected = matches.get_flag("connected");
         let tries = NumberArgument::TRIES.value(matches)?;
         if tries.is_some() && !connected && !matches.contains_id("once") {
@@ -69,7 +72,7 @@ impl<'a> Device<'a> {
             connection: ConnectionOptions::from_matches(matches)?,
             tries: tries.unwrap_or(1),
             style: Style {
-                value_type: read_type.or(reply_type),
+                shape: read_shape.or(reply_shape),
                 is_json: matches.get_flag("json"),
             },
             is_quiet: matches.get_flag("quiet"),
@@ -92,7 +95,8 @@ impl<'a> Device<'a> {
             let extended = reply.additional_word(0).unwrap_or(0);
             return Some(ReplyOutcome::Refused(reply.status, extended));
         }
-        let is_ok = reply.data.is_empty() && self.style == DIGITS;
+        let is_plain = self.style.shape.is_none() && !self.style.is_json;
+        let is_ok = reply.data.is_empty() && is_plain;
         if is_ok {
             Some(ReplyOutcome::Done)
         } else {
@@ -117,11 +121,11 @@ impl<'a: 'm, 'm> Request<'a, 'm> {
         matches: &'m ArgMatches<'a>,
         timeout: Timeout<'a>,
     ) -> Result<Request<'a, 'm>, ArgumentError<'a>> {
-        let value_type = parse_type("as", matches.get_str("data-as"))?;
+        let shape = parse_shape("as", matches.get_str("data-as"))?;
         let data = match matches.get_strs("HEX") {
-            Some(arguments) => data_of(value_type, arguments)?,
+            Some(arguments) => data_of(shape, arguments)?,
             None if is_set(service) && !is_call(matches) => return Err(ArgumentError::Missing),
-            None => data_of(value_type, &[])?,
+            None => data_of(shape, &[])?,
         };
         let path = path_of(matches)?;
         if path.member.is_some() && path.attribute.is_none() && !is_call(matches) {
@@ -150,6 +154,17 @@ impl<'a: 'm, 'm> Request<'a, 'm> {
         }
     }
 
+    /// The error of a request that was not made of these digits.
+    fn error_of_digits(self, failure: RequestFailure, digits: &'a str) -> CommandError<'a> {
+        match failure {
+            RequestFailure::Hex => CommandError::new(
+                Fault::Request(RequestFailure::Hex),
+                Reason::Hex(digits),
+            ),
+            failure => error_of_failure(failure, self.device.address, None),
+        }
+    }
+
     /// The bytes of the router request.
     pub(crate) fn bytes(self, alloc: Global) -> Result<Vec<u8>, CommandError<'a>> {
         match self.data {
@@ -159,14 +174,9 @@ impl<'a: 'm, 'm> Request<'a, 'm> {
                     path: self.path,
                     digits,
                 };
-                match request.request(alloc) {
-                    Ok(request) => Ok(request),
-                    Err(RequestFailure::Hex) => Err(CommandError::new(
-                        Fault::Request(RequestFailure::Hex),
-                        Reason::Hex(digits),
-                    )),
-                    Err(failure) => Err(error_of_failure(failure, self.device.address, None)),
-                }
+                request
+                    .request(alloc)
+                    .map_err(|failure| self.error_of_digits(failure, digits))
             }
             RequestData::Values(value_type, words) => {
                 let request = TypedRequest {
@@ -177,17 +187,27 @@ impl<'a: 'm, 'm> Request<'a, 'm> {
                 };
                 request.request(alloc).map_err(error_of_value)
             }
+            RequestData::Fields(layout, words) => {
+                let request = LayoutRequest {
+                    service: self.service,
+                    path: self.path,
+                    layout,
+                    words,
+                };
+                request.request(alloc).map_err(error_of_fields)
+            }
         }
     }
 }
 
-/// The data that the arguments give: values if there is a type, otherwise the digits of one argument.
+/// The data that the arguments give: values if there is a type or a layout, otherwise the digits of one argument.
 fn data_of<'a: 'm, 'm>(
-    value_type: Option<ValueType>,
+    shape: Option<ValueShape>,
     arguments: &'m [&'a str],
 ) -> Result<RequestData<'a, 'm>, ArgumentError<'a>> {
-    match (value_type, arguments) {
-        (Some(value_type), arguments) => Ok(RequestData::Values(value_type, arguments)),
+    match (shape, arguments) {
+        (Some(ValueShape::Type(value_type)), words) => Ok(RequestData::Values(value_type, words)),
+        (Some(ValueShape::Layout(layout)), words) => Ok(RequestData::Fields(layout, words)),
         (None, [_, second, ..]) => Err(ArgumentError::ExtraHex(*second)),
         (None, [digits]) => Ok(RequestData::Hex(*digits)),
         (None, []) => Ok(RequestData::Hex("")),
@@ -209,6 +229,14 @@ fn error_of_value<'a>(fault: ValueFault<'a>) -> CommandError<'a> {
     match fault {
         ValueFault::Memory => CommandError::of_memory(),
         fault => CommandError::new(Fault::Value, Reason::Value(fault)),
+    }
+}
+
+/// The error of arguments that are not the values of a layout.
+fn error_of_fields<'a>(fault: FieldsFault<'a>) -> CommandError<'a> {
+    match fault {
+        FieldsFault::Memory => CommandError::of_memory(),
+        fault => CommandError::new(Fault::Value, Reason::Fields(fault)),
     }
 }
 
@@ -404,6 +432,7 @@ pub(crate) fn error_of_failure<'a>(
         RequestFailure::Session(status) => Reason::Session(status),
         RequestFailure::Client(fault) => reason_of_client(fault),
         RequestFailure::Shape(value_type, fault) => Reason::Shape(value_type, fault),
+        RequestFailure::Fields(fault) => Reason::Layout(fault),
         RequestFailure::Program(enip_commands::ProgramFault::Memory) => Reason::Memory,
         RequestFailure::Program(_) => stream_reason.unwrap_or(Reason::Failed(address)),
     };

@@ -18,6 +18,8 @@ mod commands;
 #[cfg(test)]
 mod keep;
 #[cfg(test)]
+mod layouts;
+#[cfg(test)]
 mod server;
 #[cfg(test)]
 mod states;

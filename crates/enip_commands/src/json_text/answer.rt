@@ -7,7 +7,7 @@ ghost use Rattle.serde_json.specs.View.{view};
 ghost use Rattle.serde_json.specs.Written.{compact_text};
 
 use crate::discovering::Remarks;
-use crate::json_text::identity::host_of;
+use crate::json_text::entry::host_of;
 use crate::json_text::latin::latin_text;
 use enip_client::IdentityView;
 use serde_json::{Value, json};

@@ -3,6 +3,7 @@
 
 use crate::texts::check_texts;
 use cip_commander::CommandRefused;
+use cip_layouts::FieldsFault;
 use cip_values::{ValueFault, ValueType};
 use enip_client::ClientFault;
 use enip_commands::{
@@ -127,6 +128,7 @@ fn of_requests_and_programs(rt: HostRuntime) -> Result<(), Fail> {
             RequestFailure::Shape(value_type, ValueFault::Short),
             "fault 6",
         ),
+        (RequestFailure::Fields(FieldsFault::Trailing(1)), "fault 6"),
         (RequestFailure::Program(ProgramFault::Memory), "memory"),
     ];
     let programs = [

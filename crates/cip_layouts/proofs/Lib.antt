@@ -1,0 +1,4 @@
+pub mod ParseLemmas
+pub mod ReadLemmas
+pub mod WriteLemmas
+pub mod OneReading
