@@ -247,11 +247,11 @@ static COMMANDS: [Row; 14] = [
         arguments: &[
             Argument::NetworkAddress,
             Argument::Json,
+            Argument::Sources,
             Argument::DiscoveryTime,
         ],
     },
     Row {
-            Argument::Sources,
         name: "services",
         about: "Print the encapsulation services that a device offers",
         usage: None,
