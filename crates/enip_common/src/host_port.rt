@@ -34,14 +34,14 @@ impl<'a> HostPort<'a> {
 
     /// The argument, for messages.
     pub fn text(self) -> &'a str
-        ensures { result ≡ self.text }
+        ensures { result ≡ self.exit.text }
     {
         self.text
     }
 
     /// The port, 0 for any.
     pub fn port(self) -> u16
-        ensures { result ≡ self.port }
+        ensures { result ≡ self.exit.port }
     {
         self.port
     }
@@ -246,7 +246,7 @@ impl<'a> Timeout<'a> {
 
     /// How long a read may take. `None` is no limit.
     pub fn limit(self) -> Option<Duration>
-        ensures { result ≡ self.limit }
+        ensures { result ≡ self.exit.limit }
     {
         self.limit
     }
