@@ -264,7 +264,7 @@ impl<'a> CommandError<'a> {
     /// An error with this fault and this reason.
     pub fn new(fault: Fault, reason: Reason<'a>) -> CommandError<'a>
         ensures fault { result.fault ≡ fault }
-        ensures reason { result.reason ≡ reason.exit }
+        ensures reason { result.reason ≡ reason.entry }
     {
         CommandError {
             fault,
@@ -275,7 +275,7 @@ impl<'a> CommandError<'a> {
 
     /// The same error, with what became of the command.
     pub fn with_note(self, note: Note) -> CommandError<'a>
-        ensures fault { result.fault ≡ self.exit.fault }
+        ensures fault { result.fault ≡ self.entry.fault }
         ensures note { result.note ≡ Some note }
     {
         CommandError {
@@ -309,7 +309,7 @@ impl<'a> CommandError<'a> {
     /// A file, a stream or a device failed for this reason.
     pub fn of_reason(reason: Reason<'a>) -> CommandError<'a>
         ensures status { exit_status result.fault ≡ 5 }
-        ensures reason { result.reason ≡ reason.exit }
+        ensures reason { result.reason ≡ reason.entry }
     {
         CommandError::new(Fault::Run(enip_commands::ProgramFault::Device), reason)
     }
@@ -326,14 +326,14 @@ impl<'a> CommandError<'a> {
 
     /// Why the command ended early.
     pub fn into_reason(self) -> Reason<'a>
-        ensures { result ≡ self.exit.reason }
+        ensures { result ≡ self.entry.reason }
     {
         self.reason
     }
 
     /// Prints both lines on standard error. Returns the exit status.
     pub fn print<E: Eprint>(self, rt: &E) -> u8
-        ensures { result ≡ exit_status self.exit.fault }
+        ensures { result ≡ exit_status self.entry.fault }
     {
         match self.note {
             Some(note) => {
