@@ -1,10 +1,11 @@
 -- Bytes have one reading as the values of fields.
-use Rattle.std.proofs.Common.{◌≡◌, ℕ, ◌+◌, ◌<◌, ◌≤◌, ◌⊎◌, Bool, true, false, List, [], ◌∷◌, ◌++◌, length, take, drop, inl, inr, refl, sym, ap, subst, ◌∙◌, append_assoc, arith}
+use Rattle.std.proofs.Common.{◌≡◌, ℕ, ◌+◌, ◌<◌, ◌≤◌, ◌⊎◌, Bool, true, false, ltb, List, [], ◌∷◌, ◌++◌, length, take, drop, inl, inr, refl, sym, ap, subst, ◌∙◌, append_assoc, arith}
 use Rattle.std.specs.List.{AllByRecursion}
 use Rattle.std.proofs.lemmas.List.{append-nil, length-append, take-append-le, take-append-drop, take_at, drop_at}
-use Rattle.cip_values.specs.Types.{form_of, size_of, IsSized}
+use Rattle.std.proofs.lemmas.Bool.{ltb-true, ltb-false}
+use Rattle.cip_values.specs.Types.{form_of, size_of}
 use Rattle.cip_values.specs.Values.{Value, IsOf, spelled, joined, BeginsWith, BeginsWithAll, IsValueFault, IsFrontFault}
-use Rattle.cip_values.specs.declared.element.Form.{Form}
+use Rattle.cip_values.specs.declared.element.ElementaryType.{ElementaryType}
 use Rattle.cip_values.specs.declared.fault.ValueFault.{ValueFault}
 use Rattle.cip_values.specs.declared.fault.ValueFault.TheVariants as value_faults
 use Rattle.cip_values.proofs.OneSpelling.{one_way, is_read, front_is_read, form_sized}
@@ -15,24 +16,27 @@ use Rattle.cip_layouts.specs.declared.field.Field.{Field}
 
 -- ---- one value
 
-alone : (form : Form) (v : Value) (bytes : List ℕ) → IsOf form v → bytes ≡ spelled (size_of form) v → BeginsWithAll form bytes (v ∷ []) []
-alone form v bytes h e = record {
+abbrev bytes_of : ElementaryType → Value → List ℕ
+bytes_of type v = spelled (size_of (form_of type)) v
+
+alone : (type : ElementaryType) (v : Value) (bytes : List ℕ) → IsOf (form_of type) v → bytes ≡ bytes_of type v → BeginsWithAll (form_of type) bytes (v ∷ []) []
+alone type v bytes h e = record {
   of_type = (h, tt);
-  bytes_of = e ∙ sym (append-nil (spelled (size_of form) v)) ∙ sym (append-nil (spelled (size_of form) v ++ []));
+  bytes_of = e ∙ sym (append-nil (bytes_of type v)) ∙ sym (append-nil (bytes_of type v ++ []));
 }
 
 -- the bytes of a value do not begin with another value
-no_longer : (form : Form) (v w : Value) (mid : List ℕ) → IsSized form → IsOf form v → IsOf form w
-    → spelled (size_of form) v ≡ spelled (size_of form) w ++ mid → (v ≡ w) × (mid ≡ [])
-no_longer form v w [] sized hv hw e =
-    let same : v ∷ [] ≡ w ∷ [] = one_way form (spelled (size_of form) v) (v ∷ []) (w ∷ []) sized
-    (alone form v (spelled (size_of form) v) hv refl) (alone form w (spelled (size_of form) v) hw (e ∙ append-nil (spelled (size_of form) w))) in
+no_longer : (type : ElementaryType) (v w : Value) (mid : List ℕ) → IsOf (form_of type) v → IsOf (form_of type) w
+    → bytes_of type v ≡ bytes_of type w ++ mid → (v ≡ w) × (mid ≡ [])
+no_longer type v w [] hv hw e =
+    let same : v ∷ [] ≡ w ∷ [] = one_way (form_of type) (bytes_of type v) (v ∷ []) (w ∷ []) (form_sized type)
+    (alone type v (bytes_of type v) hv refl) (alone type w (bytes_of type v) hw (e ∙ append-nil (bytes_of type w))) in
     (cc, refl)
-no_longer form v w (m ∷ ms) sized hv hw e =
-    let front : BeginsWith form (spelled (size_of form) v) w (m ∷ ms) = record { of_type = hw; bytes_of = e } in
+no_longer type v w (m ∷ ms) hv hw e =
+    let front : BeginsWith (form_of type) (bytes_of type v) w (m ∷ ms) = record { of_type = hw; bytes_of = e } in
     let not : value_faults.Trailing (length (m ∷ ms)) ≡ value_faults.Memory =
-    is_read false form (spelled (size_of form) v) (v ∷ []) (value_faults.Trailing (length (m ∷ ms))) sized
-    (alone form v (spelled (size_of form) v) hv refl) (λ _. refl) (omega arith, (w, (m ∷ ms, (front, refl)))) in
+    is_read false (form_of type) (bytes_of type v) (v ∷ []) (value_faults.Trailing (length (m ∷ ms))) (form_sized type)
+    (alone type v (bytes_of type v) hv refl) (λ _. refl) (omega arith, (w, (m ∷ ms, (front, refl)))) in
     absurd cc
 
 longer : (a b r s : List ℕ) → a ++ r ≡ b ++ s → length b ≤ length a → a ≡ b ++ drop (length b) a
@@ -43,54 +47,62 @@ longer a b r s e fits =
 rests : (a r s : List ℕ) → a ++ r ≡ a ++ s → r ≡ s
 rests a r s e = sym (drop_at a r (length a) refl) ∙ ap (drop (length a)) e ∙ drop_at a s (length a) refl
 
-pub same_first : (form : Form) (v w : Value) (r s : List ℕ) → IsSized form → IsOf form v → IsOf form w
-    → spelled (size_of form) v ++ r ≡ spelled (size_of form) w ++ s → (v ≡ w) × (r ≡ s)
-same_first form v w r s sized hv hw e = by (order (length (spelled (size_of form) w)) (length (spelled (size_of form) v)))
+pub same_first : (type : ElementaryType) (v w : Value) (r s : List ℕ) → IsOf (form_of type) v → IsOf (form_of type) w
+    → bytes_of type v ++ r ≡ bytes_of type w ++ s → (v ≡ w) × (r ≡ s)
+same_first type v w r s hv hw e = by (order (length (bytes_of type w)) (length (bytes_of type v)))
   where
+    order_by : (m n : ℕ) (t : Bool) → ltb m n ≡ t → (m ≤ n) ⊎ (n ≤ m)
+    order_by m n true e = let less : m < n = ltb-true m n e in inl (omega arith)
+    order_by m n false e = inr (ltb-false m n e)
+
     order : (m n : ℕ) → (m ≤ n) ⊎ (n ≤ m)
-    order m n = search
+    order m n = order_by m n (ltb m n) refl
+
     same : v ≡ w → (v ≡ w) × (r ≡ s)
-    same is = (is, rests (spelled (size_of form) w) r s (ap (λ (x : Value). spelled (size_of form) x ++ r) (sym is) ∙ e))
-    by : (length (spelled (size_of form) w) ≤ length (spelled (size_of form) v))
-        ⊎ (length (spelled (size_of form) v) ≤ length (spelled (size_of form) w)) → (v ≡ w) × (r ≡ s)
-    by (inl fits) = same (no_longer form v w (drop (length (spelled (size_of form) w)) (spelled (size_of form) v)) sized hv hw
-    (longer (spelled (size_of form) v) (spelled (size_of form) w) r s e fits)).0
-    by (inr fits) = same (sym (no_longer form w v (drop (length (spelled (size_of form) v)) (spelled (size_of form) w)) sized hw hv
-    (longer (spelled (size_of form) w) (spelled (size_of form) v) s r (sym e) fits)).0)
+    same is = (is, rests (bytes_of type w) r s (ap (λ (x : Value). bytes_of type x ++ r) (sym is) ∙ e))
+
+    by : (length (bytes_of type w) ≤ length (bytes_of type v))
+        ⊎ (length (bytes_of type v) ≤ length (bytes_of type w)) → (v ≡ w) × (r ≡ s)
+    by (inl fits) =
+        let more = longer (bytes_of type v) (bytes_of type w) r s e fits in
+        same (no_longer type v w (drop (length (bytes_of type w)) (bytes_of type v)) hv hw more).0
+    by (inr fits) =
+        let more = longer (bytes_of type w) (bytes_of type v) s r (sym e) fits in
+        same (sym (no_longer type w v (drop (length (bytes_of type v)) (bytes_of type w)) hw hv more).0)
 
 -- ---- as many values
 
-first_and_rest : (form : Form) (v : Value) (vs : List Value) (r : List ℕ)
-    → joined form (v ∷ vs) ++ r ≡ spelled (size_of form) v ++ (joined form vs ++ r)
-first_and_rest form v vs r = append_assoc (spelled (size_of form) v) (joined form vs) r
+first_and_rest : (type : ElementaryType) (v : Value) (vs : List Value) (r : List ℕ)
+    → joined (form_of type) (v ∷ vs) ++ r ≡ bytes_of type v ++ (joined (form_of type) vs ++ r)
+first_and_rest type v vs r = append_assoc (bytes_of type v) (joined (form_of type) vs) r
 
-same_all : (form : Form) (vs ws : List Value) (r s : List ℕ) → IsSized form → AllByRecursion (IsOf form) vs → AllByRecursion (IsOf form) ws
-    → length vs ≡ length ws → joined form vs ++ r ≡ joined form ws ++ s → (vs ≡ ws) × (r ≡ s)
-same_all form [] [] r s sized hv hw lengths e = (refl, e)
-same_all form [] (w ∷ ws) r s sized hv hw lengths e = absurd (omega (arith, lengths))
-same_all form (v ∷ vs) [] r s sized hv hw lengths e = absurd (omega (arith, lengths))
-same_all form (v ∷ vs) (w ∷ ws) r s sized hv hw lengths e =
-    let first = same_first form v w (joined form vs ++ r) (joined form ws ++ s) sized hv.0 hw.0
-    (sym (first_and_rest form v vs r) ∙ e ∙ first_and_rest form w ws s) in
-    let others = same_all form vs ws r s sized hv.1 hw.1 (omega (arith, lengths)) first.1 in
+same_all : (type : ElementaryType) (vs ws : List Value) (r s : List ℕ) → AllByRecursion (IsOf (form_of type)) vs → AllByRecursion (IsOf (form_of type)) ws
+    → length vs ≡ length ws → joined (form_of type) vs ++ r ≡ joined (form_of type) ws ++ s → (vs ≡ ws) × (r ≡ s)
+same_all type [] [] r s hv hw lengths e = (refl, e)
+same_all type [] (w ∷ ws) r s hv hw lengths e = absurd (omega (arith, lengths))
+same_all type (v ∷ vs) [] r s hv hw lengths e = absurd (omega (arith, lengths))
+same_all type (v ∷ vs) (w ∷ ws) r s hv hw lengths e =
+    let first = same_first type v w (joined (form_of type) vs ++ r) (joined (form_of type) ws ++ s) hv.0 hw.0
+    (sym (first_and_rest type v vs r) ∙ e ∙ first_and_rest type w ws s) in
+    let others = same_all type vs ws r s hv.1 hw.1 (omega (arith, lengths)) first.1 in
     (rw (first.0, others.0) refl, others.1)
 
 same_field : (field : Field) (bytes : List ℕ) (vs ws : List Value) (r s : List ℕ) → FieldBegins field bytes vs r
     → FieldBegins field bytes ws s → (vs ≡ ws) × (r ≡ s)
 same_field field bytes vs ws r s h k =
-    same_all (form_of field.element) vs ws r s (form_sized field.element) h.begins.of_type k.begins.of_type
+    same_all field.element vs ws r s h.begins.of_type k.begins.of_type
     (h.counted ∙ sym k.counted) (sym h.begins.bytes_of ∙ k.begins.bytes_of)
 
 -- after fewer values, what is left begins with a value
-next_value : (form : Form) (vs ws : List Value) (r s : List ℕ) → IsSized form → AllByRecursion (IsOf form) vs → AllByRecursion (IsOf form) ws
-    → length ws < length vs → joined form vs ++ r ≡ joined form ws ++ s → (x : Value) × ((more : List ℕ) × BeginsWith form s x more)
-next_value form [] ws r s sized hv hw fewer e = absurd (omega (arith, fewer))
-next_value form (v ∷ vs) [] r s sized hv hw fewer e =
-    (v, (joined form vs ++ r, record { of_type = hv.0; bytes_of = sym e ∙ first_and_rest form v vs r }))
-next_value form (v ∷ vs) (w ∷ ws) r s sized hv hw fewer e =
-    let first = same_first form v w (joined form vs ++ r) (joined form ws ++ s) sized hv.0 hw.0
-    (sym (first_and_rest form v vs r) ∙ e ∙ first_and_rest form w ws s) in
-    next_value form vs ws r s sized hv.1 hw.1 (omega (arith, fewer)) first.1
+next_value : (type : ElementaryType) (vs ws : List Value) (r s : List ℕ) → AllByRecursion (IsOf (form_of type)) vs → AllByRecursion (IsOf (form_of type)) ws
+    → length ws < length vs → joined (form_of type) vs ++ r ≡ joined (form_of type) ws ++ s → (x : Value) × ((more : List ℕ) × BeginsWith (form_of type) s x more)
+next_value type [] ws r s hv hw fewer e = absurd (omega (arith, fewer))
+next_value type (v ∷ vs) [] r s hv hw fewer e =
+    (v, (joined (form_of type) vs ++ r, record { of_type = hv.0; bytes_of = sym e ∙ first_and_rest type v vs r }))
+next_value type (v ∷ vs) (w ∷ ws) r s hv hw fewer e =
+    let first = same_first type v w (joined (form_of type) vs ++ r) (joined (form_of type) ws ++ s) hv.0 hw.0
+    (sym (first_and_rest type v vs r) ∙ e ∙ first_and_rest type w ws s) in
+    next_value type vs ws r s hv.1 hw.1 (omega (arith, fewer)) first.1
 
 -- ---- all fields
 
@@ -108,9 +120,8 @@ front_read field bytes values rest fault h known =
     elim fault as (λ f. (f ≡ value_faults.Memory → ⊥) → IsFrontFault (form_of field.element) (count_of field) bytes f → ⊥) [
       | value_faults.Memory ↦ λ not cut. not refl
       | other ↦ λ not cut.
-          let form : Form = form_of field.element in
           let fewer : length cut.values < length values = omega (arith, cut.fewer, h.counted) in
-          let (x, (more, front)) = next_value (form_of field.element) values cut.values rest cut.rest (form_sized field.element)
+          let (x, (more, front)) = next_value field.element values cut.values rest cut.rest
           h.begins.of_type cut.begins.of_type fewer (sym h.begins.bytes_of ∙ cut.begins.bytes_of) in
           front_is_read (form_of field.element) cut.rest x more other (form_sized field.element) front cut.unread
     ] known

@@ -96,7 +96,7 @@ mixes_none [] field none = refl
 mixes_none (x ∷ xs) field none = absurd (omega (arith, none))
 
 pub fields_length : (xs : List FieldInCode) (n : ℕ) → n ≤ length xs → length (map field_in (take n xs)) ≡ n
-fields_length xs n fits = length-map field_in (take n xs) ∙ length-take-le n xs fits
+fields_length xs n fits = length-map (take n xs) field_in ∙ length-take-le n xs fits
 
 pub fields_more : (xs : List FieldInCode) (n : ℕ) (field : FieldInCode) → n < length xs
     → map field_in (take (n + 1) (set xs n field)) ≡ map field_in (take n xs) ++ field_in field ∷ []
@@ -120,7 +120,7 @@ cut_none : (c : ℕ) (text : List ℕ) → cut_in c text ≡ None → slice_spli
 unfolding cut_in
 cut_none c text e = by (has_byte c text) refl e
   where
-    by : (t : Bool) → has_byte c text ≡ t → cond t (Some (before_first (is_byte c) text, after_first (is_byte c) text)) None ≡ None
+    by : (t : Bool) → has_byte c text ≡ t → cond {A = Option (List ℕ × List ℕ)} t (Some (before_first (is_byte c) text, after_first (is_byte c) text)) None ≡ None
         → slice_split (is_byte c) text ≡ text ∷ []
     by true t e = absurd cc
     by false t e = only_one (is_byte c) text (ltb-false _ _ t)
@@ -130,7 +130,7 @@ cut_some : (c : ℕ) (text first rest : List ℕ) → cut_in c text ≡ Some (fi
 unfolding cut_in
 cut_some c text first rest e = by (has_byte c text) refl e
   where
-    by : (t : Bool) → has_byte c text ≡ t → cond t (Some (before_first (is_byte c) text, after_first (is_byte c) text)) None ≡ Some (first, rest)
+    by : (t : Bool) → has_byte c text ≡ t → cond {A = Option (List ℕ × List ℕ)} t (Some (before_first (is_byte c) text, after_first (is_byte c) text)) None ≡ Some (first, rest)
         → slice_split (is_byte c) text ≡ first ∷ slice_split (is_byte c) rest
     by true t e =
         let same : (before_first (is_byte c) text, after_first (is_byte c) text) ≡ (first, rest) = cc in

@@ -45,11 +45,15 @@ read_more fields bytes index field old new rest behind inside is before one =
 pub nothing_left : (fields : List Field) (index : ℕ) → length fields ≡ index → drop index fields ≡ []
 nothing_left fields index all = drop_all index fields (omega (arith, all))
 
+no_bytes : (rest : List ℕ) → length rest ≡ 0 → rest ≡ []
+no_bytes [] none = refl
+no_bytes (byte ∷ rest) none = absurd (omega (arith, none))
+
 pub all_read : (fields : List Field) (bytes : List ℕ) (index : ℕ) (values : List Value) (rest : List ℕ) → length fields ≡ index
-    → rest ≡ [] → ReadSoFar fields bytes index values rest → AreBytesOfFields fields bytes values
+    → length rest ≡ 0 → ReadSoFar fields bytes index values rest → AreBytesOfFields fields bytes values
 all_read fields bytes index values rest all none h =
     let left : AreBytesOfFields (drop index fields) rest [] =
-    subst (λ (fs : List Field). AreBytesOfFields fs rest []) (sym (nothing_left fields index all)) (none, refl) in
+    subst (λ (fs : List Field). AreBytesOfFields fs rest []) (sym (nothing_left fields index all)) (no_bytes rest none, refl) in
     subst (λ (vs : List Value). AreBytesOfFields fields bytes vs) (append-nil values) (h.read [] left)
 
 pub trailing_left : (fields : List Field) (bytes : List ℕ) (index : ℕ) (values : List Value) (rest : List ℕ) → length fields ≡ index

@@ -137,6 +137,19 @@ abbrev pub IsFieldRefused : ℕ → Field → List (List ℕ) → FieldsFault �
 IsFieldRefused number field words faults.Memory = ⊤
 IsFieldRefused number field words fault = IsUnwritten number field words fault
 
+-- ---- the words of several fields
+
+-- The words parse as the values of these fields, whose bytes are appended.
+pub record AreAppended (fields : List Field) (words : List (List ℕ)) (old new : List ℕ) : Type 0 where
+  pub bytes : List ℕ
+  pub written : AreFieldsWritten fields words bytes
+  pub appended : new ≡ old ++ bytes
+
+-- Why the words are refused as the values of these fields, the first of which has this number.
+abbrev pub AreRefusedFrom : ℕ → List Field → List (List ℕ) → FieldsFault → Type 0
+AreRefusedFrom number fields words faults.Memory = ⊤
+AreRefusedFrom number fields words fault = IsWriteFaultFrom number fields words fault
+
 -- ---- all words
 
 -- Why words are refused: there are too few or too many, or one of them is refused.

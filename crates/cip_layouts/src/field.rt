@@ -183,7 +183,9 @@ fn count(text: &str) -> Result<u16, FieldFault>
     ensures { result ≡ count_in text.now }
 {
     match cut(text, ']') {
-        Some((digits, rest)) if rest.is_empty() => number(digits.as_bytes()).ok_or(FieldFault::Count),
+        Some((digits, rest)) if rest.is_empty() => number(digits.as_bytes()).ok_or(
+            FieldFault::Count,
+        ),
         _ => Err(FieldFault::Count),
     }
 }

@@ -24,30 +24,30 @@ pub struct FieldsText<'a, 'b> {
 
 impl fmt::Display for FieldsText<'_, '_> {
     fn fmt<W: fmt::Write>(&self, f: &mut fmt::Formatter<W>) -> fmt::Result {
-        let mut rest = self.values;
-        for (index, field) in self.fields.iter().enumerate() {
-            if index != 0 {
-                f.write_str(" ")?;
-            }
-            match write_field_text(f, field, rest) {
-                Ok(behind) => rest = behind,
-                Err(error) => return Err(error),
-            }
-        }
-        Ok(())
+        write_from(f, self.fields, 0, self.values)
     }
 }
 
-/// Prints the values of a field, the first of these. Returns the others.
-fn write_field_text<'a, 'b, W: fmt::Write>(
+/// Prints the values of the fields from this index on, with a space before each field but the first.
+fn write_from<W: fmt::Write>(
     f: &mut fmt::Formatter<W>,
-    field: &Field,
-    values: &'b [Value<'a>],
-) -> Result<&'b [Value<'a>], fmt::Error> {
-    let (values, rest) = split_values(values, field.values());
-    let value_type = field.list_type();
-    write!(f, "{}", ValuesText { value_type, values })?;
-    Ok(rest)
+    fields: &[Field],
+    index: usize,
+    values: &[Value<'_>],
+) -> fmt::Result {
+    let Some(field) = fields.get(index) else {
+        return Ok(());
+    };
+    if index != 0 {
+        f.write_str(" ")?;
+    }
+    let (mine, rest) = split_values(values, field.values());
+    let list = ValuesText {
+        value_type: field.list_type(),
+        values: mine,
+    };
+    write!(f, "{list}")?;
+    write_from(f, fields, index + 1, rest)
 }
 
 /// The first `count` values, or all if there are fewer, and the rest.

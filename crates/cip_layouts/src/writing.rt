@@ -1,7 +1,7 @@
 //! Parses words as the values of fields, and returns their bytes.
 
-ghost use Rattle.std.specs.Prelude.{◌≡◌, ◌≤◌, map, length, IfOk, IfErr};
-ghost use Rattle.cip_layouts.specs.Fields.{AreFieldsWritten, IsFieldsWriteFault, total, count_of, FieldIsWritten, IsFieldRefused};
+ghost use Rattle.std.specs.Prelude.{◌≡◌, ◌≤◌, ◌+◌, map, length, drop, IfOk, IfErr, OnOk};
+ghost use Rattle.cip_layouts.specs.Fields.{AreFieldsWritten, IsFieldsWriteFault, total, count_of, FieldIsWritten, IsFieldRefused, AreAppended, AreRefusedFrom};
 
 use crate::fault::FieldsFault;
 use crate::field::Field;
@@ -29,14 +29,33 @@ pub fn write_fields<'a>(
         return Err(FieldsFault::Count(wanted, words.len()));
     }
     let mut bytes = Vec::new(alloc);
-    let mut rest = words;
-    for (index, field) in fields.iter().enumerate() {
-        match write_field(alloc, index + 1, field, rest, &mut bytes) {
-            Ok(behind) => rest = behind,
-            Err(fault) => return Err(fault),
-        }
+    match write_from(alloc, fields, 0, words, &mut bytes) {
+        Ok(()) => Ok(bytes),
+        Err(fault) => Err(fault),
     }
-    Ok(bytes)
+}
+
+/// Parses words as the values of the fields from this index on, and appends their bytes.
+fn write_from<'a>(
+    alloc: Global,
+    fields: &[Field],
+    index: usize,
+    words: &[&'a str],
+    out: &mut Vec<u8>,
+) -> Result<(), FieldsFault<'a>>
+    requires within { index ≤ length fields.now }
+    requires enough { length (map (λ word. word.now) words.now) ≡ total (drop index fields.now) }
+    ensures written { OnOk result (AreAppended (drop index fields.now) (map (λ word. word.now) words.now)
+        out.old.items out.new.items) }
+    ensures refused { IfErr result (AreRefusedFrom (index + 1) (drop index fields.now) (map (λ word. word.now) words.now)) }
+{
+    if index == fields.len() {
+        return Ok(());
+    }
+    match write_field(alloc, index + 1, &fields[index], words, out) {
+        Ok(rest) => write_from(alloc, fields, index + 1, rest, out),
+        Err(fault) => Err(fault),
+    }
 }
 
 /// How many values the fields have.
@@ -59,7 +78,7 @@ fn write_field<'w, 'a>(
     words: &'w [&'a str],
     out: &mut Vec<u8>,
 ) -> Result<&'w [&'a str], FieldsFault<'a>>
-    requires { count_of field.now ≤ length words.now }
+    requires { count_of field.now ≤ length (map (λ word. word.now) words.now) }
     ensures written { IfOk result (λ rest. FieldIsWritten field.now (map (λ word. word.now) words.now)
         (map (λ word. word.now) rest.now) out.old.items out.new.items) }
     ensures refused { IfErr result (IsFieldRefused number field.now (map (λ word. word.now) words.now)) }

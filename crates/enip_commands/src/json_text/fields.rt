@@ -34,38 +34,50 @@ pub fn fields_line(
 /// The object of fields with names.
 fn members_of(alloc: Global, fields: &[Field], values: &[Value<'_>]) -> Result<Json, AllocError> {
     let mut members = Map::new(alloc);
-    let mut rest = values;
-    for field in fields {
-        let (value, behind) = first_json(alloc, field, rest)?;
-        if let Some(name) = field.name {
-            let name = latin_text(alloc, name.as_slice())?;
-            put(&mut members, alloc, name.as_str(), value)?;
-        }
-        rest = behind;
-    }
+    add_members(alloc, fields, 0, values, &mut members)?;
     Ok(Json::Object(members))
+}
+
+/// Adds the members of the fields from this index on.
+fn add_members(
+    alloc: Global,
+    fields: &[Field],
+    index: usize,
+    values: &[Value<'_>],
+    members: &mut Map<String, Json>,
+) -> Result<(), AllocError> {
+    let Some(field) = fields.get(index) else {
+        return Ok(());
+    };
+    let (mine, rest) = split_values(values, field.values());
+    if let Some(name) = field.name {
+        let name = latin_text(alloc, name.as_slice())?;
+        put(members, alloc, name.as_str(), field_json(alloc, field, mine)?)?;
+    }
+    add_members(alloc, fields, index + 1, rest, members)
 }
 
 /// The array of fields without names.
 fn items_of(alloc: Global, fields: &[Field], values: &[Value<'_>]) -> Result<Json, AllocError> {
     let mut items = Vec::new(alloc);
-    let mut rest = values;
-    for field in fields {
-        let (value, behind) = first_json(alloc, field, rest)?;
-        items.push(value)?;
-        rest = behind;
-    }
+    add_items(alloc, fields, 0, values, &mut items)?;
     Ok(Json::Array(items))
 }
 
-/// The values of a field, the first of these, and the others.
-fn first_json<'a, 'b>(
+/// Adds the items of the fields from this index on.
+fn add_items(
     alloc: Global,
-    field: &Field,
-    values: &'b [Value<'a>],
-) -> Result<(Json, &'b [Value<'a>]), AllocError> {
+    fields: &[Field],
+    index: usize,
+    values: &[Value<'_>],
+    items: &mut Vec<Json>,
+) -> Result<(), AllocError> {
+    let Some(field) = fields.get(index) else {
+        return Ok(());
+    };
     let (mine, rest) = split_values(values, field.values());
-    Ok((field_json(alloc, field, mine)?, rest))
+    items.push(field_json(alloc, field, mine)?)?;
+    add_items(alloc, fields, index + 1, rest, items)
 }
 
 /// The values of one field: an array if the field is one, otherwise its value.
