@@ -183,7 +183,7 @@ fn served_address<'a>(alloc: Global) -> Arg<'a> {
     Arg::new(alloc, "address")
         .long("address")
         .value_name("ADDRESS")
-        .help("Warn if discovery reports another address than this one")
+        .help("Warn if discovery reports another address")
         .long_help(SERVED_ADDRESS_DETAILS)
 }
 

@@ -95,8 +95,8 @@ Examples:
 For exit statuses, see `enip --help`.";
 
 pub(crate) const SERVED_ADDRESS_DETAILS: &str = "\
-Address at which the device is to be served, as `enip serve` takes it. Standard
-error has a warning if discovery reports another address or port";
+Address at which the device will be served. Standard error has a
+warning if discovery reports another address or port";
 
 pub(crate) const EXAMPLES_CHECK: &str = "\
 Examples:
