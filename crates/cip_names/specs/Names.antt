@@ -1,5 +1,5 @@
 -- Names of classes, attributes and services.
-use Rattle.std.specs.Prelude.{◌≡◌, ℕ, Bool, List, Option, None, Some, bytes_eq, map, find}
+use Rattle.std.specs.Prelude.{◌≡◌, ◌==◌, ℕ, Bool, List, Option, None, Some, bytes_eq, map, find}
 use Rattle.std.specs.Option.{option_map}
 use Rattle.std.specs.Char.{to_ascii_lowercase}
 use Rattle.cip_names.specs.Numbers.{IsGiven}
@@ -12,6 +12,10 @@ has_name text row = bytes_eq (map to_ascii_lowercase row.0.now) (map to_ascii_lo
 -- The number of the first row with this name.
 abbrev pub number_of : List (Bor (List ℕ) × ℕ) → List ℕ → Option ℕ
 number_of rows text = option_map (λ row. row.1) (find (has_name text) rows)
+
+-- The name of the first row with this number.
+abbrev pub name_of : List (Bor (List ℕ) × ℕ) → ℕ → Option (Bor (List ℕ))
+name_of rows number = option_map (λ row. row.0) (find (λ row. row.1 == number) rows)
 
 -- The first, or the second if there is no first.
 abbrev pub or_else : Option ℕ → Option ℕ → Option ℕ

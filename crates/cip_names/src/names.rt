@@ -1,7 +1,7 @@
 //! Tables of names, and the search in them.
 
 ghost use Rattle.std.specs.Prelude.{◌≡◌};
-ghost use Rattle.cip_names.specs.Names.{has_name, number_of, IsNumberOrName};
+ghost use Rattle.cip_names.specs.Names.{has_name, name_of, number_of, IsNumberOrName};
 
 use crate::numbers::parse_number;
 
@@ -33,6 +33,19 @@ fn number_named(rows: &[Name], text: &str) -> Option<u64>
 {
     let row = rows.iter().find(|row| is_named(**row, text))?;
     Some(u64::from(row.1))
+}
+
+/// The name of the first row with this number.
+///
+/// ```
+/// name_of(&CLASSES, 0x01) // Some("identity")
+/// name_of(&CLASSES, 0x300) // None
+/// ```
+pub fn name_of(rows: &[Name], number: u16) -> Option<&'static str>
+    ensures { result ≡ name_of rows.now number }
+{
+    let row = rows.iter().find(|row| row.1 == number)?;
+    Some(row.0)
 }
 
 /// Whether the row has this name, in capitals or not.

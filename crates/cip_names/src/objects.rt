@@ -3,7 +3,7 @@
 //! The numbers are those of the standard (Volume 1, object library and common services; Volume 2, TCP/IP Interface and
 //! Ethernet Link), and for the counter and the ledger ours. docs/PROTOCOL.md, "Objects", has both.
 
-use crate::names::Name;
+use crate::names::{Name, name_of};
 
 /// The classes.
 pub static CLASSES: [Name; 8] = [
@@ -107,7 +107,7 @@ static ETHERNET_LINK: [Name; 11] = [
 ];
 
 /// The services that a class can have. (Volume 1, common services.)
-pub static COMMON_SERVICES: [Name; 19] = [
+pub static COMMON_SERVICES: [Name; 21] = [
     ("get-all", 0x01),
     ("set-all", 0x02),
     ("get-list", 0x03),
@@ -117,9 +117,11 @@ pub static COMMON_SERVICES: [Name; 19] = [
     ("stop", 0x07),
     ("create", 0x08),
     ("delete", 0x09),
+    ("multiple-service-packet", 0x0a),
     ("apply", 0x0d),
     ("get", 0x0e),
     ("set", 0x10),
+    ("find-next-instance", 0x11),
     ("restore", 0x15),
     ("save", 0x16),
     ("no-operation", 0x17),
@@ -173,5 +175,19 @@ pub fn service_names(class: u16) -> &'static [Name] {
         0x65 => &LEDGER_SERVICES,
         0xf6 => &LINK_SERVICES,
         _ => &[],
+    }
+}
+
+/// The name of a class, if it has one.
+pub fn class_name(class: u16) -> Option<&'static str> {
+    name_of(&CLASSES, class)
+}
+
+/// The name of a service of a class, if it has one: the name that this class gives it, or else the common one.
+pub fn service_name(class: u16, service: u8) -> Option<&'static str> {
+    let service = u16::from(service);
+    match name_of(service_names(class), service) {
+        Some(name) => Some(name),
+        None => name_of(&COMMON_SERVICES, service),
     }
 }

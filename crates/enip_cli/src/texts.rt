@@ -83,8 +83,9 @@ json, each line is a JSON object. Without --log, clients that were turned away
 are reported once a minute.
 
   0.002117 127.0.0.1:40312 connected
-  0.002305 127.0.0.1:40312 RegisterSession: success
-  0.002377 127.0.0.1:40312 SendRRData Forward_Open class 6 instance 1: success
+  0.002305 127.0.0.1:40312 RegisterSession: 0x0000 success
+  0.002377 127.0.0.1:40312 SendRRData service 0x01 get-all class 0x01
+    identity instance 1: 0x00 success
   0.002462 127.0.0.1:40312 UnRegisterSession: no answer
   0.002481 127.0.0.1:40312 disconnected: session unregistered
 

@@ -1,6 +1,7 @@
 //! `enip check`: prints the device that a configuration describes.
 
 use cip_application::{AttributeConfig, AttributeKind, NumberRange, ObjectConfig, ServiceConfig};
+use cip_names::{ClassText, ServiceText};
 use cip_objects::{AssemblyConfig, Config};
 use cip_values::{ElementaryType, ValueType, ValuesText, read_values};
 use enip_config::{AttributeType, Configuration, LedgerConfig};
@@ -123,8 +124,8 @@ fn print_object<W: Write>(
     object: &ObjectConfig,
     types: &[AttributeType],
 ) -> io::Result<()> {
-    let (class, instance) = (object.class, object.instance);
-    write!(output, "object of class {class}, instance {instance}")?;
+    let (class, instance) = (ClassText(object.class), object.instance);
+    write!(output, "object of {class}, instance {instance}")?;
     if let Some(name) = &object.name {
         write!(output, ", {}", name.as_str())?;
     }
@@ -133,7 +134,7 @@ fn print_object<W: Write>(
         print_attribute(alloc, output, attribute, *of_type)?;
     }
     for service in &object.services {
-        print_service(output, *service)?;
+        print_service(output, object.class, *service)?;
     }
     Ok(())
 }
@@ -219,10 +220,14 @@ fn print_digits<W: Write>(output: &mut W, bytes: &[u8]) -> io::Result<()> {
     Ok(())
 }
 
-/// Prints an own service: its number, the size of its data, and the size of its reply's data.
-fn print_service<W: Write>(output: &mut W, service: ServiceConfig) -> io::Result<()> {
-    let (number, least, most) = (service.number, service.least, service.most);
-    write!(output, "  service {number}, data of ")?;
+/// Prints an own service of a class: its number, the size of its data, and the size of its reply's data.
+fn print_service<W: Write>(output: &mut W, class: u16, service: ServiceConfig) -> io::Result<()> {
+    let (least, most) = (service.least, service.most);
+    let text = ServiceText {
+        class: Some(class),
+        service: service.number,
+    };
+    write!(output, "  {text}, data of ")?;
     if least == most {
         write!(output, "{most} bytes")?;
     } else {

@@ -12,10 +12,10 @@ use thiserror::Error;
 #[derive(Clone, Copy, Debug, Error)]
 pub enum OwnerNeed {
     /// A checked attribute: the owner decides on each set.
-    #[error("attribute {2} of class {0}, instance {1} is checked by an owner, and enip serve has none")]
+    #[error("attribute {2} of class {0:#04x}, instance {1} is checked by an owner, and enip serve has none")]
     Attribute(u16, u16, u16),
     /// A service: the owner executes it.
-    #[error("service {2} of class {0}, instance {1} needs an owner, and enip serve has none")]
+    #[error("service {2:#04x} of class {0:#04x}, instance {1} needs an owner, and enip serve has none")]
     Service(u16, u16, u8),
 }
 

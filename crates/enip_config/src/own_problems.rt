@@ -13,13 +13,13 @@ use toml::Table;
 pub(crate) enum ObjectProblem {
     #[error("class is 0 (allowed: 1 to 65535)")]
     NoClass,
-    #[error("class {0} is one of the adapter's own")]
+    #[error("class {0:#04x} is one of the adapter's own")]
     TakenClass(u16),
     #[error("an object has instance 0, which is the class itself")]
     NoInstance,
     #[error("name has {0} bytes (allowed: 1 to 32, each from 0x20 to 0x7e)")]
     Name(usize),
-    #[error("instance {1} of class {0} is defined twice")]
+    #[error("instance {1} of class {0:#04x} is defined twice")]
     Twice(u16, u16),
     #[error("there are {0} objects (allowed: up to 32)")]
     Count(usize),
@@ -30,7 +30,7 @@ pub(crate) enum ObjectProblem {
 pub(crate) enum ServiceProblem {
     #[error("number is {0} (allowed: 50 to 99)")]
     Number(u8),
-    #[error("service {0} is defined twice")]
+    #[error("service {0:#04x} is defined twice")]
     Twice(u8),
     #[error("sizes are from {0} to {1}")]
     Falling(u16, u16),

@@ -1,8 +1,9 @@
 //! Requests and answers as the log prints them.
 
-use cip_bytes::StatusText;
-use cip_bytes::protocol::{Command, EncapsulationStatus, ManagerService};
+use cip_bytes::protocol::{Command, EncapsulationStatus};
+use cip_bytes::{NumberedStatus, StatusText};
 use cip_message::{Path, ReplyView, RequestView, read_path};
+use cip_names::{AttributeText, ClassText, ServiceText};
 use enip_wire::{FrameView, Header, rr_body, unit_body};
 use std::fmt;
 
@@ -44,6 +45,16 @@ impl RequestSummary {
     /// Of a class 3 item: the connection ID and the sequence count.
     pub(crate) fn item(&self) -> Option<(u32, u16)> {
         self.item
+    }
+
+    /// The number of the service, if it has a message of the message router.
+    pub(crate) fn service(&self) -> Option<u8> {
+        self.service
+    }
+
+    /// The number of the class, if its path can be read.
+    pub(crate) fn class(&self) -> Option<u16> {
+        self.path.map(|path| path.class)
     }
 
     /// Whether it unregisters the session.
@@ -89,7 +100,8 @@ impl fmt::Display for RequestSummary {
             write!(f, " connection {connection} count {count}")?;
         }
         if let Some(service) = self.service {
-            write_service(f, service)?;
+            let class = self.class();
+            write!(f, " {}", ServiceText { class, service })?;
         }
         match self.path {
             Some(path) => write_path(f, path),
@@ -98,51 +110,17 @@ impl fmt::Display for RequestSummary {
     }
 }
 
-/// Writes the name of a service, or its number if it has no name here.
-fn write_service<W: fmt::Write>(f: &mut fmt::Formatter<W>, service: u8) -> fmt::Result {
-    if let Some(known) = ManagerService::of(service) {
-        return write!(f, " {known}");
-    }
-    match service_name(service) {
-        Some(name) => write!(f, " {name}"),
-        None => write!(f, " service {service:#04x}"),
-    }
-}
-
-/// The name of a common service. (Volume 1, common services.)
-fn service_name(service: u8) -> Option<&'static str> {
-    Some(match service {
-        0x01 => "Get_Attributes_All",
-        0x02 => "Set_Attributes_All",
-        0x03 => "Get_Attribute_List",
-        0x04 => "Set_Attribute_List",
-        0x05 => "Reset",
-        0x06 => "Start",
-        0x07 => "Stop",
-        0x08 => "Create",
-        0x09 => "Delete",
-        0x0a => "Multiple_Service_Packet",
-        0x0d => "Apply_Attributes",
-        0x0e => "Get_Attribute_Single",
-        0x10 => "Set_Attribute_Single",
-        0x11 => "Find_Next_Object_Instance",
-        0x15 => "Restore",
-        0x16 => "Save",
-        0x17 => "No_Operation",
-        0x18 => "Get_Member",
-        0x19 => "Set_Member",
-        0x1a => "Insert_Member",
-        0x1b => "Remove_Member",
-        _ => return None,
-    })
-}
-
-/// Writes a path by its numbers.
+/// Writes a path by its numbers and their names.
 fn write_path<W: fmt::Write>(f: &mut fmt::Formatter<W>, path: Path) -> fmt::Result {
     let (class, instance) = (path.class, path.instance);
-    write!(f, " class {class} instance {instance}")?;
+    write!(f, " {} instance {instance}", ClassText(class))?;
     if let Some(attribute) = path.attribute {
-        write!(f, " attribute {attribute}")?;
+        let text = AttributeText {
+            class,
+            instance,
+            attribute,
+        };
+        write!(f, " {text}")?;
     }
     match path.member {
         Some(member) => write!(f, " member {member}"),
@@ -193,11 +171,12 @@ static STATUSES: [EncapsulationStatus; 6] = [
 impl fmt::Display for AnswerStatus {
     fn fmt<W: fmt::Write>(&self, f: &mut fmt::Formatter<W>) -> fmt::Result {
         match self {
-            AnswerStatus::Reply(text) => write!(f, "{text}"),
+            AnswerStatus::Reply(text) => write!(f, "{}", NumberedStatus(*text)),
             AnswerStatus::Encapsulation(status) => {
+                write!(f, "{status:#06x}")?;
                 match STATUSES.iter().find(|known| known.number() == *status) {
-                    Some(known) => write!(f, "{known}"),
-                    None => write!(f, "status {status:#06x}"),
+                    Some(known) => write!(f, " {known}"),
+                    None => Ok(()),
                 }
             }
         }

@@ -84,27 +84,42 @@ impl fmt::Display for JsonMembers {
                 write!(f, "\"cause\":\"{cause}\",\"event\":\"disconnected\"")
             }
             LogEvent::TurnedAway => write!(f, "\"event\":\"turned away\""),
-            LogEvent::Answered(request, status) => write_frame(f, "frame", request, status),
-            LogEvent::Repeated(request, status) => write_frame(f, "repeat", request, status),
-            LogEvent::Unanswered(request) => {
-                write!(f, "\"event\":\"frame\",\"request\":\"{request}\"")
+            LogEvent::Answered(request, status) => write_frame(f, "frame", request, Some(status)),
+            LogEvent::Repeated(request, status) => write_frame(f, "repeat", request, Some(status)),
+            LogEvent::Unanswered(request) => write_frame(f, "frame", request, None),
+            LogEvent::Datagram(request, status) => {
+                write_frame(f, "datagram", request, Some(status))
             }
-            LogEvent::Datagram(request, status) => write_frame(f, "datagram", request, status),
         }
     }
 }
 
-/// Writes the members of a frame that was answered.
+/// Writes the members of a frame, which has a status if it was answered.
 fn write_frame<W: fmt::Write>(
     f: &mut fmt::Formatter<W>,
     event: &str,
     request: RequestSummary,
-    status: AnswerStatus,
+    status: Option<AnswerStatus>,
 ) -> fmt::Result {
-    write!(
-        f,
-        "\"event\":\"{event}\",\"request\":\"{request}\",\"status\":\"{status}\""
-    )
+    if let Some(class) = request.class() {
+        write!(f, "\"class\":{class},")?;
+    }
+    if let Some(AnswerStatus::Encapsulation(number)) = status {
+        write!(f, "\"encapsulation_status\":{number},")?;
+    }
+    write!(f, "\"event\":\"{event}\",")?;
+    if let Some(AnswerStatus::Reply(text)) = status {
+        let number = text.status;
+        write!(f, "\"general_status\":{number},")?;
+    }
+    write!(f, "\"request\":\"{request}\"")?;
+    if let Some(service) = request.service() {
+        write!(f, ",\"service\":{service}")?;
+    }
+    match status {
+        Some(status) => write!(f, ",\"status\":\"{status}\""),
+        None => Ok(()),
+    }
 }
 
 /// How the log is written.

@@ -72,7 +72,7 @@ impl fmt::Display for EntryName {
             EntryName::Attribute(class, instance, attribute) => {
                 write!(
                     f,
-                    "attribute {attribute} of class {class}, instance {instance}"
+                    "attribute {attribute} of class {class:#04x}, instance {instance}"
                 )
             }
             EntryName::Life => f.write_str("the life of the command ledger"),
