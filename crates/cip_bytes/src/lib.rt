@@ -13,5 +13,5 @@ pub mod protocol;
 mod status_text;
 mod writing;
 
-pub use status_text::{NumberedStatus, StatusText};
+pub use status_text::StatusText;
 pub use writing::{Full, append, append_u8, append_u16, append_u32};

@@ -69,36 +69,6 @@ impl fmt::Display for StatusText {
     }
 }
 
-/// A general status, printed with its number: the number, the first additional status word if it is not 0, and the
-/// standard's name if there is one.
-///
-/// ```
-/// let refused = NumberedStatus(StatusText { status: 0x05, extended: 0 });
-/// let text = format!(in alloc; "{refused}")?; // 0x05 path destination unknown
-/// ```
-#[derive(Clone, Copy, Debug)]
-pub struct NumberedStatus(pub StatusText);
-
-impl fmt::Display for NumberedStatus {
-    fn fmt<W: fmt::Write>(&self, f: &mut fmt::Formatter<W>) -> fmt::Result {
-        let StatusText { status, extended } = self.0;
-        write!(f, "{status:#04x}")?;
-        if extended != 0 {
-            write!(f, " {extended:#06x}")?;
-        }
-        if !has_name(status) {
-            return Ok(());
-        }
-        let text = self.0;
-        write!(f, " {text}")
-    }
-}
-
-/// Whether the standard names a general status.
-fn has_name(status: u8) -> bool {
-    GENERAL.iter().any(|known| known.number() == status) || other_text(status).is_some()
-}
-
 /// Writes the name of a general status, or its number if the standard does not name it.
 fn write_general<W: fmt::Write>(f: &mut fmt::Formatter<W>, status: u8) -> fmt::Result {
     if let Some(known) = GENERAL.iter().find(|known| known.number() == status) {

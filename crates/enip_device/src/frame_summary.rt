@@ -1,7 +1,8 @@
 //! Requests and answers as the log prints them.
 
+use crate::numbered_status::NumberedStatus;
+use cip_bytes::StatusText;
 use cip_bytes::protocol::{Command, EncapsulationStatus};
-use cip_bytes::{NumberedStatus, StatusText};
 use cip_message::{Path, ReplyView, RequestView, read_path};
 use cip_names::{AttributeText, ClassText, ServiceText};
 use enip_wire::{FrameView, Header, rr_body, unit_body};

@@ -15,6 +15,7 @@ mod kept_file;
 mod kept_values;
 mod log_event;
 mod logged_wire;
+mod numbered_status;
 mod observer;
 mod readiness;
 mod reported_address;
