@@ -42,6 +42,7 @@ mod route_option;
 pub mod serve;
 mod serve_command;
 mod serving;
+mod shells;
 pub mod show;
 pub mod socket;
 mod watch;
@@ -59,8 +60,8 @@ use enip_client::ListCommand;
 use enip_config::EXAMPLE;
 use error_keeping::ErrorKeeping;
 use fault::Fault;
-use host_port::Timeout;
 use found_devices::DeviceForm;
+use host_port::Timeout;
 use inspect::run_inspect;
 use listing::{run_discovery, run_list};
 use named_file::{NamedFile, error_of_run, is_input};
@@ -73,6 +74,7 @@ use replay::{draw, replay};
 use report::Reported;
 use request::{Device, Request, run_request};
 use serve_command::{print_kept_values, run_serve};
+use shells::{Page, run_page};
 use show::show;
 use std::process::ExitCode;
 use watch::run_watch;
@@ -122,6 +124,11 @@ fn run_command<'a>(
         "batch" => return run_batch(rt, matches),
         "watch" => return run_watch(rt, matches),
         "inspect" => return run_inspect(rt, matches),
+        "completions" => {
+            let shell = matches.get_str("SHELL").unwrap_or("");
+            return run_page(rt, Page::Completions(shell));
+        }
+        "man" => return run_page(rt, Page::Man),
         _ => {}
     }
     Ok(ARGUMENTS_REFUSED)
