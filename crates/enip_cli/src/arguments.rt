@@ -76,6 +76,7 @@ pub(crate) enum Argument {
     ReadTries,
     Pending,
     Abandon,
+    Shell,
 }
 
 /// The formats of the log.
@@ -83,6 +84,9 @@ static LOG_FORMATS: [&str; 2] = ["text", "json"];
 
 /// The clocks of the log.
 static LOG_CLOCKS: [&str; 2] = ["start", "utc"];
+
+/// The shells that have a completion script.
+static SHELLS: [&str; 3] = ["bash", "zsh", "fish"];
 
 /// The options with which a command of FILE takes the place of the request in the arguments.
 const COMMAND_OF_FILE: [&str; 2] = ["pending", "abandon"];
@@ -132,11 +136,11 @@ impl Argument {
             Argument::AllReplies => all_replies(alloc)?,
             Argument::Stop => stop(alloc),
             Argument::Verbose => verbose(alloc),
+            Argument::Sources => sources(alloc),
             Argument::WatchedRequest => watched_request(alloc),
             Argument::Rounds => rounds(alloc),
             Argument::RoundInterval => round_interval(alloc),
             Argument::Connected => connected(alloc),
-            Argument::Sources => sources(alloc),
             Argument::Route => route(alloc),
             Argument::ConnectionSerial => connection_serial(alloc)?,
             Argument::OriginatorSerial => originator_serial(alloc)?,
@@ -154,6 +158,7 @@ impl Argument {
             Argument::ReadTries => tries(alloc, READ_TRIES_DETAILS),
             Argument::Pending => pending(alloc)?,
             Argument::Abandon => abandon(alloc)?,
+            Argument::Shell => shell(alloc),
         })
     }
 }
@@ -415,11 +420,6 @@ fn verbose<'a>(alloc: Global) -> Arg<'a> {
         .help("Print refused attributes, too, with their status")
 }
 
-fn watched_request<'a>(alloc: Global) -> Arg<'a> {
-    Arg::new(alloc, "REQUEST").required(true).num_args(1..).help(
-        "Attribute to read: the arguments of `enip get`, in quotes",
-    )
-}
 fn sources<'a>(alloc: Global) -> Arg<'a> {
     Arg::new(alloc, "verbose")
         .long("verbose")
@@ -427,6 +427,11 @@ fn sources<'a>(alloc: Global) -> Arg<'a> {
         .help("Print where each answer came from, too")
 }
 
+fn watched_request<'a>(alloc: Global) -> Arg<'a> {
+    Arg::new(alloc, "REQUEST").required(true).num_args(1..).help(
+        "Attribute to read: the arguments of `enip get`, in quotes",
+    )
+}
 
 fn rounds<'a>(alloc: Global) -> Arg<'a> {
     Arg::new(alloc, "count")
@@ -562,4 +567,11 @@ fn abandon<'a>(alloc: Global) -> Result<Arg<'a>, AllocError> {
         .hide_short_help(true)
         .help(ABANDON_DETAILS)
         .requires_arg("once")
+}
+
+fn shell<'a>(alloc: Global) -> Arg<'a> {
+    Arg::new(alloc, "SHELL")
+        .required(true)
+        .value_parser(SHELLS.as_slice())
+        .help("Shell that runs the script")
 }

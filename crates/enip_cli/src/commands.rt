@@ -1,6 +1,7 @@
 //! The commands of the program, with their arguments and their help.
 
 use crate::arguments::Argument;
+use crate::shell_texts::{DETAILS_COMPLETIONS, DETAILS_MAN, EXAMPLES_COMPLETIONS, EXAMPLES_MAN};
 use crate::texts::{
     DETAILS_ANSWER, DETAILS_BATCH, DETAILS_CALL, DETAILS_CHECK, DETAILS_DISCOVER, DETAILS_GET,
     DETAILS_IDENTITY, DETAILS_INSPECT, DETAILS_REPLAY, DETAILS_SERVE, DETAILS_SERVICES,
@@ -15,11 +16,17 @@ use std::alloc::{AllocError, Global};
 /// The name of the program.
 pub const PROGRAM: &str = "enip";
 
-const VERSION: &str = "0.1.0";
+pub(crate) const VERSION: &str = "0.1.0";
+
+/// The date of the version.
+pub(crate) const DATE: &str = "2026-11-27";
+
+/// What the program is.
+pub(crate) const ABOUT: &str = "An EtherNet/IP adapter and explicit messaging client";
 
 /// A command of the program.
-struct Row {
-    name: &'static str,
+pub(crate) struct Row {
+    pub(crate) name: &'static str,
     /// What it does, in a line.
     pub(crate) about: &'static str,
     /// The usage, if it is not that of the arguments.
@@ -32,7 +39,7 @@ struct Row {
 }
 
 /// The commands in the order in which the help lists them.
-static COMMANDS: [Row; 14] = [
+pub(crate) static COMMANDS: [Row; 16] = [
     Row {
         name: "serve",
         about: "Serve a device over TCP to several clients at once",
@@ -288,6 +295,22 @@ static COMMANDS: [Row; 14] = [
         details: DETAILS_REPLAY,
         arguments: &[Argument::Config, Argument::Script, Argument::Ladder],
     },
+    Row {
+        name: "completions",
+        about: "Print a script that completes the command line in a shell",
+        usage: None,
+        examples: EXAMPLES_COMPLETIONS,
+        details: DETAILS_COMPLETIONS,
+        arguments: &[Argument::Shell],
+    },
+    Row {
+        name: "man",
+        about: "Print the man page",
+        usage: None,
+        examples: EXAMPLES_MAN,
+        details: DETAILS_MAN,
+        arguments: &[],
+    },
 ];
 
 /// The commands in a line of `enip batch`.
@@ -352,7 +375,7 @@ pub fn line_command<'a>(alloc: Global, name: &str) -> Result<Option<Command<'a>>
 pub fn program<'a>(alloc: Global) -> Result<Command<'a>, AllocError> {
     let mut program = Command::new(alloc, PROGRAM)
         .version(VERSION)
-        .about("An EtherNet/IP adapter and explicit messaging client")
+        .about(ABOUT)
         .after_long_help(EXIT_STATUSES)
         .subcommand_required(true)
         .arg_required_else_help(true);
@@ -363,7 +386,7 @@ pub fn program<'a>(alloc: Global) -> Result<Command<'a>, AllocError> {
 }
 
 /// One command with its arguments.
-fn command<'a>(alloc: Global, row: &Row) -> Result<Command<'a>, AllocError> {
+pub(crate) fn command<'a>(alloc: Global, row: &Row) -> Result<Command<'a>, AllocError> {
     let mut command = Command::new(alloc, row.name)
         .about(row.about)
         .after_help(row.examples)

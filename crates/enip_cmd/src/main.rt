@@ -5,6 +5,7 @@ pub mod answer;
 mod checking;
 pub mod replay;
 pub mod report;
+mod shells;
 pub mod show;
 
 use answer::answer;
@@ -26,6 +27,7 @@ use enip_requests::{
 };
 use replay::{draw, replay};
 use report::Reported;
+use shells::{Page, run_page};
 use show::show;
 use std::process::ExitCode;
 
@@ -53,6 +55,11 @@ fn run_command<'a>(
         "batch" => return run_batch(rt, matches),
         "watch" => return run_watch(rt, matches),
         "inspect" => return run_inspect(rt, matches),
+        "completions" => {
+            let shell = matches.get_str("SHELL").unwrap_or("");
+            return run_page(rt, Page::Completions(shell));
+        }
+        "man" => return run_page(rt, Page::Man),
         _ => {}
     }
     Ok(ARGUMENTS_REFUSED)

@@ -25,13 +25,18 @@ is_same_host a b =
 abbrev pub has_address : DiscoveryAnswer → Bool
 has_address a = not (is_same_host a.address (0 ∷ 0 ∷ 0 ∷ 0 ∷ []))
 
+-- Both addresses are loopback addresses, so they are of this machine.
+abbrev pub are_loopback : List ℕ → List ℕ → Bool
+are_loopback a b = (slice_index a 0 == 127) && (slice_index b 0 == 127)
+
 -- The address that the answer came from is another one than the device reports, which has IPv4.
 abbrev pub is_other_host : IpAddr → List ℕ → Bool
-is_other_host (V4 ip) reported = not (is_same_host (ipv4_octets ip) reported)
+is_other_host (V4 ip) reported =
+    not (is_same_host (ipv4_octets ip) reported) && not (are_loopback (ipv4_octets ip) reported)
 is_other_host (V6 ip) reported = false
 
 abbrev pub is_elsewhere : DiscoveryAnswer → Bool
-is_elsewhere a = has_address a && is_other_host (socket_ip a.source) a.address
+is_elsewhere a = is_other_host (socket_ip a.source) a.address && has_address a
 
 -- Both report the same address and port.
 abbrev pub has_same_address : DiscoveryAnswer → DiscoveryAnswer → Bool

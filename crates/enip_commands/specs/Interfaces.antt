@@ -34,11 +34,6 @@ host_at place b = slice_index b (place + 3) ∷ slice_index b (place + 2) ∷ sl
 abbrev pub name_size : List ℕ → ℕ
 name_size b = slice_index b 20 + 256 * slice_index b 21
 
--- A name of an odd size is followed by a byte of padding, which may be missing (ours).
-abbrev pub is_interface : List ℕ → Bool
-is_interface b =
-    nat_le 22 (length b) && ((length b == 22 + name_size b) || (length b == 22 + name_size b + name_size b % 2))
-
 abbrev pub interface_fields : List ℕ → Interface
 interface_fields b = record {
   ip_address = host_at 0 b;
@@ -49,9 +44,13 @@ interface_fields b = record {
   domain_name = take (name_size b) (drop 22 b);
 }
 
+-- A name of an odd size is followed by a byte of padding, which may be missing (ours).
+abbrev pub is_whole : List ℕ → Bool
+is_whole b = (length b == 22 + name_size b) || (length b == 22 + name_size b + name_size b % 2)
+
 -- The configuration that the bytes spell, if any.
-abbrev pub interface_of : List ℕ → Option Interface
-interface_of b = if is_interface b then Some (interface_fields b) else None
+unfoldable pub interface_of : List ℕ → Option Interface
+interface_of b = if nat_le 22 (length b) && is_whole b then Some (interface_fields b) else None
 
 -- A line for each field, below the line of the attribute.
 abbrev pub interface_text : Interface → List ℕ

@@ -1,9 +1,9 @@
 //! `enip discover --verbose`: where each answer came from, and what answers have in common.
 
-ghost use Rattle.std.specs.Prelude.{◌≡◌, IfErr, OnOk};
+ghost use Rattle.std.specs.Prelude.{◌≡◌, ◌&&◌, not, IfErr, OnOk};
 ghost use Rattle.std.specs.Io.KnownBytes.{Appends};
 ghost use Rattle.enip_client.specs.Identity.{identity_in};
-ghost use Rattle.enip_commands.specs.Discovering.{is_same_host, has_address, is_elsewhere, has_same_address, has_same_serial};
+ghost use Rattle.enip_commands.specs.Discovering.{is_same_host, are_loopback, has_address, is_elsewhere, has_same_address, has_same_serial};
 ghost use Rattle.enip_commands.specs.Discovering.{answer_line, answer_object_line};
 ghost use Rattle.enip_commands.specs.Statuses.{IsOfDevices};
 
@@ -14,6 +14,9 @@ use enip_client::IdentityView;
 use std::alloc::Global;
 use std::io::Write;
 use std::net::{IpAddr, SocketAddr};
+
+/// The first octet of loopback addresses.
+const LOOPBACK: u8 = 127;
 
 /// An answer to a discovery: where it came from, and what the device reports of itself.
 #[derive(Clone, Copy, Debug, PartialEq, Eq)]
@@ -42,8 +45,8 @@ pub struct Remarks {
 }
 
 impl DiscoveryAnswer {
-    /// Whether the answer came from another address than the device reports. An IPv6 address can't be compared: an
-    /// identity has an IPv4 address.
+    /// Whether the answer came from another address than the device reports. Two loopback addresses are not told apart,
+    /// and an IPv6 address can't be compared: an identity has an IPv4 address.
     ///
     /// ```
     /// if answer.is_elsewhere() {
@@ -54,7 +57,7 @@ impl DiscoveryAnswer {
         ensures { result ≡ is_elsewhere self.now }
     {
         match self.source.ip() {
-            IpAddr::V4(ip) => self.has_address() && !is_same_host(ip.octets(), self.address),
+            IpAddr::V4(ip) => is_other_host(ip.octets(), self.address) && self.has_address(),
             IpAddr::V6(_) => false,
         }
     }
@@ -87,6 +90,13 @@ impl DiscoveryAnswer {
     {
         !is_same_host(self.address, [0, 0, 0, 0])
     }
+}
+
+/// Whether an answer from an address reports another one. All loopback addresses are of this machine.
+fn is_other_host(source: [u8; 4], reported: [u8; 4]) -> bool
+    ensures { result ≡ (not (is_same_host source reported) && not (are_loopback source reported)) }
+{
+    !is_same_host(source, reported) && !(source[0] == LOOPBACK && reported[0] == LOOPBACK)
 }
 
 /// Whether two addresses are the same.

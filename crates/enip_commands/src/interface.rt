@@ -7,7 +7,7 @@
 
 ghost use Rattle.std.specs.Prelude.{◌≡◌, ◌≤◌, ◌+◌, IfOk, Some, length, string_bytes};
 ghost use Rattle.std.specs.Option.{option_map};
-ghost use Rattle.enip_commands.specs.Interfaces.{interface_in, interface_of, interface_fields, host_at, name_size, is_interface};
+ghost use Rattle.enip_commands.specs.Interfaces.{interface_in, interface_of, interface_fields, host_at, name_size};
 ghost use Rattle.enip_commands.specs.Interfaces.{interface_data, fields_data};
 ghost use Rattle.serde_json.specs.View.{view};
 ghost use Rattle.serde_json.specs.Written.{compact_text};
@@ -46,25 +46,20 @@ pub struct InterfaceConfiguration<'a> {
 impl<'a> InterfaceConfiguration<'a> {
     /// Reads a configuration from all of these bytes. A domain name of an odd size is followed by a byte of padding,
     /// which may be missing (ours). `None` if the bytes are not a configuration.
+    #[tactic(auto, unfolding(crate::specs::Interfaces::interface_of))]
     pub fn read(bytes: &'a [u8]) -> Option<InterfaceConfiguration<'a>>
         ensures { option_map interface_in result ≡ interface_of bytes.now }
     {
-        if !is_interface(bytes) {
+        if bytes.len() < BEFORE_NAME {
+            return None;
+        }
+        let size = name_size(bytes);
+        let end = BEFORE_NAME + size;
+        if bytes.len() != end && bytes.len() != end + size % 2 {
             return None;
         }
         Some(fields_of(bytes))
     }
-}
-
-/// Whether the bytes are a configuration.
-fn is_interface(bytes: &[u8]) -> bool
-    ensures { result ≡ is_interface bytes.now }
-{
-    if bytes.len() < BEFORE_NAME {
-        return false;
-    }
-    let size = name_size(bytes);
-    bytes.len() == BEFORE_NAME + size || bytes.len() == BEFORE_NAME + size + size % 2
 }
 
 /// The size of the domain name.

@@ -52,7 +52,12 @@ fn add_members(
     let (mine, rest) = split_values(values, field.values());
     if let Some(name) = field.name {
         let name = latin_text(alloc, name.as_slice())?;
-        put(members, alloc, name.as_str(), field_json(alloc, field, mine)?)?;
+        put(
+            members,
+            alloc,
+            name.as_str(),
+            field_json(alloc, field, mine)?,
+        )?;
     }
     add_members(alloc, fields, index + 1, rest, members)
 }
