@@ -39,6 +39,11 @@ pub fn write_fish<W: Write>(output: &mut W, program: &Program) -> io::Result<()>
     for command in &program.commands {
         write_command(output, command)?;
     }
+    write_help(output, program)
+}
+
+/// Writes how `help` and what it takes are completed.
+fn write_help<W: Write>(output: &mut W, program: &Program) -> io::Result<()> {
     writeln!(
         output,
         "\ncomplete -c enip -n '__enip_at 0' -a {HELP} -d 'Print the help of a command'"

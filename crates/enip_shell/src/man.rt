@@ -104,17 +104,24 @@ fn write_argument<W: Write>(output: &mut W, argument: &Argument) -> io::Result<(
     writeln!(output, ".TP\n.B {}", inline(argument.usage.as_str()))?;
     write_text(output, argument.details)?;
     if let Takes::Names(names) = argument.takes {
-        output.write_all(b"[possible values:")?;
-        for (index, name) in names.iter().enumerate() {
-            let comma = if index == 0 { "" } else { "," };
-            write!(output, "{comma} {}", inline(name))?;
-        }
-        output.write_all(b"]\n")?;
+        write_values(output, names)?;
     }
     if let Some(default) = argument.default {
         writeln!(output, "[default: {}]", inline(default))?;
     }
     Ok(())
+}
+
+/// Writes the values that an option takes.
+fn write_values<W: Write>(output: &mut W, names: &[&str]) -> io::Result<()> {
+    output.write_all(b"[possible values:")?;
+    if let [first, rest @ ..] = names {
+        write!(output, " {}", inline(first))?;
+        for name in rest {
+            write!(output, ", {}", inline(name))?;
+        }
+    }
+    output.write_all(b"]\n")
 }
 
 /// Writes a text. A line that begins with a space is not filled, and an empty line is vertical space.

@@ -44,12 +44,17 @@ pub fn write_zsh<W: Write>(output: &mut W, program: &Program) -> io::Result<()> 
     for command in &program.commands {
         write_command(output, command)?;
     }
+    write_help(output, program)?;
+    output.write_all(END.as_bytes())
+}
+
+/// Writes how the argument of `help` is completed.
+fn write_help<W: Write>(output: &mut W, program: &Program) -> io::Result<()> {
     write!(
         output,
         "        {HELP})\n            _arguments '1:COMMAND:("
     )?;
-    write_help_topics(output, program)?;
-    output.write_all(END.as_bytes())
+    write_help_topics(output, program)
 }
 
 /// Writes the functions that offer the names of classes, services and types.
