@@ -6,10 +6,10 @@ use Rattle.std.specs.Net.Text.{socket_text}
 use Rattle.std.specs.declared.net.ip_addr.IpAddr.{IpAddr}
 use Rattle.std.specs.declared.net.ip_addr.IpAddr.TheVariants.{V4, V6}
 use Rattle.std.specs.declared.net.socket_addr.SocketAddr.{SocketAddr}
-use Rattle.serde_json.specs.Data.{Data, boolean, string, object, member, no_members}
+use Rattle.serde_json.specs.Data.{Data, Members, boolean, string, object, put}
 use Rattle.serde_json.specs.Written.{compact_text}
 use Rattle.enip_client.specs.Identity.{Identity}
-use Rattle.enip_commands.specs.Json.{count, latin, host_text}
+use Rattle.enip_commands.specs.Json.{identity_members}
 use Rattle.enip_commands.specs.Lines.{with_newline}
 use Rattle.enip_commands.specs.Listing.{device_text}
 use Rattle.enip_commands.specs.declared.discovering.DiscoveryAnswer.{DiscoveryAnswer}
@@ -50,24 +50,17 @@ has_same_serial a b = (a.vendor == b.vendor) && (a.serial == b.serial)
 abbrev pub answer_line : SocketAddr → Identity → List ℕ
 answer_line source i = with_newline (device_text i ++ codes " from " ++ socket_text source)
 
+-- The members of an object, with the address that an answer came from, and what was noticed.
+abbrev pub with_remarks : SocketAddr → Remarks → Members → Members
+with_remarks source remarks members =
+    put (codes "same_serial") (boolean remarks.same_serial)
+    (put (codes "same_address") (boolean remarks.same_address)
+    (put (codes "other_address") (boolean remarks.other_address)
+    (put (codes "from") (string (socket_text source)) members)))
+
 -- The object of a device: its identity, the address that its answer came from, and what was noticed.
 abbrev pub answer_data : SocketAddr → Remarks → Identity → Data
-answer_data source remarks i =
-    object (member (codes "address") (string (host_text i.address))
-    (member (codes "device_type") (count i.device_type)
-    (member (codes "from") (string (socket_text source))
-    (member (codes "major") (count i.major)
-    (member (codes "minor") (count i.minor)
-    (member (codes "name") (string (latin i.name))
-    (member (codes "other_address") (boolean remarks.other_address)
-    (member (codes "port") (count i.port)
-    (member (codes "product_code") (count i.product_code)
-    (member (codes "same_address") (boolean remarks.same_address)
-    (member (codes "same_serial") (boolean remarks.same_serial)
-    (member (codes "serial") (count i.serial)
-    (member (codes "state") (count i.state)
-    (member (codes "status") (count i.status)
-    (member (codes "vendor") (count i.vendor) no_members)))))))))))))))
+answer_data source remarks i = object (with_remarks source remarks (identity_members i))
 
 abbrev pub answer_object_line : SocketAddr → Remarks → Identity → List ℕ
 answer_object_line source remarks i = with_newline (compact_text (answer_data source remarks i))

@@ -15,7 +15,7 @@ use Rattle.enip_client.specs.Service.{Service}
 use Rattle.json.specs.Lex.{tokens}
 use Rattle.json.specs.Print.{print}
 use Rattle.serde_json.specs.Read.{read}
-use Rattle.serde_json.specs.Data.{Data, boolean, number, unsigned, negative, string, array, object, Items, no_items, item, member, no_members, depth}
+use Rattle.serde_json.specs.Data.{Data, boolean, number, unsigned, negative, string, array, object, Items, no_items, item, Members, member, no_members, depth}
 
 -- A number that is not negative.
 abbrev pub count : ℕ → Data
@@ -32,9 +32,9 @@ host_text address =
     ++ decimal (slice_index address 2) ++ codes "." ++ decimal (slice_index address 3)
 
 -- An identity.
-abbrev pub identity_data : Identity → Data
-identity_data i =
-    object (member (codes "address") (string (host_text i.address))
+abbrev pub identity_members : Identity → Members
+identity_members i =
+    member (codes "address") (string (host_text i.address))
     (member (codes "device_type") (count i.device_type)
     (member (codes "major") (count i.major)
     (member (codes "minor") (count i.minor)
@@ -44,7 +44,10 @@ identity_data i =
     (member (codes "serial") (count i.serial)
     (member (codes "state") (count i.state)
     (member (codes "status") (count i.status)
-    (member (codes "vendor") (count i.vendor) no_members)))))))))))
+    (member (codes "vendor") (count i.vendor) no_members))))))))))
+
+abbrev pub identity_data : Identity → Data
+identity_data i = object (identity_members i)
 
 -- A service of ListServices.
 abbrev pub service_data : Service → Data

@@ -14,7 +14,7 @@ ghost use Rattle.serde_json.specs.Written.{compact_text};
 
 use crate::json_text::{host_of, latin_text};
 use crate::listing::Name;
-use serde_json::{Value, json};
+use serde_json::{Map, Value, json, put};
 use std::alloc::{AllocError, Global};
 use std::fmt;
 
@@ -169,12 +169,27 @@ fn fields_value(
     let name_server = host_of(alloc, configuration.name_server)?;
     let name_server_2 = host_of(alloc, configuration.name_server_2)?;
     let domain_name = latin_text(alloc, configuration.domain_name)?;
-    json!(in alloc; {
-        "domain_name": &domain_name,
-        "gateway_address": &gateway_address,
-        "ip_address": &ip_address,
-        "name_server": &name_server,
-        "name_server_2": &name_server_2,
-        "network_mask": &network_mask
-    })
+    let mut members = Map::new(alloc);
+    put(&mut members, alloc, "domain_name", Value::from(domain_name))?;
+    put(
+        &mut members,
+        alloc,
+        "gateway_address",
+        Value::from(gateway_address),
+    )?;
+    put(&mut members, alloc, "ip_address", Value::from(ip_address))?;
+    put(&mut members, alloc, "name_server", Value::from(name_server))?;
+    put(
+        &mut members,
+        alloc,
+        "name_server_2",
+        Value::from(name_server_2),
+    )?;
+    put(
+        &mut members,
+        alloc,
+        "network_mask",
+        Value::from(network_mask),
+    )?;
+    Ok(Value::Object(members))
 }

@@ -1,16 +1,15 @@
 //! The object of an answer to a discovery.
 
-ghost use Rattle.std.specs.Prelude.{◌≡◌, IfOk, string_bytes};
+ghost use Rattle.std.specs.Prelude.{◌≡◌, IfOk, OnOk, string_bytes};
 ghost use Rattle.enip_client.specs.Identity.{identity_in};
-ghost use Rattle.enip_commands.specs.Discovering.{answer_data};
-ghost use Rattle.serde_json.specs.View.{view};
+ghost use Rattle.enip_commands.specs.Discovering.{answer_data, with_remarks};
+ghost use Rattle.serde_json.specs.View.{view, members_view};
 ghost use Rattle.serde_json.specs.Written.{compact_text};
 
 use crate::discovering::Remarks;
-use crate::json_text::entry::host_of;
-use crate::json_text::latin::latin_text;
+use crate::json_text::entry::identity_members;
 use enip_client::IdentityView;
-use serde_json::{Value, json};
+use serde_json::{Map, Value, put};
 use std::alloc::{AllocError, Global};
 use std::net::SocketAddr;
 
@@ -39,24 +38,39 @@ fn answer_value(
 ) -> Result<Value, AllocError>
     ensures { IfOk result (λ object. view object ≡ answer_data source remarks (identity_in identity.now)) }
 {
-    let host = host_of(alloc, identity.address)?;
+    let mut members = identity_members(alloc, identity)?;
+    put_remarks(alloc, source, remarks, &mut members)?;
+    Ok(Value::Object(members))
+}
+
+/// Adds the address that an answer came from, and what was noticed.
+fn put_remarks(
+    alloc: Global,
+    source: SocketAddr,
+    remarks: Remarks,
+    members: &mut Map<String, Value>,
+) -> Result<(), AllocError>
+    ensures { OnOk result (members_view members.new.entries
+        ≡ with_remarks source remarks (members_view members.old.entries)) }
+{
     let from = format!(in alloc; "{source}")?;
-    let name = latin_text(alloc, identity.name)?;
-    json!(in alloc; {
-        "address": &host,
-        "device_type": identity.device_type,
-        "from": &from,
-        "major": identity.major,
-        "minor": identity.minor,
-        "name": &name,
-        "other_address": remarks.other_address,
-        "port": identity.port,
-        "product_code": identity.product_code,
-        "same_address": remarks.same_address,
-        "same_serial": remarks.same_serial,
-        "serial": identity.serial,
-        "state": identity.state,
-        "status": identity.status,
-        "vendor": identity.vendor
-    })
+    put(members, alloc, "from", Value::from(from))?;
+    put(
+        members,
+        alloc,
+        "other_address",
+        Value::from(remarks.other_address),
+    )?;
+    put(
+        members,
+        alloc,
+        "same_address",
+        Value::from(remarks.same_address),
+    )?;
+    put(
+        members,
+        alloc,
+        "same_serial",
+        Value::from(remarks.same_serial),
+    )
 }

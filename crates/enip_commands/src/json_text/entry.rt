@@ -3,8 +3,8 @@
 ghost use Rattle.std.specs.Prelude.{◌≡◌, IfOk, string_bytes};
 ghost use Rattle.enip_client.specs.Identity.{identity_in};
 ghost use Rattle.enip_client.specs.Service.{service_in};
-ghost use Rattle.enip_commands.specs.Json.{identity_data, service_data, host_text};
-ghost use Rattle.serde_json.specs.View.{view};
+ghost use Rattle.enip_commands.specs.Json.{identity_data, identity_members, service_data, host_text};
+ghost use Rattle.serde_json.specs.View.{view, members_view};
 ghost use Rattle.serde_json.specs.Written.{compact_text};
 
 use crate::json_text::latin::latin_text;
@@ -26,6 +26,16 @@ pub fn identity_line(alloc: Global, identity: &IdentityView<'_>) -> Result<Strin
 /// The object of an identity.
 fn identity_object(alloc: Global, identity: &IdentityView<'_>) -> Result<Value, AllocError>
     ensures { IfOk result (λ object. view object ≡ identity_data (identity_in identity.now)) }
+{
+    Ok(Value::Object(identity_members(alloc, identity)?))
+}
+
+/// The members of the object of an identity.
+pub(crate) fn identity_members(
+    alloc: Global,
+    identity: &IdentityView<'_>,
+) -> Result<Map<String, Value>, AllocError>
+    ensures { IfOk result (λ members. members_view members.entries ≡ identity_members (identity_in identity.now)) }
 {
     let host = host_of(alloc, identity.address)?;
     let name = latin_text(alloc, identity.name)?;
@@ -51,7 +61,7 @@ fn identity_object(alloc: Global, identity: &IdentityView<'_>) -> Result<Value, 
     put(&mut members, alloc, "state", Value::from(identity.state))?;
     put(&mut members, alloc, "status", Value::from(identity.status))?;
     put(&mut members, alloc, "vendor", Value::from(identity.vendor))?;
-    Ok(Value::Object(members))
+    Ok(members)
 }
 
 /// An address in dotted decimal, without a port.
