@@ -56,8 +56,14 @@ impl ConnectionOptions {
         Ok(ConnectionOptions {
             connection_serial,
             originator_serial,
-            size: size.map_or(WANTS.o_to_t_size, u16_of),
-            rpi: rpi.map_or(WANTS.rpi, u32_of),
+            size: match size {
+                Some(size) => u16_of(size),
+                None => WANTS.o_to_t_size,
+            },
+            rpi: match rpi {
+                Some(rpi) => u32_of(rpi),
+                None => WANTS.rpi,
+            },
             multiplier: multiplier.and_then(|multiplier| u8::try_from(multiplier).ok()),
         })
     }
