@@ -6,16 +6,16 @@ mod command_line;
 mod commands;
 mod file;
 mod locked_file;
-mod program_table;
 mod round_file;
 mod seconds;
 mod shell_texts;
+mod tabulating;
 mod texts;
 
 pub use command_line::{OsArg, os_args};
 pub use commands::{PROGRAM, line_command, program};
 pub use file::{arguments_after, can_update, exists, option_file_name, read_file, reserve_streams};
 pub use locked_file::{LockedFile, resolved};
-pub use program_table::program_table;
 pub use round_file::{LastRound, RoundFile};
 pub use seconds::microseconds_of;
+pub use tabulating::program_table;
