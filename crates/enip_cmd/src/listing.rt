@@ -9,9 +9,7 @@ use crate::reason::{CLOCK, CommandError, Reason};
 use crate::request::reason_of_client;
 use crate::socket::{SocketSink, SocketSource};
 use enip_client::{ListCommand, Sent, write_list};
-use enip_commands::{
-    RequestFailure, list_over, objects_over, print_device_objects, print_devices,
-};
+use enip_commands::{RequestFailure, list_over, objects_over, print_device_objects, print_devices};
 use std::io::{ErrorKind, Write};
 use std::net::UdpSocket;
 use std::time::Instant;

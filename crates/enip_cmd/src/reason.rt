@@ -3,8 +3,8 @@
 use crate::fault::Fault;
 use crate::owner::OwnerNeed;
 use cip_bytes::StatusText;
-use cip_route::RouteFailure;
 use cip_layouts::FieldsFault;
+use cip_route::RouteFailure;
 use cip_values::{ValueFault, ValueType};
 use enip_client::ClientFault;
 use enip_commands::{

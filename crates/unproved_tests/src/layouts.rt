@@ -1,16 +1,33 @@
 //! The texts of layouts and of their errors, and layouts whose values are given in memory.
 
 use crate::texts::check_texts;
-use cip_layouts::{FieldFault, FieldsFault, FieldsText, Layout, LayoutFault, read_fields, write_fields};
+use cip_layouts::{
+    FieldFault, FieldsFault, FieldsText, Layout, LayoutFault, read_fields, write_fields,
+};
 use cip_values::ValueFault;
 use std::test::Fail;
 
 /// A layout, words, their bytes, and the printed text.
 static ROWS: [(&str, &[&str], &[u8], &str); 5] = [
     ("UINT", &["1"], &[1, 0], "1"),
-    ("UINT[2],BOOL", &["1", "513", "true"], &[1, 0, 1, 2, 1], "1 513 1"),
-    ("a:USINT,b:SHORT_STRING", &["7", "a b"], &[7, 3, 97, 32, 98], "7 \"a b\""),
-    ("x.1:INT[3]", &["-1", "0", "1"], &[255, 255, 0, 0, 1, 0], "-1 0 1"),
+    (
+        "UINT[2],BOOL",
+        &["1", "513", "true"],
+        &[1, 0, 1, 2, 1],
+        "1 513 1",
+    ),
+    (
+        "a:USINT,b:SHORT_STRING",
+        &["7", "a b"],
+        &[7, 3, 97, 32, 98],
+        "7 \"a b\"",
+    ),
+    (
+        "x.1:INT[3]",
+        &["-1", "0", "1"],
+        &[255, 255, 0, 0, 1, 0],
+        "-1 0 1",
+    ),
     ("STRING[2]", &["\"\"", "b"], &[0, 0, 1, 0, 98], "\"\" \"b\""),
 ];
 
@@ -70,10 +87,7 @@ fn texts_of_faults(rt: HostRuntime) -> Result<(), Fail> {
             ),
             (FieldsFault::Trailing(1), "1 byte is left over"),
             (FieldsFault::Trailing(2), "2 bytes are left over"),
-            (
-                FieldsFault::Count(2, 3),
-                "the layout takes 2 values, not 3",
-            ),
+            (FieldsFault::Count(2, 3), "the layout takes 2 values, not 3"),
             (FieldsFault::Memory, "memory"),
         ],
     )

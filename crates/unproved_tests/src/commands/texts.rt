@@ -128,10 +128,7 @@ fn of_requests_and_programs(rt: HostRuntime) -> Result<(), Fail> {
             RequestFailure::Shape(value_type, ValueFault::Short),
             "fault 6",
         ),
-        (
-            RequestFailure::Fields(FieldsFault::Trailing(1)),
-            "fault 6",
-        ),
+        (RequestFailure::Fields(FieldsFault::Trailing(1)), "fault 6"),
         (RequestFailure::Program(ProgramFault::Memory), "memory"),
     ];
     let programs = [
