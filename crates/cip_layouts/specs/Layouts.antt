@@ -1,6 +1,6 @@
 -- The text of a layout (ours): fields such as speed:UINT or USINT[4], with a comma between each two.
 use Rattle.std.specs.Prelude.{ℕ, ◌≡◌, ◌+◌, ◌-◌, ◌*◌, ◌==◌, ◌&&◌, ◌||◌, Bool, true, false, List, [], ◌∷◌, ◌++◌, length, map, take, slice_index, codes}
-use Rattle.std.specs.Prelude.{Option, Some, None, Result, Ok, Err, nat_lt, nat_le, option_map, if◌then◌else◌}
+use Rattle.std.specs.Prelude.{Option, Some, None, Result, Ok, Err, nat_lt, nat_le, is_some, option_map, if◌then◌else◌}
 use Rattle.std.specs.Borrow.{Bor}
 use Rattle.std.specs.List.{position_or_len, before_first, after_first, slice_split, list_all, list_any, find, flat_map}
 use Rattle.std.specs.Str.{bytes_eq}
@@ -167,6 +167,11 @@ doubles_by fields (Some name) = has_name fields name
 abbrev pub doubles : List Field → Field → Bool
 doubles fields field = doubles_by fields field.name
 
+-- The fields have names.
+abbrev pub has_names : List FieldInCode → Bool
+has_names [] = false
+has_names (field ∷ fields) = is_some field.name
+
 -- The fields with one more.
 unfoldable pub with_field : List Field → Field → Result (List Field) FieldFault
 with_field fields field =
@@ -222,3 +227,11 @@ count_text (Some count) = codes "[" ++ decimal count ++ codes "]"
 
 abbrev pub field_text : FieldInCode → List ℕ
 field_text field = name_text field.name ++ type_name field.element ++ count_text field.count
+
+-- A field behind a comma.
+abbrev pub other_text : FieldInCode → List ℕ
+other_text field = codes "," ++ field_text field
+
+abbrev pub layout_text : List FieldInCode → List ℕ
+layout_text [] = []
+layout_text (field ∷ fields) = field_text field ++ flat_map other_text fields

@@ -27,7 +27,7 @@ pub struct Layout {
 
 impl Layout {
     ghost use Rattle.cip_layouts.specs.Layouts.{fields_of, fields_in, field_in, layout_in, layout_seen, changed, with_texts, with_text};
-    ghost use Rattle.cip_layouts.specs.Layouts.{with_field, mixes, doubles, has_name, name_of};
+    ghost use Rattle.cip_layouts.specs.Layouts.{with_field, mixes, doubles, has_name, has_names, name_of};
 
     /// Parses a layout: fields with a comma between each two. A field is the name of a type, and for an array the number
     /// of its values in brackets. A name and a colon precede it, in all fields or in none.
@@ -55,11 +55,13 @@ impl Layout {
     }
 
     /// Whether the fields have names.
-    pub fn is_named(&self) -> bool {
-        match self.fields() {
-            [first, ..] => first.name.is_some(),
-            [] => false,
-        }
+    pub fn has_names(&self) -> bool
+        ensures { result ≡ has_names (fields_of self.now) }
+    {
+        let [first, ..] = self.fields() else {
+            return false;
+        };
+        first.name.is_some()
     }
 
     /// Adds the fields of a text.
@@ -142,12 +144,33 @@ impl Layout {
 }
 
 impl fmt::Display for Layout {
+    ghost use Rattle.std.specs.Prelude.{Some};
+    ghost use Rattle.cip_layouts.specs.Layouts.{fields_of, layout_text};
+
+    ghost output = { λ layout. Some (layout_text (fields_of layout)) };
+
     fn fmt<W: fmt::Write>(&self, f: &mut fmt::Formatter<W>) -> fmt::Result {
-        for (index, field) in self.fields().iter().enumerate() {
-            if index != 0 {
-                f.write_str(",")?;
-            }
-            write!(f, "{field}")?;
+        match self.fields() {
+            [first, others @ ..] => write!(f, "{first}{}", OtherFields(others)),
+            [] => Ok(()),
+        }
+    }
+}
+
+/// Fields, each behind a comma.
+#[derive(Clone, Copy)]
+struct OtherFields<'a>(&'a [Field]);
+
+impl fmt::Display for OtherFields<'_> {
+    ghost use Rattle.std.specs.Prelude.{Some};
+    ghost use Rattle.std.specs.List.{flat_map};
+    ghost use Rattle.cip_layouts.specs.Layouts.{other_text};
+
+    ghost output = { λ others. Some (flat_map other_text others.0.now) };
+
+    fn fmt<W: fmt::Write>(&self, f: &mut fmt::Formatter<W>) -> fmt::Result {
+        for field in self.0 {
+            write!(f, ",{field}")?;
         }
         Ok(())
     }

@@ -9,3 +9,4 @@ pub mod TurnLemmas
 pub mod HexLemmas
 pub mod InputLemmas
 pub mod AnswerLemmas
+pub mod LayoutJsonLemmas

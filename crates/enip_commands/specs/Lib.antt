@@ -14,3 +14,4 @@ pub mod Json
 pub mod CommandFiles
 pub mod Once
 pub mod Sessions
+pub mod LayoutJson
