@@ -42,7 +42,7 @@ integer_flat : (z : ℤ) → depth (integer z) ≡ 0
 integer_flat (pos n) = refl
 integer_flat (negsuc n) = refl
 
-told_flat : (value : Value) (d : Data) → IsJsonOf value d → depth d ≡ 0
+pub told_flat : (value : Value) (d : Data) → IsJsonOf value d → depth d ≡ 0
 told_flat (Truth truth) d h = ap depth h
 told_flat (Signed z) d h = ap depth h ∙ integer_flat z
 told_flat (Unsigned n) d h = ap depth h
@@ -62,7 +62,7 @@ each_flat [] (item d ds) h = absurd h
 each_flat (value ∷ values) no_items h = absurd h
 each_flat (value ∷ values) (item d ds) h = rw (told_flat value d h.0, each_flat values ds h.1) refl
 
-list_nests : (values : List Value) (d : Data) → AreJsonOf values d → depth d ≡ 1
+pub list_nests : (values : List Value) (d : Data) → AreJsonOf values d → depth d ≡ 1
 list_nests values null h = absurd h
 list_nests values (boolean b) h = absurd h
 list_nests values (number n) h = absurd h

@@ -130,7 +130,7 @@ put_nests k d (member l e ms) n p q =
 
 named_nests : (field : Field) (values : List Value) (before after : Members) → AddsMember field values before after → members_depth before ≤ 1
     → members_depth after ≤ 1
-named_nests field values before after (d, one, is) fits =
+named_nests field values before after (d, (one, is)) fits =
     subst (λ (ms : Members). members_depth ms ≤ 1) (sym is) (by field.name)
   where
     flat : depth d ≤ 1
@@ -143,7 +143,7 @@ named_nests field values before after (d, one, is) fits =
 members_nest : (fields : List Field) (values : List Value) (before after : Members) → AreMembersOf fields values before after
     → members_depth before ≤ 1 → members_depth after ≤ 1
 members_nest [] values before after h fits = subst (λ (ms : Members). members_depth ms ≤ 1) (sym h) fits
-members_nest (field ∷ fields) values before after (mid, one, others) fits =
+members_nest (field ∷ fields) values before after (mid, (one, others)) fits =
     members_nest fields (drop (count_of field) values) mid after others
     (named_nests field (take (count_of field) values) before mid one fits)
 
@@ -162,7 +162,7 @@ given_nests fields values d h = by (has_names fields) h
         omega (arith, n, size)
 
 pub fields_nest : (bytes : List ℕ) (layout : Layout) (values : List Value) (d : Data) → IsFieldsObject bytes layout values d → depth d ≤ 3
-fields_nest bytes layout values d (given, h, is) =
+fields_nest bytes layout values d (given, (h, is)) =
     let n = given_nests (fields_of layout) values given h in
     let size = ap depth is in
     omega (arith, n, size)
