@@ -1,6 +1,6 @@
 //! A TCP connection as a peer's wire that logs its frames.
 
-ghost use Rattle.std.specs.Prelude.{None};
+ghost use Rattle.std.specs.Prelude.{◌≡◌, None};
 
 use crate::frame_log::FrameLog;
 use crate::frame_summary::{AnswerStatus, RequestSummary};
@@ -196,7 +196,9 @@ impl<R: Eprint + Clock> LoggedWire<'_, R> {
     }
 
     /// Keeps the first cause of the end.
-    fn end_by(&mut self, cause: EndCause) {
+    fn end_by(&mut self, cause: EndCause)
+        ensures { self.new.wire.counts ≡ self.old.wire.counts }
+    {
         if self.end.is_none() {
             self.end = Some(cause);
         }
