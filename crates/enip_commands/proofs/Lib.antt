@@ -10,3 +10,4 @@ pub mod HexLemmas
 pub mod InputLemmas
 pub mod AnswerLemmas
 pub mod LayoutJsonLemmas
+pub mod StyleLemmas

@@ -35,6 +35,7 @@ pub const DIGITS: Style = Style {
 /// # Errors
 ///
 /// `Shape` or `Fields` if the data are not values of the type or of the layout. `Program` if the output failed or memory was refused.
+#[tactic(auto, using(crate::proofs::StyleLemmas::of_layout))]
 pub(crate) fn print_data<O: Write>(
     alloc: Global,
     output: &mut O,
@@ -62,6 +63,7 @@ pub(crate) fn print_data<O: Write>(
 /// # Errors
 ///
 /// `Shape` or `Fields` if the data are not values of the type or of the layout. `Program` if memory was refused.
+#[tactic(auto, using(crate::proofs::StyleLemmas::of_layout))]
 pub(crate) fn data_object(
     alloc: Global,
     style: Style,
