@@ -6,7 +6,6 @@ ghost use Rattle.enip_common.specs.Statuses.{exit_status};
 use crate::fault::Fault;
 use crate::owner::OwnerNeed;
 use cip_bytes::StatusText;
-use cip_layouts::FieldsFault;
 use cip_route::RouteFailure;
 use cip_values::{ValueFault, ValueType};
 use enip_client::ClientFault;
@@ -53,18 +52,16 @@ pub enum Reason<'a> {
     /// The argument is not hexadecimal.
     #[error("{0}: not hexadecimal (two digits per byte)")]
     Hex(&'a str),
-    /// The argument is not a value of the requested type.
-    #[error("{0}")]
-    Value(ValueFault<'a>),
-    /// The data of the reply are not values of the requested type.
-    #[error("the data are not of type {0}: {1}")]
-    Shape(ValueType, ValueFault<'static>),
-    /// The arguments are not the values of the requested layout.
-    #[error("{0}")]
-    Fields(FieldsFault<'a>),
-    /// The data of the reply are not the values of the requested layout.
-    #[error("the data are not of the layout: {0}")]
-    Layout(FieldsFault<'static>),
+    /// The argument is not a value of the requested type, or of the field of a layout with this number, from 1.
+    #[error("{}", NumberedFault(*.0, *.1))]
+    Value(usize, ValueFault<'a>),
+    /// A layout takes the first number of values, and there are this many arguments.
+    #[error("the layout takes {0} values, not {1}")]
+    Values(usize, usize),
+    /// The data of the reply are not values of the requested type. Without one they are not those of the requested layout,
+    /// at the field with this number, from 1, or after the last one.
+    #[error("{}", ShapeText(*.0, *.1, *.2))]
+    Shape(Option<ValueType>, usize, ValueFault<'static>),
     /// The device refused the session with this encapsulation status.
     #[error("the device refused the session (encapsulation status {0:#06x})")]
     Session(u32),
@@ -234,6 +231,34 @@ impl fmt::Display for SystemError {
             ErrorKind::TimedOut => f.write_str("no answer"),
             _ if self.0.raw_os_error() == Some(libc::EBADF) => f.write_str("is not open"),
             _ => write!(f, "{kind}"),
+        }
+    }
+}
+
+/// A fault of a value, with the number of its field. 0 is no field.
+#[derive(Clone, Copy)]
+struct NumberedFault<'a>(usize, ValueFault<'a>);
+
+impl fmt::Display for NumberedFault<'_> {
+    fn fmt<W: fmt::Write>(&self, f: &mut fmt::Formatter<W>) -> fmt::Result {
+        let (number, fault) = (self.0, self.1);
+        match number {
+            0 => write!(f, "{fault}"),
+            _ => write!(f, "field {number}: {fault}"),
+        }
+    }
+}
+
+/// What the data of a reply are not values of, and why.
+#[derive(Clone, Copy)]
+struct ShapeText(Option<ValueType>, usize, ValueFault<'static>);
+
+impl fmt::Display for ShapeText {
+    fn fmt<W: fmt::Write>(&self, f: &mut fmt::Formatter<W>) -> fmt::Result {
+        let fault = NumberedFault(self.1, self.2);
+        match self.0 {
+            Some(value_type) => write!(f, "the data are not of type {value_type}: {fault}"),
+            None => write!(f, "the data are not of the layout: {fault}"),
         }
     }
 }

@@ -228,16 +228,19 @@ fn is_set(service: Option<u8>) -> bool {
 fn error_of_value<'a>(fault: ValueFault<'a>) -> CommandError<'a> {
     match fault {
         ValueFault::Memory => CommandError::of_memory(),
-        fault => CommandError::new(Fault::Value, Reason::Value(fault)),
+        fault => CommandError::new(Fault::Value, Reason::Value(0, fault)),
     }
 }
 
 /// The error of arguments that are not the values of a layout.
 fn error_of_fields<'a>(fault: FieldsFault<'a>) -> CommandError<'a> {
-    match fault {
-        FieldsFault::Memory => CommandError::of_memory(),
-        fault => CommandError::new(Fault::Value, Reason::Fields(fault)),
-    }
+    let reason = match fault {
+        FieldsFault::Memory => return CommandError::of_memory(),
+        FieldsFault::Field(number, fault) => Reason::Value(number, fault),
+        FieldsFault::Trailing(size) => Reason::Value(0, ValueFault::Trailing(size)),
+        FieldsFault::Count(wanted, given) => Reason::Values(wanted, given),
+    };
+    CommandError::new(Fault::Value, reason)
 }
 
 /// Sends one request, and prints the reply. Returns the exit status.
@@ -431,12 +434,22 @@ pub(crate) fn error_of_failure<'a>(
         RequestFailure::Hex => Reason::Failed(address),
         RequestFailure::Session(status) => Reason::Session(status),
         RequestFailure::Client(fault) => reason_of_client(fault),
-        RequestFailure::Shape(value_type, fault) => Reason::Shape(value_type, fault),
-        RequestFailure::Fields(fault) => Reason::Layout(fault),
+        RequestFailure::Shape(value_type, fault) => Reason::Shape(Some(value_type), 0, fault),
+        RequestFailure::Fields(fault) => reason_of_fields(fault),
         RequestFailure::Program(enip_commands::ProgramFault::Memory) => Reason::Memory,
         RequestFailure::Program(_) => stream_reason.unwrap_or(Reason::Failed(address)),
     };
     CommandError::new(Fault::Request(failure), reason)
+}
+
+/// The reason for data of a reply that are not the values of a layout.
+fn reason_of_fields<'a>(fault: FieldsFault<'static>) -> Reason<'a> {
+    match fault {
+        FieldsFault::Field(number, fault) => Reason::Shape(None, number, fault),
+        FieldsFault::Trailing(size) => Reason::Shape(None, 0, ValueFault::Trailing(size)),
+        FieldsFault::Count(wanted, given) => Reason::Values(wanted, given),
+        FieldsFault::Memory => Reason::Memory,
+    }
 }
 
 /// The error of a failure in a session with a device. If a stream failed, its fault is the reason.
