@@ -16,8 +16,8 @@ use enip_adapter::Listen;
 use enip_cli::{OsArg, PROGRAM, arguments_after, os_args, program, reserve_streams};
 use enip_client::ListCommand;
 use enip_common::{
-    ARGUMENTS_REFUSED, ArgumentError, CommandError, ErrorKeeping, Fault, INPUT, NamedFile, OUTPUT,
-    Reason, error_of_run, is_input, print_argument_error,
+    ARGUMENTS_REFUSED, ArgumentError, CommandError, ErrorKeeping, Fault, INPUT, NamedFile,
+    NamedReason, OUTPUT, Reason, error_of_run, is_input, print_argument_error,
 };
 use enip_config::EXAMPLE;
 use enip_device::{print_kept_values, run_serve, warn_of_address};
@@ -144,7 +144,10 @@ fn run_show<'a>(rt: &HostRuntime) -> Result<u8, CommandError<'a>> {
         Some(Fault::Run(enip_commands::ProgramFault::Memory)) => Err(CommandError::of_memory()),
         Some(_) => {
             let reason = output.reason(OUTPUT).or(input.reason(INPUT));
-            Err(CommandError::of_reason(reason.unwrap_or(Reason::Failed(INPUT))))
+            Err(CommandError::of_reason(reason.unwrap_or(Reason::Named(
+                INPUT,
+                NamedReason::Failed,
+            ))))
         }
     }
 }

@@ -3,7 +3,7 @@
 ghost use Rattle.std.specs.Prelude.{◌≡◌};
 
 use crate::argument_error::{ArgumentError, parse_seconds};
-use crate::reason::{CLOCK, CommandError, Reason, SystemError};
+use crate::reason::{CLOCK, CommandError, NamedReason, Reason, SystemError};
 use clap::ArgMatches;
 use enip_client::{ListCommand, Sent, write_list};
 use std::io::{self, ErrorKind};
@@ -28,7 +28,7 @@ impl<'a> HostPort<'a> {
     pub fn parse(text: &'a str) -> Result<HostPort<'a>, CommandError<'a>> {
         match split_port(text) {
             Some((host, port)) if !host.is_empty() => Ok(HostPort { text, host, port }),
-            _ => Err(CommandError::of_reason(Reason::NotAnAddress(text))),
+            _ => Err(CommandError::of_reason(Reason::Named(text, NamedReason::NotAnAddress))),
         }
     }
 
@@ -51,7 +51,7 @@ impl<'a> HostPort<'a> {
         match (self.host, self.port).to_socket_addrs(rt) {
             Ok(addresses) => Ok(addresses),
             Err(error) if error.kind() == ErrorKind::OutOfMemory => Err(CommandError::of_memory()),
-            Err(_) => Err(CommandError::of_reason(Reason::NoHost(self.text))),
+            Err(_) => Err(CommandError::of_reason(Reason::Named(self.text, NamedReason::NoHost))),
         }
     }
 
@@ -60,12 +60,12 @@ impl<'a> HostPort<'a> {
         for address in self.addresses(rt)? {
             return Ok(address);
         }
-        Err(CommandError::of_reason(Reason::NoHost(self.text)))
+        Err(CommandError::of_reason(Reason::Named(self.text, NamedReason::NoHost)))
     }
 
     /// Listens at the first address of the host at which that is possible.
     pub fn bind(self, rt: &HostRuntime) -> Result<TcpListener, CommandError<'a>> {
-        let mut last = CommandError::of_reason(Reason::NoHost(self.text));
+        let mut last = CommandError::of_reason(Reason::Named(self.text, NamedReason::NoHost));
         for address in self.addresses(rt)? {
             match TcpListener::bind(rt, address) {
                 Ok(listener) => return Ok(listener),
@@ -83,7 +83,7 @@ impl<'a> HostPort<'a> {
     ) -> Result<TcpStream, CommandError<'a>> {
         let addresses = self.addresses(rt)?;
         let start = Instant::now(rt).map_err(|error| CommandError::of_system(CLOCK, error))?;
-        let mut last = Reason::NoHost(self.text);
+        let mut last = Reason::Named(self.text, NamedReason::NoHost);
         for address in addresses {
             match timeout.connect(rt, address, start) {
                 Ok(stream) => return Ok(stream),
@@ -118,7 +118,7 @@ impl<'a> HostPort<'a> {
                 self.text, error,
             ));
         }
-        Err(CommandError::of_reason(Reason::NoHost(self.text)))
+        Err(CommandError::of_reason(Reason::Named(self.text, NamedReason::NoHost)))
     }
 }
 

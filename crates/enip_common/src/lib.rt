@@ -28,7 +28,8 @@ pub use named_file::{NamedFile, error_of_run, is_input};
 pub use number_argument::{NumberArgument, path_of, service_of, u16_of, u32_of};
 pub use owner::{OwnerNeed, owner_need};
 pub use reason::{
-    CLOCK, CommandError, ConfigurationReason, Note, OwnedDigits, Reason, SystemError, print_reason,
+    CLOCK, CommandError, ConfigurationReason, NamedReason, Note, OwnedDigits, Reason, SystemError,
+    print_reason,
 };
 pub use retry::{read_some, write_some};
 pub use socket::{SocketSink, SocketSource, StreamFault};

@@ -5,7 +5,7 @@ ghost use Rattle.std.specs.Prelude.{◌≡◌};
 use crate::INPUT;
 use crate::fault::Fault;
 use crate::owner::owner_need;
-use crate::reason::{CommandError, ConfigurationReason, Reason};
+use crate::reason::{CommandError, ConfigurationReason, NamedReason, Reason};
 use clap::ArgMatches;
 use enip_adapter::Adapter;
 use enip_cli::{OsArg, read_file};
@@ -147,7 +147,7 @@ impl<'a> NamedFile<'a> {
             Ok(Some(explanation)) => {
                 Reason::Configuration(self.name, ConfigurationReason::Check(explanation))
             }
-            Ok(None) => Reason::Failed(self.name),
+            Ok(None) => Reason::Named(self.name, NamedReason::Failed),
             Err(_) => Reason::Memory,
         }
     }
@@ -168,7 +168,7 @@ pub fn error_of_run<'a>(
             Reason::Line(input_name, number, why)
         }
         Fault::Run(enip_commands::ProgramFault::Memory) => Reason::Memory,
-        _ => stream_reason.unwrap_or(Reason::Failed(input_name)),
+        _ => stream_reason.unwrap_or(Reason::Named(input_name, NamedReason::Failed)),
     };
     CommandError::new(fault, reason)
 }

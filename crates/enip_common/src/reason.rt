@@ -22,27 +22,18 @@ use thiserror::Error;
 /// Why a command fails, or why a device refused a request. The first field names the file, stream or address, if any.
 #[derive(Debug, Drop, Error)]
 pub enum Reason<'a> {
+    /// What is wrong with the file, the stream, the device or the address of this name.
+    #[error("{0}: {1}")]
+    Named(&'a str, NamedReason),
     /// The system reports an error of a file, a stream or an address.
     #[error("{0}: {1}")]
     System(&'a str, SystemError),
-    /// A file, a stream or an address failed, and the system did not say why.
-    #[error("{0}: failed")]
-    Failed(&'a str),
-    /// The argument is not an address.
-    #[error("{0}: not an address (expected HOST or HOST:PORT)")]
-    NotAnAddress(&'a str),
-    /// The name has no address.
-    #[error("{0}: no such host")]
-    NoHost(&'a str),
     /// The device at the address did not answer within so many seconds.
     #[error("{0}: no answer within {1} s")]
     TimedOut(&'a str, &'a str),
     /// The device at the address did not answer before the deadline of so many seconds.
     #[error("{0}: not done within {1} s (--deadline)")]
     DeadlineOver(&'a str, &'a str),
-    /// The device at the address closed the connection.
-    #[error("{0}: the device closed the connection before it replied")]
-    Disconnected(&'a str),
     /// The command refuses a configuration.
     #[error("{0}: {1}")]
     Configuration(&'a str, ConfigurationReason),
@@ -92,12 +83,6 @@ pub enum Reason<'a> {
     /// A line of a command file is refused.
     #[error("{0}, line {1}: {2}")]
     CommandFile(&'a str, u64, CommandFileFault),
-    /// Another process uses the command file.
-    #[error("{0}: another process uses it")]
-    InUse(&'a str),
-    /// The command file has no pending command.
-    #[error("{0}: no command is pending")]
-    NonePending(&'a str),
     /// The command file has this pending command, and the arguments have that one.
     #[error("{0}: another command is pending: {1}, not {2} (see --pending and --abandon)")]
     OtherPending(&'a str, OwnedDigits, OwnedDigits),
@@ -113,21 +98,6 @@ pub enum Reason<'a> {
     /// The ledger of the device refused the command.
     #[error("{0}: {1}")]
     Ledger(&'a str, LedgerRefusal),
-    /// The device has taken the command, and has not executed it yet.
-    #[error("{0}: the device has not executed the command yet")]
-    StillPending(&'a str),
-    /// The device does not know whether it executed the command.
-    #[error("{0}: the device does not know whether it executed the command, and its owner has to settle that")]
-    InDoubt(&'a str),
-    /// The name of the file is no text.
-    #[error("{0}: the name is not UTF-8")]
-    NotText(&'a str),
-    /// The file is no state, or is damaged.
-    #[error("{0}: not the state of a device, or damaged")]
-    NotAState(&'a str),
-    /// The state is that of another device.
-    #[error("{0}: the state of another device (vendor, product code or serial number)")]
-    OtherDevice(&'a str),
     /// The state lacks so many of the rounds that `FILE.round` counts.
     #[error("{0}: older than {0}.round says, by {1} rounds (see --accept-older)")]
     Older(&'a str, u64),
@@ -137,15 +107,53 @@ pub enum Reason<'a> {
     /// A kept value is not used, because the configuration does not describe it.
     #[error("{0}: {1} is not used: the configuration has none, or one of another size")]
     NotUsed(&'a str, EntryName),
-    /// A part of the command ledger is not used.
-    #[error("{0}: the command ledger starts empty, in a new life")]
-    NewLife(&'a str),
-    /// What has changed could not be kept.
-    #[error("{0}: could not be written, so the last requests were not answered")]
-    NotKept(&'a str),
     /// Memory was refused.
     #[error("out of memory")]
     Memory,
+}
+
+/// What is wrong with a file, a stream, a device or an address, in words that need nothing more.
+#[derive(Clone, Copy, Debug, Error)]
+pub enum NamedReason {
+    /// A file, a stream or an address failed, and the system did not say why.
+    #[error("failed")]
+    Failed,
+    /// The argument is not an address.
+    #[error("not an address (expected HOST or HOST:PORT)")]
+    NotAnAddress,
+    /// The name has no address.
+    #[error("no such host")]
+    NoHost,
+    /// The device at the address closed the connection.
+    #[error("the device closed the connection before it replied")]
+    Disconnected,
+    /// Another process uses the command file.
+    #[error("another process uses it")]
+    InUse,
+    /// The command file has no pending command.
+    #[error("no command is pending")]
+    NonePending,
+    /// The device has taken the command, and has not executed it yet.
+    #[error("the device has not executed the command yet")]
+    StillPending,
+    /// The device does not know whether it executed the command.
+    #[error("the device does not know whether it executed the command, and its owner has to settle that")]
+    InDoubt,
+    /// The name of the file is no text.
+    #[error("the name is not UTF-8")]
+    NotText,
+    /// The file is no state, or is damaged.
+    #[error("not the state of a device, or damaged")]
+    NotAState,
+    /// The state is that of another device.
+    #[error("the state of another device (vendor, product code or serial number)")]
+    OtherDevice,
+    /// A part of the command ledger is not used.
+    #[error("the command ledger starts empty, in a new life")]
+    NewLife,
+    /// What has changed could not be kept.
+    #[error("could not be written, so the last requests were not answered")]
+    NotKept,
 }
 
 /// Why a command refuses a configuration.

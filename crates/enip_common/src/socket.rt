@@ -3,7 +3,7 @@
 ghost use Rattle.std.specs.Prelude.{◌≡◌, ◌≤◌, None, IfOk, length};
 
 use crate::host_port::Timeout;
-use crate::reason::Reason;
+use crate::reason::{NamedReason, Reason};
 use crate::retry::{read_some, write_some};
 use enip_wire::{Failed, Sink, Source};
 use std::io::{self, ErrorKind};
@@ -26,7 +26,7 @@ impl StreamFault {
     /// The reason to print for a connection to an address, with the timeout that it had.
     pub fn reason<'a>(self, address: &'a str, timeout: Timeout<'a>) -> Reason<'a> {
         match self {
-            StreamFault::Ended => Reason::Disconnected(address),
+            StreamFault::Ended => Reason::Named(address, NamedReason::Disconnected),
             StreamFault::Failed(error) => timeout.reason(address, error),
             StreamFault::DeadlineOver => timeout.deadline_reason(address),
         }

@@ -7,7 +7,7 @@ ghost use Rattle.std.specs.Prelude.{◌≡◌, IfOk};
 
 use crate::file_identity::FileIdentity;
 use enip_cli::{LastRound, OsArg, RoundFile, can_update, option_file_name, resolved};
-use enip_common::{CommandError, Fault, Reason};
+use enip_common::{CommandError, Fault, NamedReason, Reason};
 use enip_keep::{KeepError, Keeper, Numbered, RoundNote};
 use enip_keep_sqlite::{Rows, make_file, open};
 use sqlite::{FileFrom, FileStore, Unknown};
@@ -116,13 +116,13 @@ impl<'a> KeptFile<'a> {
         let alloc = rt.alloc();
         let name = resolved(alloc, option_file_name(args, "--keep", self.name))?;
         let Ok(path) = str::from_utf8(&name) else {
-            return Err(CommandError::of_reason(Reason::NotText(self.name)));
+            return Err(CommandError::of_reason(Reason::Named(self.name, NamedReason::NotText)));
         };
         let exists = self.exists(&name)?;
         let file = self.lock(alloc, &name)?;
         let last = self.last_round(alloc, &file, exists)?;
         if exists && last > 0 && !has_header(rt, path) {
-            return Err(self.state_refused(Reason::NotAState(self.name)));
+            return Err(self.state_refused(Reason::Named(self.name, NamedReason::NotAState)));
         }
         if last == 0 || !exists {
             make_file(rt, path, Unknown).map_err(|error| self.refused(error))?;
@@ -199,7 +199,7 @@ impl<'a> KeptFile<'a> {
     fn lock(self, alloc: Global, bytes: &[u8]) -> Result<RoundFile, CommandError<'a>> {
         match RoundFile::try_lock(alloc, bytes) {
             Ok(Some(file)) => Ok(file),
-            Ok(None) => Err(CommandError::of_reason(Reason::InUse(self.name))),
+            Ok(None) => Err(CommandError::of_reason(Reason::Named(self.name, NamedReason::InUse))),
             Err(error) => Err(CommandError::of_system(self.name, error)),
         }
     }
@@ -243,7 +243,7 @@ impl<'a> KeptFile<'a> {
         let mut keeper = keeper;
         if !self.accepts_older {
             if !keeper.is_whole() {
-                return Err(self.state_refused(Reason::NotAState(self.name)));
+                return Err(self.state_refused(Reason::Named(self.name, NamedReason::NotAState)));
             }
             if keeper.round() < last {
                 return Err(self.lost(last - keeper.round()));
@@ -262,9 +262,12 @@ impl<'a> KeptFile<'a> {
     pub(crate) fn refused(self, error: KeepError) -> CommandError<'a> {
         match error {
             KeepError::Memory => CommandError::of_memory(),
-            KeepError::Refused => self.state_refused(Reason::OtherDevice(self.name)),
+            KeepError::Refused => self.state_refused(Reason::Named(
+                self.name,
+                NamedReason::OtherDevice,
+            )),
             KeepError::Storage | KeepError::Stopped | KeepError::Foreign => {
-                self.state_refused(Reason::NotAState(self.name))
+                self.state_refused(Reason::Named(self.name, NamedReason::NotAState))
             }
         }
     }
@@ -273,7 +276,7 @@ impl<'a> KeptFile<'a> {
     pub(crate) fn not_kept(self, error: KeepError) -> CommandError<'a> {
         match error {
             KeepError::Memory => CommandError::of_memory(),
-            _ => CommandError::of_reason(Reason::NotKept(self.name)),
+            _ => CommandError::of_reason(Reason::Named(self.name, NamedReason::NotKept)),
         }
     }
 

@@ -4,7 +4,7 @@ ghost use Rattle.std.specs.Prelude.{◌≡◌, IfOk};
 
 use crate::kept_file::KeptFile;
 use enip_commands::Digits;
-use enip_common::{CommandError, Reason, print_reason};
+use enip_common::{CommandError, NamedReason, Reason, print_reason};
 use enip_keep::{Entry, Keeper};
 use kept_adapter::{AdapterStart, EntryName};
 use std::alloc::Global;
@@ -54,7 +54,7 @@ impl KeptValues {
             print_reason(rt, &Reason::NotUsed(file.name(), name));
         }
         if has_lost {
-            print_reason(rt, &Reason::NewLife(file.name()));
+            print_reason(rt, &Reason::Named(file.name(), NamedReason::NewLife));
         }
     }
 

@@ -15,8 +15,8 @@ use clap::ArgMatches;
 use enip_adapter::{Adapter, Limits, Listen};
 use enip_cli::OsArg;
 use enip_common::{
-    ArgumentError, CLOCK, CommandError, ERRORS, HostPort, NamedFile, NumberArgument, OUTPUT,
-    Reason, print_argument_error, u16_of,
+    ArgumentError, CLOCK, CommandError, ERRORS, HostPort, NamedFile, NamedReason, NumberArgument,
+    OUTPUT, Reason, print_argument_error, u16_of,
 };
 use enip_config::Configuration;
 use enip_keep::{KeepError, Keeper, Server};
@@ -228,7 +228,7 @@ fn serve_error<'a>(
         (ServeFault::System(error), _) if error.kind() == io::ErrorKind::OutOfMemory => {
             CommandError::of_memory()
         }
-        _ => CommandError::of_reason(Reason::Failed(address.text())),
+        _ => CommandError::of_reason(Reason::Named(address.text(), NamedReason::Failed)),
     }
 }
 
@@ -262,7 +262,7 @@ fn adapter_start<'a>(
     let life = life_now(rt)?;
     match start_of(configuration, life, begins_life, idle_timeout) {
         Some(start) => Ok(start),
-        None => Err(CommandError::of_reason(Reason::Failed(config.name()))),
+        None => Err(CommandError::of_reason(Reason::Named(config.name(), NamedReason::Failed))),
     }
 }
 

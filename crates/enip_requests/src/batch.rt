@@ -12,8 +12,8 @@ use enip_commands::{
     read_lines, show_refusal, show_reply,
 };
 use enip_common::{
-    ArgumentError, CLOCK, CommandError, ErrorKeeping, HostPort, INPUT, OUTPUT, Reason, SocketSink,
-    SocketSource, Timeout, print_argument_error,
+    ArgumentError, CLOCK, CommandError, ErrorKeeping, HostPort, INPUT, NamedReason, OUTPUT, Reason,
+    SocketSink, SocketSource, Timeout, print_argument_error,
 };
 use std::fmt::Display;
 use std::io::Write;
@@ -172,7 +172,10 @@ impl<'a> Batch<'a, '_> {
                 Ok(self.report(number, &reason, outcome.exit_status()))
             }
             Err(RequestFailure::Program(ProgramFault::Memory)) => Err(CommandError::of_memory()),
-            Err(RequestFailure::Program(_)) => Err(CommandError::of_reason(Reason::Failed(OUTPUT))),
+            Err(RequestFailure::Program(_)) => Err(CommandError::of_reason(Reason::Named(
+                OUTPUT,
+                NamedReason::Failed,
+            ))),
             Err(failure) => {
                 let reason = error_of_failure(failure, device.address, None).into_reason();
                 Ok(self.report(number, &reason, NOT_USABLE))

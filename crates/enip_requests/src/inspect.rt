@@ -12,8 +12,8 @@ use enip_commands::{
     Style, interface_object, show_refusal, show_reply,
 };
 use enip_common::{
-    ArgumentError, CLOCK, CommandError, ErrorKeeping, HostPort, OUTPUT, Reason, SocketSink,
-    SocketSource, Timeout, print_argument_error,
+    ArgumentError, CLOCK, CommandError, ErrorKeeping, HostPort, NamedReason, OUTPUT, Reason,
+    SocketSink, SocketSource, Timeout, print_argument_error,
 };
 use std::alloc::{AllocError, Global};
 use std::io::Write;
@@ -111,7 +111,9 @@ impl<'a> Inspection<'a, '_> {
         match output.write_all(self.report.as_str().as_bytes()) {
             Ok(()) => Ok(0),
             Err(_) => {
-                let reason = output.reason(OUTPUT).unwrap_or(Reason::Failed(OUTPUT));
+                let reason = output
+                    .reason(OUTPUT)
+                    .unwrap_or(Reason::Named(OUTPUT, NamedReason::Failed));
                 Err(CommandError::of_reason(reason))
             }
         }

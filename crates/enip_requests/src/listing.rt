@@ -7,7 +7,8 @@ use crate::request::reason_of_client;
 use enip_client::ListCommand;
 use enip_commands::{RequestFailure, list_over, objects_over};
 use enip_common::{
-    CLOCK, CommandError, ErrorKeeping, Fault, HostPort, Reason, SocketSink, SocketSource, Timeout,
+    CLOCK, CommandError, ErrorKeeping, Fault, HostPort, NamedReason, Reason, SocketSink,
+    SocketSource, Timeout,
 };
 use std::io::{ErrorKind, Write};
 use std::net::{SocketAddr, UdpSocket};
@@ -50,7 +51,7 @@ pub(crate) fn run_list<'a>(
             let reason = output
                 .reason(OUTPUT)
                 .or(network)
-                .unwrap_or(Reason::Failed(address));
+                .unwrap_or(Reason::Named(address, NamedReason::Failed));
             Err(error_of_failure(failure, reason))
         }
     }
@@ -105,7 +106,10 @@ fn error_of_output<'a>(
 ) -> CommandError<'a> {
     match fault {
         enip_commands::ProgramFault::Memory => CommandError::of_memory(),
-        _ => CommandError::of_reason(stream_reason.unwrap_or(Reason::Failed(OUTPUT))),
+        _ => CommandError::of_reason(stream_reason.unwrap_or(Reason::Named(
+            OUTPUT,
+            NamedReason::Failed,
+        ))),
     }
 }
 

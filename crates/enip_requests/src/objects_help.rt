@@ -2,7 +2,7 @@
 
 use cip_names::{CLASS_ATTRIBUTES, CLASSES, COMMON_SERVICES, Name, attribute_names, service_names};
 use enip_cli::OsArg;
-use enip_common::{CommandError, ErrorKeeping, OUTPUT, Reason};
+use enip_common::{CommandError, ErrorKeeping, NamedReason, OUTPUT, Reason};
 use std::convert::AsStr;
 use std::io::{self, BufWriter, Write};
 
@@ -24,7 +24,9 @@ pub fn run_help_of_objects<'a>(rt: &HostRuntime) -> Result<u8, CommandError<'a>>
     match printed {
         Ok(()) => Ok(0),
         Err(_) => {
-            let reason = output.reason(OUTPUT).unwrap_or(Reason::Failed(OUTPUT));
+            let reason = output
+                .reason(OUTPUT)
+                .unwrap_or(Reason::Named(OUTPUT, NamedReason::Failed));
             Err(CommandError::of_reason(reason))
         }
     }

@@ -15,8 +15,8 @@ use enip_commands::{
     begin_once, check_once, exchange_with, read_commander, read_life, show_reply, write_commander,
 };
 use enip_common::{
-    ArgumentError, CLOCK, CommandError, ErrorKeeping, Fault, HostPort, Note, NumberArgument,
-    OwnedDigits, Reason, SocketSink, SocketSource, print_reason,
+    ArgumentError, CLOCK, CommandError, ErrorKeeping, Fault, HostPort, NamedReason, Note,
+    NumberArgument, OwnedDigits, Reason, SocketSink, SocketSource, print_reason,
 };
 use std::io::{self, ErrorKind};
 use std::random::RandomSource;
@@ -168,11 +168,11 @@ impl<'a> OnceRun<'a, '_> {
                 Ok(status)
             }
             CommandOutcome::StillPending => {
-                let reason = Reason::StillPending(self.device.address);
+                let reason = Reason::Named(self.device.address, NamedReason::StillPending);
                 Err(CommandError::of_reason(reason).with_note(self.unanswered()))
             }
             CommandOutcome::InDoubt => {
-                let reason = Reason::InDoubt(self.device.address);
+                let reason = Reason::Named(self.device.address, NamedReason::InDoubt);
                 Err(CommandError::of_reason(reason).with_note(self.unanswered()))
             }
             CommandOutcome::Refused(status) => Err(self.error_of_ledger(status)),
@@ -250,7 +250,7 @@ impl<'a> OnceRun<'a, '_> {
                 ended => return ended,
             }
         }
-        Err(CommandError::of_reason(Reason::Failed(self.device.address)))
+        Err(CommandError::of_reason(Reason::Named(self.device.address, NamedReason::Failed)))
     }
 
     /// Whether an error may pass before the deadline.
@@ -319,7 +319,9 @@ impl<'a> OnceRun<'a, '_> {
             }
             thread::sleep(self.rt, Duration::from_millis(LOCK_INTERVAL));
         }
-        Err(CommandError::of_reason(Reason::InUse(self.options.file)).with_note(Note::NotSent))
+        Err(CommandError::of_reason(Reason::Named(self.options.file, NamedReason::InUse)).with_note(
+            Note::NotSent,
+        ))
     }
 
     /// The commander in the command file. `None` if there is no file.
@@ -443,7 +445,7 @@ impl<'a> OnceRun<'a, '_> {
             OnceRefusal::OtherLife => {
                 Ok(Reason::OtherLife(file, self.digits_of_pending(commander)?))
             }
-            OnceRefusal::NonePending => Ok(Reason::NonePending(file)),
+            OnceRefusal::NonePending => Ok(Reason::Named(file, NamedReason::NonePending)),
             OnceRefusal::Command(CommandRefused::TooLong | CommandRefused::NotARequest) => {
                 Ok(Reason::Request)
             }

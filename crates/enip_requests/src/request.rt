@@ -18,8 +18,9 @@ use enip_commands::{
     TypedRequest, WANTS, exchange_with, show_refusal, show_reply,
 };
 use enip_common::{
-    ArgumentError, CLOCK, CommandError, ErrorKeeping, Fault, HostPort, Note, NumberArgument,
-    OUTPUT, Reason, SocketSink, SocketSource, Timeout, parse_shape, path_of, print_reason,
+    ArgumentError, CLOCK, CommandError, ErrorKeeping, Fault, HostPort, NamedReason, Note,
+    NumberArgument, OUTPUT, Reason, SocketSink, SocketSource, Timeout, parse_shape, path_of,
+    print_reason,
 };
 use std::alloc::Global;
 use std::rt::Clock;
@@ -431,13 +432,16 @@ pub(crate) fn error_of_failure<'a>(
     stream_reason: Option<Reason<'a>>,
 ) -> CommandError<'a> {
     let reason = match failure {
-        RequestFailure::Hex => Reason::Failed(address),
+        RequestFailure::Hex => Reason::Named(address, NamedReason::Failed),
         RequestFailure::Session(status) => Reason::Session(status),
         RequestFailure::Client(fault) => reason_of_client(fault),
         RequestFailure::Shape(value_type, fault) => Reason::Shape(Some(value_type), 0, fault),
         RequestFailure::Fields(fault) => reason_of_fields(fault),
         RequestFailure::Program(enip_commands::ProgramFault::Memory) => Reason::Memory,
-        RequestFailure::Program(_) => stream_reason.unwrap_or(Reason::Failed(address)),
+        RequestFailure::Program(_) => stream_reason.unwrap_or(Reason::Named(
+            address,
+            NamedReason::Failed,
+        )),
     };
     CommandError::new(Fault::Request(failure), reason)
 }

@@ -2,7 +2,7 @@
 
 use cip_route::Route;
 use clap::ArgMatches;
-use enip_common::{ArgumentError, CommandError, Reason};
+use enip_common::{ArgumentError, CommandError, NamedReason, Reason};
 
 /// The route that the arguments give, as text that was parsed once.
 #[derive(Clone, Copy)]
@@ -31,7 +31,7 @@ impl<'a> RouteOption<'a> {
         };
         match Route::parse(hops.as_bytes()) {
             Ok(route) => Ok(route),
-            Err(_) => Err(CommandError::of_reason(Reason::Failed(hops))),
+            Err(_) => Err(CommandError::of_reason(Reason::Named(hops, NamedReason::Failed))),
         }
     }
 }

@@ -7,9 +7,9 @@ use crate::watch_table::{JsonText, WatchTable};
 use clap::ArgMatches;
 use enip_commands::{DeviceSession, LONG_LIVED, Readings, RequestFailure, Style, show_reply};
 use enip_common::{
-    ARGUMENTS_REFUSED, ArgumentError, CLOCK, CommandError, ErrorKeeping, HostPort, NumberArgument,
-    OUTPUT, Reason, SocketSink, SocketSource, Timeout, parse_seconds, print_argument_error,
-    print_reason,
+    ARGUMENTS_REFUSED, ArgumentError, CLOCK, CommandError, ErrorKeeping, HostPort, NamedReason,
+    NumberArgument, OUTPUT, Reason, SocketSink, SocketSource, Timeout, parse_seconds,
+    print_argument_error, print_reason,
 };
 use std::io::{IsTerminal, Write};
 use std::rt::Clock;
@@ -270,7 +270,9 @@ impl<'a> Watch<'a, '_> {
         match output.write_all(text.as_bytes()) {
             Ok(()) => Ok(()),
             Err(_) => {
-                let reason = output.reason(OUTPUT).unwrap_or(Reason::Failed(OUTPUT));
+                let reason = output
+                    .reason(OUTPUT)
+                    .unwrap_or(Reason::Named(OUTPUT, NamedReason::Failed));
                 Err(SessionEnd::Fatal(CommandError::of_reason(reason)))
             }
         }
