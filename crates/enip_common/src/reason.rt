@@ -1,6 +1,6 @@
 //! Why a command fails, as text for people. It comes before the line that goes with the exit status.
 
-ghost use Rattle.std.specs.Prelude.{◌≡◌, Some};
+ghost use Rattle.std.specs.Prelude.{◌≡◌};
 ghost use Rattle.enip_common.specs.Statuses.{exit_status};
 
 use crate::fault::Fault;
@@ -295,10 +295,7 @@ pub struct CommandError<'a> {
 
 impl<'a> CommandError<'a> {
     /// An error with this fault and this reason.
-    pub fn new(fault: Fault, reason: Reason<'a>) -> CommandError<'a>
-        ensures fault { result.fault ≡ fault }
-        ensures reason { result.reason ≡ reason.entry }
-    {
+    pub fn new(fault: Fault, reason: Reason<'a>) -> CommandError<'a> {
         CommandError {
             fault,
             reason,
@@ -307,10 +304,7 @@ impl<'a> CommandError<'a> {
     }
 
     /// The same error, with what became of the command.
-    pub fn with_note(self, note: Note) -> CommandError<'a>
-        ensures fault { result.fault ≡ self.entry.fault }
-        ensures note { result.note ≡ Some note }
-    {
+    pub fn with_note(self, note: Note) -> CommandError<'a> {
         CommandError {
             note: Some(note),
             ..self
@@ -340,17 +334,12 @@ impl<'a> CommandError<'a> {
     }
 
     /// A file, a stream or a device failed for this reason.
-    pub fn of_reason(reason: Reason<'a>) -> CommandError<'a>
-        ensures status { exit_status result.fault ≡ 5 }
-        ensures reason { result.reason ≡ reason.entry }
-    {
+    pub fn of_reason(reason: Reason<'a>) -> CommandError<'a> {
         CommandError::new(Fault::Run(enip_commands::ProgramFault::Device), reason)
     }
 
     /// Memory was refused.
-    pub fn of_memory() -> CommandError<'a>
-        ensures { exit_status result.fault ≡ 5 }
-    {
+    pub fn of_memory() -> CommandError<'a> {
         CommandError::new(
             Fault::Run(enip_commands::ProgramFault::Memory),
             Reason::Memory,
