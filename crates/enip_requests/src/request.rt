@@ -175,9 +175,10 @@ impl<'a: 'm, 'm> Request<'a, 'm> {
                     path: self.path,
                     digits,
                 };
-                request
-                    .request(alloc)
-                    .map_err(|failure| self.error_of_digits(failure, digits))
+                match request.request(alloc) {
+                    Ok(request) => Ok(request),
+                    Err(failure) => Err(self.error_of_digits(failure, digits)),
+                }
             }
             RequestData::Values(value_type, words) => {
                 let request = TypedRequest {
