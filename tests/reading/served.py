@@ -47,9 +47,8 @@ class Served(Conversation):
         self.sockets = {}
         end = time.monotonic() + LONGEST
         with rows.Server(program, path, "--idle", "0") as server:
-            self.server, self.descriptors = server, server.descriptors()
-            if self.configuration["ledger"]:
-                self.take_life()
+            self.server = server
+            self.first_peer()
             for turn in range(TURNS):
                 if time.monotonic() > end:
                     break
@@ -58,18 +57,20 @@ class Served(Conversation):
                     return "turn %d: %s" % (turn + 1, different)
             return self.nothing_more()
 
-    def take_life(self):
-        """Reads the life of the ledger, which the device has from the clock. The first session is taken by that."""
+    def first_peer(self):
+        """A peer that takes the first session. It reads the life of the ledger, which the device has from the clock."""
         path = bytes([3, 0x20, LEDGER, 0x24, 1, 0x30, 3])
         with self.connection("127.3.0.1") as peer:
             peer.sendall(self.simple(0x65, 0, b"\1\0\0\0"))
             handle = int.from_bytes(rows.exactly(peer, 28)[4:8], "little")
-            request = bytes(6) + number(2, 2) + bytes(4) + number(2, 0xB2) + number(2, 8) + bytes([GET]) + path
-            peer.sendall(self.simple(0x6F, handle, request))
-            life = int.from_bytes(rows.exactly(peer, 24 + 16 + 4 + 8)[-8:], "little")
+            self.descriptors = self.server.descriptors() - 1
+            if self.configuration["ledger"]:
+                request = bytes(6) + number(2, 2) + bytes(4) + number(2, 0xB2) + number(2, 8) + bytes([GET]) + path
+                peer.sendall(self.simple(0x6F, handle, request))
+                life = int.from_bytes(rows.exactly(peer, 24 + 16 + 4 + 8)[-8:], "little")
+                self.configuration["ledger"]["life"] = self.adapter.device.ledger.life = life
         self.settle()
         self.adapter.next_handle += 1
-        self.configuration["ledger"]["life"] = self.adapter.device.ledger.life = life
 
     def simple(self, command, session, data):
         return number(2, command) + number(2, len(data)) + number(4, session) + bytes(16) + data
