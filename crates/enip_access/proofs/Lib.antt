@@ -1,0 +1,4 @@
+pub mod Addresses
+pub mod Blocks
+pub mod Slashes
+pub mod Texts
