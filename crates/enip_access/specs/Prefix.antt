@@ -54,6 +54,10 @@ number_in (a ∷ b ∷ c ∷ []) =
     if is_first_digit a && is_digit b && is_digit c then Some (100 * (a - 48) + 10 * (b - 48) + (c - 48)) else None
 number_in _ = None
 
+-- A text is read as a number exactly if it is what is printed of it.
+abbrev pub NumbersAreTexts : Type 0
+NumbersAreTexts = (text : List ℕ) (n : ℕ) → (number_in text ≡ Some n) ↔ ((n < 1000) × (text ≡ decimal n))
+
 -- The prefix of an address with the number after the slash.
 abbrev pub counted : IpAddr → Option ℕ → Result Prefix PrefixFault
 counted address None = Err fault.Length
