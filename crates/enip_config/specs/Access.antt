@@ -1,5 +1,5 @@
 -- The table `access` of a configuration.
-use Rattle.std.specs.Prelude.{◌≡◌, ℕ, List, Option, Some, None, option_map, codes, length, nat_le, if◌then◌else◌}
+use Rattle.std.specs.Prelude.{◌≡◌, ◌≤◌, IfSome, ℕ, List, Option, Some, None, option_map, codes, length, nat_le, if◌then◌else◌}
 use Rattle.std.specs.Result.{result_ok}
 use Rattle.toml.specs.Data.{Data, string, array, table, Members, get_member}
 use Rattle.enip_access.specs.Access.{list_seen}
@@ -63,6 +63,13 @@ shares_seen access = (access.per_address, access.connections_per_address)
 
 abbrev pub lists_seen : Access → Option (List Prefix) × Option (List Prefix)
 lists_seen access = (list_seen access.read, list_seen access.write)
+
+-- a share is in range, if there is one
+abbrev pub IsShare : ℕ → Option ℕ → Type 0
+IsShare greatest share = IfSome share (λ n. (1 ≤ n) × (n ≤ greatest))
+
+abbrev pub HasShares : Access → Type 0
+HasShares access = IsShare 16 access.per_address × IsShare 64 access.connections_per_address
 
 -- the fault is Access, and no list could be read
 abbrev pub IsBadList : {A : Type 0} → Option A → LoadFault → Type 0

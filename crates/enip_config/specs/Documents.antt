@@ -24,7 +24,7 @@ use Rattle.enip_config.specs.Keys.{counter_enabled}
 use Rattle.enip_config.specs.Objects.{objects_of, object_seen}
 use Rattle.enip_config.specs.ObjectTypes.{types_of, types_seen}
 use Rattle.enip_config.specs.Refusals.{fault_of_objects}
-use Rattle.enip_config.specs.Access.{shares_of, shares_seen, lists_of, lists_seen}
+use Rattle.enip_config.specs.Access.{shares_of, shares_seen, lists_of, lists_seen, HasShares}
 
 -- the number that a configuration has for a key
 abbrev pub number_in : Configuration → NumberKey → ℕ
@@ -137,3 +137,7 @@ pub record HasRanges (ledger : LedgerConfig) : Type 0 where
 
 abbrev pub IsLedgerInRange : Configuration → Type 0
 IsLedgerInRange c = IfSome c.ledger HasRanges
+
+-- the shares of the table `access` are in range, if there is one
+abbrev pub AreSharesInRange : Configuration → Type 0
+AreSharesInRange c = IfSome c.access HasShares

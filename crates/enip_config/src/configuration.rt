@@ -5,7 +5,7 @@ ghost use Rattle.std.specs.Prelude.{◌≡◌, IfOk, IfErr, None, Some, option_m
 ghost use Rattle.toml.specs.View.{table_view};
 ghost use Rattle.cip_objects.specs.Configuration.{fault_of};
 ghost use Rattle.enip_config.specs.Access.{lists_of, lists_seen, IsBadList};
-ghost use Rattle.enip_config.specs.Documents.{IsDescribed, IsFaultOf, IsInRange, IsLedgerInRange, IsUnread, HasValues};
+ghost use Rattle.enip_config.specs.Documents.{IsDescribed, IsFaultOf, IsInRange, IsLedgerInRange, AreSharesInRange, IsUnread, HasValues};
 
 use crate::access::{shares_of, with_lists};
 use crate::assemblies::assemblies_of;
@@ -76,6 +76,7 @@ impl Configuration {
         ensures read { IfOk result (IsDescribed bytes.now) }
         ensures in_range { IfOk result IsInRange }
         ensures ledger { IfOk result IsLedgerInRange }
+        ensures shares { IfOk result AreSharesInRange }
         ensures refused { IfErr result (IsFaultOf bytes.now) }
     {
         let table = match toml::table_from_slice(alloc, bytes) {
@@ -86,10 +87,10 @@ impl Configuration {
         if has_unknown_key(&table) {
             return Err(LoadFault::Refused(ConfigurationRefusal::UnknownKey));
         }
-        let configuration = Configuration::from_table(alloc, &table)?;
-        match configuration.objects.fault() {
+        let values = Configuration::from_table(alloc, &table)?;
+        match values.objects.fault() {
             Some(check) => Err(LoadFault::from(check)),
-            None => configuration.with_lists(&table),
+            None => Ok(values.with_lists(&table)?),
         }
     }
 

@@ -85,10 +85,7 @@ impl TableKind {
 fn is_access_key(name: &str) -> bool
     ensures { result ≡ is_among (keys_of TableKind.Access) name.now }
 {
-    name == "read"
-        || name == "write"
-        || name == "per_address"
-        || name == "connections_per_address"
+    name == "read" || name == "write" || name == "per_address" || name == "connections_per_address"
 }
 
 /// Whether a table `object.attribute` has a key of this name.
