@@ -47,6 +47,7 @@ configuration N, the first that applies:
   10   a class, an instance or a name of an object, or more than 32 objects
   11   a number, a type, a value or a range of an attribute, or too many bytes
   12   a number or a size of an object's service, or more than 16 services
+  13   `read` or `write` of `access` is not a list of addresses and prefixes
 
 fault N:
 
@@ -99,15 +100,21 @@ pub(crate) const SERVED_ADDRESS_DETAILS: &str = "\
 Address at which the device will be served. Standard error has a
 warning if discovery reports another address or port";
 
+pub(crate) const CLIENT_ADDRESS_DETAILS: &str = "\
+Also print what a client of this IPv4 or IPv6 address may do, by the
+table `access` of the configuration: read and write, read, or not
+connect";
+
 pub(crate) const EXAMPLES_CHECK: &str = "\
 Examples:
   enip check --example >device.toml
   enip check demo.toml
+  enip check demo.toml --from 10.0.0.5
   enip check demo.toml && enip serve demo.toml 127.0.0.1";
 
 pub(crate) const DETAILS_CHECK: &str = "\
 Prints the identity, the counter, each assembly with the sizes of its members,
-and the limits:
+the limits, and who may read and who may write if the configuration says so:
 
   vendor 4660
   device type 43
@@ -129,6 +136,7 @@ is, and `configuration N`. `enip --help` lists the meanings of N.
 Examples:
   enip check --example >device.toml
   enip check demo.toml
+  enip check demo.toml --from 10.0.0.5
   enip check demo.toml && enip serve demo.toml 127.0.0.1
 
 For exit statuses, see `enip --help`.";

@@ -283,6 +283,7 @@ fn start_of(
         first_handle,
         first_id,
         ledger,
+        access: _,
         attribute_types: _,
     } = configuration;
     objects

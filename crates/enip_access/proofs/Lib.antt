@@ -1,0 +1,5 @@
+pub mod Addresses
+pub mod Blocks
+pub mod Numbers
+pub mod Slashes
+pub mod Texts
