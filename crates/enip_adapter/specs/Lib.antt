@@ -1,4 +1,6 @@
 pub mod Lookup
+pub mod Rights
+pub mod Groups
 pub mod Replies
 pub mod RegisterSession
 pub mod UnRegisterSession

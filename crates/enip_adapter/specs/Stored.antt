@@ -1,5 +1,5 @@
 -- How the adapter's value is stored: each record as pairs of its fields, and rebuilt from them.
-use Rattle.std.specs.Prelude.{ℕ, List, Bool, Option, refl}
+use Rattle.std.specs.Prelude.{◌≡◌, ℕ, List, Bool, true, false, Option, refl}
 use Rattle.std.specs.Coded.{Coded, code_by, coded×, coded_ℕ, coded_bool, coded_list, coded_option}
 use Rattle.cip_message.specs.declared.key.Device.{Device as DeviceKey}
 use Rattle.cip_objects.specs.Contents.{Contents, contents_code, device_code}
@@ -11,19 +11,38 @@ use Rattle.cip_manager.specs.declared.connection.Triad.{Triad}
 use Rattle.cip_manager.specs.Manager.{ManagerState}
 use Rattle.cip_owner.specs.Owned.{OwnedState}
 use Rattle.cip_owner.specs.Replies.{Reply}
+use Rattle.enip_adapter.specs.declared.peer.Rights.{Rights}
+use Rattle.enip_adapter.specs.declared.peer.Rights.TheVariants.{Read, Write}
 use Rattle.enip_adapter.specs.declared.peer.Session.{Session}
 use Rattle.enip_adapter.specs.declared.shared.Listen.{Listen}
 use Rattle.enip_adapter.specs.declared.shared.Shared.{Shared}
 use Rattle.enip_adapter.specs.Calls.{AdapterState, Held}
 use Rattle.enip_adapter.specs.Turn.{State}
 
-abbrev pub session_from : ℕ × (Bool × Bool) → Session
-session_from (handle, (registered, closed)) = record { handle = handle; registered = registered; closed = closed }
+abbrev pub is_writer : Rights → Bool
+is_writer Write = true
+is_writer Read = false
+
+abbrev pub rights_from : Bool → Rights
+rights_from true = Write
+rights_from false = Read
+
+pub same_rights : (rights : Rights) → rights_from (is_writer rights) ≡ rights
+same_rights Write = refl
+same_rights Read = refl
+
+abbrev pub rights_code : Coded Rights
+rights_code = code_by Bool coded_bool is_writer rights_from same_rights
+
+abbrev pub session_from : ℕ × (Bool × (Bool × (Rights × Option ℕ))) → Session
+session_from (handle, (registered, (closed, (rights, group)))) =
+    record { handle = handle; registered = registered; closed = closed; rights = rights; group = group }
 
 abbrev pub session_code : Coded Session
 session_code =
-    code_by (ℕ × (Bool × Bool)) (coded× coded_ℕ (coded× coded_bool coded_bool))
-    (λ s. (s.handle, (s.registered, s.closed)))
+    code_by (ℕ × (Bool × (Bool × (Rights × Option ℕ))))
+    (coded× coded_ℕ (coded× coded_bool (coded× coded_bool (coded× rights_code (coded_option coded_ℕ)))))
+    (λ s. (s.handle, (s.registered, (s.closed, (s.rights, s.group)))))
     session_from (λ _. refl)
 
 abbrev pub kept_code : Coded KeptReply
@@ -122,15 +141,15 @@ served_code =
     (λ d. (d.ledger, d.router))
     (λ p. record { ledger = p.0; router = p.1 }) (λ _. refl)
 
-abbrev pub shared_from : Listen × (ℕ × (ManagerState × Device)) → Shared
-shared_from (listen, (moment, (manager, objects))) =
-    record { listen = listen; moment = moment; manager = manager; objects = objects }
+abbrev pub shared_from : Listen × (ℕ × (ℕ × (ManagerState × Device))) → Shared
+shared_from (listen, (share, (moment, (manager, objects)))) =
+    record { listen = listen; share = share; moment = moment; manager = manager; objects = objects }
 
 abbrev pub shared_code : Coded Shared
 shared_code =
-    code_by (Listen × (ℕ × (ManagerState × Device)))
-    (coded× listen_code (coded× coded_ℕ (coded× manager_code served_code)))
-    (λ s. (s.listen, (s.moment, (s.manager, s.objects))))
+    code_by (Listen × (ℕ × (ℕ × (ManagerState × Device))))
+    (coded× listen_code (coded× coded_ℕ (coded× coded_ℕ (coded× manager_code served_code))))
+    (λ s. (s.listen, (s.share, (s.moment, (s.manager, s.objects)))))
     shared_from (λ _. refl)
 
 abbrev pub state_from : ℕ × (ℕ × (Shared × List Session)) → State

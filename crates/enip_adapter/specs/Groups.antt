@@ -1,0 +1,21 @@
+-- Groups of peers, and the share that one group may hold (ours). A group is a number, such as an address.
+use Rattle.std.specs.Prelude.{ℕ, ◌==◌, nat_lt, Bool, true, false, Option, Some, None, List, count_by}
+use Rattle.enip_adapter.specs.declared.adapter.Shares.{Shares}
+use Rattle.enip_adapter.specs.declared.peer.Session.{Session}
+
+-- No group can hold more than this, so nothing is limited.
+abbrev pub no_shares : Shares
+no_shares = record { peers = 16; connections = 64 }
+
+abbrev pub is_group : ℕ → Option ℕ → Bool
+is_group group None = false
+is_group group (Some other) = other == group
+
+-- The number of peers of a group.
+abbrev pub peers_of_group : ℕ → List Session → ℕ
+peers_of_group group peers = count_by (λ (p : Session). is_group group p.group) peers
+
+-- Whether a group holds fewer peers than its share. A peer without a group counts for nobody.
+abbrev pub has_share : ℕ → List Session → Option ℕ → Bool
+has_share share peers None = true
+has_share share peers (Some group) = nat_lt (peers_of_group group peers) share
