@@ -478,7 +478,7 @@ steps-two s (event ∷ first) second =
     ∙ sym (append_assoc (steps_by_event s event) (device_steps (turn s event).state first)
     (device_steps (after (turn s event).state first) second))
 
-asks-two : (device : Device) (first second : List DeviceStep)
+pub asks-two : (device : Device) (first second : List DeviceStep)
     → asks_by_steps device (first ++ second) ≡ asks_by_steps device first ++ asks_by_steps (device_after device first) second
 asks-two device [] second = refl
 asks-two device (step ∷ first) second =

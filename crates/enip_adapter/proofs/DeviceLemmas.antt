@@ -155,7 +155,7 @@ after-requests device [] = refl
 after-requests device (request ∷ requests) =
     after-requests (exec_device device request.0 request.1).after requests
 
-step-ends : (s : State) (event : Event)
+pub step-ends : (s : State) (event : Event)
     → (turn s event).state.shared.objects ≡ device_after s.shared.objects (steps_by_event s event)
 step-ends s (Begin rights group) = begun-ends s rights group
 step-ends s (End peer) = ended-ends s peer (session_of s peer)

@@ -32,4 +32,7 @@ pub mod WrittenLemmas
 pub mod SettleLemmas
 pub mod RouteLemmas
 pub mod RightsLemmas
+pub mod ReadingLemmas
+pub mod ReaderLemmas
+pub mod ShareLemmas
 pub mod NothingAskedLemmas

@@ -42,8 +42,8 @@ use Rattle.enip_adapter.proofs.StreamLemmas.{frames-append, no-frames, same-runs
 use Rattle.enip_adapter.proofs.BeginLemmas.{each-begun}
 
 -- A peer with other rights and another group.
-abbrev pub as : Session → Rights → Option ℕ → Session
-as session rights group = record session { rights = rights; group = group }
+abbrev pub with_rights : Session → Rights → Option ℕ → Session
+with_rights session rights group = record session { rights = rights; group = group }
 
 -- What a frame does to its peer, apart from the answer, depends neither on what the peers share nor on the peer's rights
 -- and group.
@@ -57,7 +57,7 @@ two false x y v w p q = q
 
 alike-body : (s t : Shared) (session : Session) (rights : Rights) (group : Option ℕ) (f : Frame)
     (body : Result (List ℕ) CpfFault)
-    → IsAlike (reply_to_body s session f body) (reply_to_body t (as session rights group) f body)
+    → IsAlike (reply_to_body s session f body) (reply_to_body t (with_rights session rights group) f body)
 alike-body s t session rights group f (Err fault) = record { registered = refl; close = refl }
 alike-body s t session rights group f (Ok request) =
     two (ltb (length request) 2) _ _ _ _ (record { registered = refl; close = refl })
@@ -65,13 +65,13 @@ alike-body s t session rights group f (Ok request) =
 
 alike-item : (s t : Shared) (session : Session) (rights : Rights) (group : Option ℕ) (f : Frame)
     (body : Result (ℕ × List ℕ) CpfFault)
-    → IsAlike (item_of_body s session f body) (item_of_body t (as session rights group) f body)
+    → IsAlike (item_of_body s session f body) (item_of_body t (with_rights session rights group) f body)
 alike-item s t session rights group f (Err fault) = record { registered = refl; close = refl }
 alike-item s t session rights group f (Ok (id, item)) = record { registered = refl; close = refl }
 
 alike-by_command : (s t : Shared) (session : Session) (rights : Rights) (group : Option ℕ) (f : Frame)
     (command : Option Command)
-    → IsAlike (by_command s session f command) (by_command t (as session rights group) f command)
+    → IsAlike (by_command s session f command) (by_command t (with_rights session rights group) f command)
 alike-by_command s t session rights group f (Some SendRRData) =
     two (not (is_registered_as session f.header.session)) _ _ _ _ (record { registered = refl; close = refl })
     (alike-body s t session rights group f (rr_body_of f.body))
@@ -81,7 +81,7 @@ alike-by_command s t session rights group f (Some SendUnitData) =
 alike-by_command s t session rights group f other = record { registered = refl; close = refl }
 
 alike-command : (s t : Shared) (session : Session) (rights : Rights) (group : Option ℕ) (f : Frame)
-    → IsAlike (command_served s session f) (command_served t (as session rights group) f)
+    → IsAlike (command_served s session f) (command_served t (with_rights session rights group) f)
 unfolding command_served
 alike-command s t session rights group f =
     two (not (eqb f.header.options 0)) _ _ _ _ (record { registered = refl; close = refl })
@@ -93,10 +93,10 @@ abbrev pub step : Shared → Session → Frame → Session
 step shared session f = session_after session (command_served shared session f)
 
 step-as : (s t : Shared) (session : Session) (rights : Rights) (group : Option ℕ) (f : Frame)
-    → as (step s session f) rights group ≡ step t (as session rights group) f
+    → with_rights (step s session f) rights group ≡ step t (with_rights session rights group) f
 step-as s t session rights group f =
-    let new : Session = as session rights group in
-    let a : IsAlike (command_served s session f) (command_served t (as session rights group) f)
+    let new : Session = with_rights session rights group in
+    let a : IsAlike (command_served s session f) (command_served t (with_rights session rights group) f)
     = alike-command s t session rights group f in
     ap (λ r. let x : Session = record new { registered = r; closed = (command_served s session f).reaction.close } in x) a.registered
     ∙ ap (λ c. let x : Session = record new { registered = (command_served t new f).reaction.registered; closed = c } in x) a.close
@@ -119,7 +119,7 @@ steps-same s t session (f ∷ fs) = ap (λ x. steps s x fs) (step-same s t sessi
     ∙ steps-same s t (step t session f) fs
 
 pub steps-as : (shared : Shared) (session : Session) (rights : Rights) (group : Option ℕ) (fs : List Frame)
-    → as (steps shared session fs) rights group ≡ steps shared (as session rights group) fs
+    → with_rights (steps shared session fs) rights group ≡ steps shared (with_rights session rights group) fs
 steps-as shared session rights group [] = refl
 steps-as shared session rights group (f ∷ fs) =
     steps-as shared (step shared session f) rights group fs
@@ -132,7 +132,7 @@ closing session (WholeFrame f) = session
 closing session (TooLongHeader h) = record session { closed = true }
 
 pub closing-as : (session : Session) (rights : Rights) (group : Option ℕ) (x : Parsed)
-    → as (closing session x) rights group ≡ closing (as session rights group) x
+    → with_rights (closing session x) rights group ≡ closing (with_rights session rights group) x
 closing-as session rights group Incomplete = refl
 closing-as session rights group (WholeFrame f) = refl
 closing-as session rights group (TooLongHeader h) = refl
@@ -255,7 +255,7 @@ none-other peer other now piece held (Some session) differ =
 pub says-call : (base : Shared) (peer : ℕ) (session : Session) (a : AdapterState) (c : Call) → IsSound a → GoesOn peer c
     → Says base peer session [] a
     → Says base peer session (frames_of_peer peer (call_meaning a c).events) (after_call a c)
-says-call base peer session a (Begins_peer rights group) sound goes says = 
+says-call base peer session a (Begins_peer rights group) sound goes says =
     says-other base peer session a (Begins_peer rights group) tt says refl
 says-call base peer session a (Feeds now other piece) sound goes says = go (eqb other peer) refl
   where

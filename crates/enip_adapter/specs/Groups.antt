@@ -1,5 +1,5 @@
 -- Groups of peers, and the share that one group may hold (ours). A group is a number, such as an address.
-use Rattle.std.specs.Prelude.{ℕ, ◌==◌, nat_lt, Bool, true, false, Option, Some, None, List, count_by}
+use Rattle.std.specs.Prelude.{ℕ, ◌==◌, nat_lt, Bool, true, false, Option, Some, None, List, length, filter}
 use Rattle.enip_adapter.specs.declared.adapter.Shares.{Shares}
 use Rattle.enip_adapter.specs.declared.peer.Session.{Session}
 
@@ -11,9 +11,12 @@ abbrev pub is_group : ℕ → Option ℕ → Bool
 is_group group None = false
 is_group group (Some other) = other == group
 
+abbrev pub is_of_group : ℕ → Session → Bool
+is_of_group group peer = is_group group peer.group
+
 -- The number of peers of a group.
 abbrev pub peers_of_group : ℕ → List Session → ℕ
-peers_of_group group peers = count_by (λ (p : Session). is_group group p.group) peers
+peers_of_group group peers = length (filter (is_of_group group) peers)
 
 -- Whether a group holds fewer peers than its share. A peer without a group counts for nobody.
 abbrev pub has_share : ℕ → List Session → Option ℕ → Bool

@@ -29,3 +29,6 @@ pub mod DeviceRuns
 pub mod Asks
 pub mod Executing
 pub mod OwnerLaws
+pub mod RightsLaws
+pub mod ShareLaws
+pub mod RightsRows

@@ -17,6 +17,8 @@ ghost use Rattle.enip_adapter.specs.DeviceRuns.{device_law, run_law, objects_law
 ghost use Rattle.enip_adapter.specs.Discovery.{discovered};
 ghost use Rattle.enip_adapter.specs.OwnerLaws.{one_asked_law, asked_alike_law, repeat_law, given_law, unasked_law};
 ghost use Rattle.enip_adapter.specs.OwnerLaws.{answered_law, nobody_law, calls_law, asked_once_law};
+ghost use Rattle.enip_adapter.specs.RightsLaws.{unchanged_law, unasked_by_reading_law, readers_law, readers_ask_nothing_law};
+ghost use Rattle.enip_adapter.specs.ShareLaws.{peers_share_law, refused_begin_law, under_share_law, slot_for_each_share_law};
 ghost use Rattle.enip_adapter.specs.EndCauses.{endings_in_calls, IsReportedClosed, IsForwardClosed};
 ghost use Rattle.enip_adapter.specs.Endings.{EndingsState, updated};
 ghost use Rattle.enip_adapter.specs.Turn.{Event, Answer, answers, after, session_of};
@@ -230,4 +232,31 @@ pub fn owner_is_asked()
     ensures nobody { nobody_law }
     ensures calls { calls_law }
     ensures once { asked_once_law }
+{}
+
+/// A request that is not a change, by its service and class alone, leaves the device as it was: the objects, the command
+/// ledger and the reply that is prepared. It asks the owner of the device nothing.
+pub fn unchanged_by_reading()
+    ensures device { unchanged_law }
+    ensures owner { unasked_by_reading_law }
+{}
+
+/// Readers change nothing. Whatever calls are made, with any peers, frames and connections: the objects and the command
+/// ledger are those after the requests in the frames of writers that reach the device and the device's own writes, in
+/// their order, and the owner of the device is asked what these ask. No frame of a reader is among them, whatever it
+/// holds.
+pub fn readers_change_nothing()
+    ensures device { readers_law }
+    ensures owner { readers_ask_nothing_law }
+{}
+
+/// Groups keep to their shares. Whatever calls are made, no group has more peers than its share. A begin that is refused
+/// changes nothing, and one of a group under its share is not refused for its share. If the shares of some groups
+/// together are at most all peer slots, and each peer is of one of these groups, one of them that is under its share is
+/// not refused for want of a slot either: so with `shares.peers * n` slots, n groups always get in.
+pub fn groups_keep_to_their_share()
+    ensures peers { peers_share_law }
+    ensures refused { refused_begin_law }
+    ensures under { under_share_law }
+    ensures slot { slot_for_each_share_law }
 {}

@@ -13,8 +13,8 @@ ghost use Rattle.enip_adapter.specs.SendRRData.{send_rr_data, routed, route_of, 
 ghost use Rattle.enip_adapter.specs.Routes.{route_in, is_path_of_manager};
 
 use crate::peer::Session;
-use crate::rights::{is_refused, refuse_change};
 use crate::reply::{AnswerFrame, refuse, write_reply};
+use crate::rights::{is_refused, refuse_change};
 use crate::shared::Shared;
 use cip_bytes::protocol::{
     CONNECTION_MANAGER, EncapsulationStatus, ManagerService, UNCONNECTED_LIMIT,
