@@ -35,7 +35,7 @@ use Rattle.enip_adapter.specs.declared.shared.Shared.{Shared}
 use Rattle.enip_adapter.specs.Adapter.{shared_adapter}
 use Rattle.enip_adapter.specs.Commands.{by_command, command_served, long_refused}
 use Rattle.enip_adapter.specs.Replies.{Served, leaving, is_registered_as}
-use Rattle.enip_adapter.specs.SendRRData.{Route, route_of, routed_to, reply_to_body}
+use Rattle.enip_adapter.specs.SendRRData.{Route, route_of, opener_of, routed_to, reply_to_body}
 use Rattle.enip_adapter.specs.SendRRData.Route.{Opens, Closes, Executes}
 use Rattle.enip_adapter.specs.SendUnitData.{item_of_body}
 use Rattle.enip_adapter.specs.Turn.{State, TurnResult, turned, without_connections, begun, after, session_of, serve_found}
@@ -214,9 +214,9 @@ module _ (shared : Shared) (session : Session) (f : Frame) (c : Connection) (is 
       → (to : Route) → route_of request ≡ to → Explains (routed_to shared session request to).shared
   explains-routed command request body (Opens layout bytes) route =
       after_open (λ t. is_open_among c t.manager.connections ≡ false → Closing f session.handle c) layout
-      shared.manager shared.moment session.handle bytes (λ reply refused. explains-same)
+      shared.manager shared.moment (opener_of session) bytes (λ reply refused. explains-same)
       (λ asked check shut. absurd (false≢true (sym shut
-      ∙ open-append c (new_connection shared.manager.next_id shared.moment session.handle asked)
+      ∙ open-append c (new_connection shared.manager.next_id shared.moment (opener_of session) asked)
       shared.manager.connections (in-open is))))
   explains-routed command request body (Closes bytes) route = explains-closes command request body bytes route
   explains-routed command request body Executes route = explains-same

@@ -27,6 +27,7 @@ use Rattle.enip_adapter.specs.Commands.{command_served, long_refused}
 use Rattle.enip_adapter.specs.declared.no_reply_reason.NoReplyReason.TheVariants.{NoFrame}
 use Rattle.enip_adapter.specs.Rights.{after_for, answer_for}
 use Rattle.enip_adapter.specs.Replies.{Reply, Reply as replies, Served, leaving}
+use Rattle.enip_adapter.specs.SendRRData.{opener_of}
 use Rattle.enip_adapter.specs.Turn.{State, Event, Output, TurnResult, turn, begun, after, session_of, serve_found}
 use Rattle.enip_adapter.specs.Turn.{end_found, sent}
 use Rattle.enip_adapter.specs.Turn.Event.{Begin, End, At, Framed, Long, Written}
@@ -238,9 +239,9 @@ rises-command shared session f drawn =
     after_command (λ t. Rises m t.manager) shared session
     (record {
       same = rises-same m drawn;
-      opens = λ layout bytes. after_open (λ t. Rises m t.manager) layout m shared.moment session.handle bytes
+      opens = λ layout bytes. after_open (λ t. Rises m t.manager) layout m shared.moment (opener_of session) bytes
           (λ reply refused. rises-same m drawn)
-          (λ asked check. rises-opening m (new_connection m.next_id shared.moment session.handle asked) refl drawn);
+          (λ asked check. rises-opening m (new_connection m.next_id shared.moment (opener_of session) asked) refl drawn);
       closes = λ bytes. after_close (Rises m) m session.handle bytes (rises-same m drawn)
           (λ request e. rises-filter _ m drawn);
       executes = λ request. rises-same m drawn;

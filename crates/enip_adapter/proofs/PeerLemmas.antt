@@ -19,6 +19,7 @@ use Rattle.enip_adapter.specs.declared.shared.Shared.{Shared}
 use Rattle.enip_adapter.specs.Commands.{command_served, long_refused}
 use Rattle.enip_adapter.specs.Lookup.{first_with}
 use Rattle.enip_adapter.specs.Replies.{Served, leaving}
+use Rattle.enip_adapter.specs.SendRRData.{opener_of}
 use Rattle.enip_adapter.specs.Turn.{State, TurnResult, begun, after, session_of, serve_found, end_found, session_after}
 use Rattle.enip_adapter.specs.Turn.{shared_after, without_connections, at_moment}
 use Rattle.enip_adapter.specs.Calls.{AdapterState, Held, Call, Meaning, after_call, bytes_found, bytes_held}
@@ -58,7 +59,7 @@ leaves-command peer shared session f differ =
     (record {
       same = leaves-same peer shared;
       opens = λ layout bytes. record {
-        connections = leaves-manager peer shared session.rights (Opens layout shared.moment session.handle bytes) differ
+        connections = leaves-manager peer shared session.rights (Opens layout shared.moment (opener_of session) bytes) differ
             ∙ filter-true (connections_of peer shared);
         moment = refl;
       };

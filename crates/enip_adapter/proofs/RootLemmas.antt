@@ -24,6 +24,7 @@ use Rattle.enip_adapter.specs.Adapter.{shared_adapter}
 use Rattle.enip_adapter.specs.Commands.{command_served, long_refused}
 use Rattle.enip_adapter.specs.Lookup.{with_first}
 use Rattle.enip_adapter.specs.Replies.{Served, leaving}
+use Rattle.enip_adapter.specs.SendRRData.{opener_of}
 use Rattle.enip_adapter.specs.Turn.{State, Event, TurnResult, turn, begun, after, session_of, serve_found, end_found}
 use Rattle.enip_adapter.specs.Turn.{session_after, without_connections, with_peer, turned}
 use Rattle.enip_adapter.specs.Turn.Event.{Begin, End, At, Framed, Long, Written}
@@ -89,9 +90,9 @@ of-command R shared session f own all =
     (record {
       same = all;
       opens = λ layout bytes. after_open (λ t. AreOf R t.manager.connections) layout shared.manager shared.moment
-          session.handle bytes (λ reply refused. all)
+          (opener_of session) bytes (λ reply refused. all)
           (λ asked check. each-append (λ (c : Connection). R c.session) shared.manager.connections
-          (new_connection shared.manager.next_id shared.moment session.handle asked) all own);
+          (new_connection shared.manager.next_id shared.moment (opener_of session) asked) all own);
       closes = λ bytes. after_close (λ t. AreOf R t.connections) shared.manager session.handle bytes all
           (λ request e. each-filter (λ c. not (is_of_session_with session.handle (triad_of request) c))
           (λ (c : Connection). R c.session) (λ (c : Connection). R c.session) shared.manager.connections

@@ -7,6 +7,7 @@ use Rattle.std.proofs.lemmas.List.{length_push}
 use Rattle.std.proofs.lemmas.List.Elements.{All-head, All-filter, filter-append, filter_passes}
 use Rattle.std.proofs.lemmas.List.Filters.{length-filter_both}
 use Rattle.cip_ledger.specs.Device.{Device}
+use Rattle.cip_manager.specs.Connection.{is_group}
 use Rattle.cip_manager.proofs.ListLemmas.{filter-swap}
 use Rattle.enip_wire.specs.Frames.{Frame}
 use Rattle.enip_adapter.specs.declared.adapter.Full.{Full}
@@ -21,7 +22,7 @@ use Rattle.enip_adapter.specs.Adapter.{shared_adapter}
 use Rattle.enip_adapter.specs.Calls.{AdapterState, Call, call_answer, call_meaning, after_call, held_at_beginning}
 use Rattle.enip_adapter.specs.Calls.Call.{Begins_peer}
 use Rattle.enip_adapter.specs.Commands.{command_served, long_refused}
-use Rattle.enip_adapter.specs.Groups.{is_group, is_of_group, peers_of_group, has_share}
+use Rattle.enip_adapter.specs.Groups.{is_of_group, peers_of_group, has_share}
 use Rattle.enip_adapter.specs.Lookup.{first_with, with_first, without_first}
 use Rattle.enip_adapter.specs.Replies.{Served, leaving}
 use Rattle.enip_adapter.specs.Runs.{after_calls}

@@ -2,7 +2,7 @@
 use Rattle.std.specs.Prelude.{ℕ, List, [], ◌≡◌, map, false, Option, Some, None, Result, Ok}
 use Rattle.std.specs.Prelude.{Err, unwrap_or}
 use Rattle.std.specs.Borrow.{Bor}
-use Rattle.cip_manager.specs.Manager.{no_connection}
+use Rattle.cip_manager.specs.Manager.{no_connection_with_share}
 use Rattle.cip_ledger.specs.Device.{Device}
 use Rattle.enip_wire.specs.Frames.{IsComplete}
 use Rattle.enip_adapter.specs.declared.adapter.Full.{Full}
@@ -48,7 +48,7 @@ new_shared device listen limits shares = record {
   listen = listen;
   share = shares.peers;
   moment = 0;
-  manager = no_connection limits.connections limits.first_id device.router.objects.device;
+  manager = no_connection_with_share limits.connections shares.connections limits.first_id device.router.objects.device;
   objects = device;
 }
 

@@ -1,15 +1,12 @@
 -- Groups of peers, and the share that one group may hold (ours). A group is a number, such as an address.
-use Rattle.std.specs.Prelude.{ℕ, ◌==◌, nat_lt, Bool, true, false, Option, Some, None, List, length, filter}
+use Rattle.std.specs.Prelude.{ℕ, nat_lt, Bool, true, Option, Some, None, List, length, filter}
+use Rattle.cip_manager.specs.Connection.{is_group}
 use Rattle.enip_adapter.specs.declared.adapter.Shares.{Shares}
 use Rattle.enip_adapter.specs.declared.peer.Session.{Session}
 
 -- No group can hold more than this, so nothing is limited.
 abbrev pub no_shares : Shares
 no_shares = record { peers = 16; connections = 64 }
-
-abbrev pub is_group : ℕ → Option ℕ → Bool
-is_group group None = false
-is_group group (Some other) = other == group
 
 abbrev pub is_of_group : ℕ → Session → Bool
 is_of_group group peer = is_group group peer.group

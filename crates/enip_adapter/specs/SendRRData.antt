@@ -12,6 +12,7 @@ use Rattle.cip_message.specs.declared.request.RequestFault.{RequestFault}
 use Rattle.cip_message.specs.Open.{Layout, small, large}
 use Rattle.cip_message.specs.PathReading.{path_of}
 use Rattle.cip_message.specs.Request.{Request, request_of}
+use Rattle.cip_manager.specs.declared.connection.Opener.{Opener}
 use Rattle.cip_manager.specs.Manager.{Turn}
 use Rattle.cip_manager.specs.Opening.{open_turn_in}
 use Rattle.cip_manager.specs.Closing.{close_turn}
@@ -55,6 +56,10 @@ route_by_request (Ok request) = route_by_path request (path_of request.path)
 abbrev pub route_of : List ℕ → Route
 route_of request = route_by_request (request_of request)
 
+-- Who opens a connection: the session, and the group that its peer counts for.
+abbrev pub opener_of : Session → Opener
+opener_of session = record { session = session.handle; group = session.group }
+
 -- What a request leaves, and the reply to it.
 pub record Routed : Type 0 where
   pub shared : Shared
@@ -66,7 +71,7 @@ managed shared turn = record { shared = record shared { manager = turn.manager }
 
 abbrev pub routed_to : Shared → Session → List ℕ → Route → Routed
 routed_to shared session request (Opens layout bytes) =
-    managed shared (open_turn_in layout shared.manager shared.moment session.handle bytes)
+    managed shared (open_turn_in layout shared.manager shared.moment (opener_of session) bytes)
 routed_to shared session request (Closes bytes) = managed shared (close_turn shared.manager session.handle bytes)
 routed_to shared session request Executes = record {
   shared = record shared { objects = after_for session.rights shared.objects UNCONNECTED_LIMIT request };

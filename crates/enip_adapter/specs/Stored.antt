@@ -73,9 +73,10 @@ triad_code =
     (λ t. (t.connection_serial, (t.originator_vendor, t.originator_serial)))
     triad_from (λ _. refl)
 
-abbrev pub connection_from : ℕ × (ℕ × (ℕ × (Triad × (ℕ × (ℕ × TargetState))))) → Connection
-connection_from (session, (o_to_t_id, (t_to_o_id, (triad, (timeout, (deadline, target)))))) = record {
+abbrev pub connection_from : ℕ × (Option ℕ × (ℕ × (ℕ × (Triad × (ℕ × (ℕ × TargetState)))))) → Connection
+connection_from (session, (group, (o_to_t_id, (t_to_o_id, (triad, (timeout, (deadline, target))))))) = record {
   session = session;
+  group = group;
   o_to_t_id = o_to_t_id;
   t_to_o_id = t_to_o_id;
   triad = triad;
@@ -86,20 +87,21 @@ connection_from (session, (o_to_t_id, (t_to_o_id, (triad, (timeout, (deadline, t
 
 abbrev pub connection_code : Coded Connection
 connection_code =
-    code_by (ℕ × (ℕ × (ℕ × (Triad × (ℕ × (ℕ × TargetState))))))
-    (coded× coded_ℕ (coded× coded_ℕ (coded× coded_ℕ (coded× triad_code (coded× coded_ℕ (coded× coded_ℕ target_code))))))
-    (λ c. (c.session, (c.o_to_t_id, (c.t_to_o_id, (c.triad, (c.timeout, (c.deadline, c.target)))))))
+    code_by (ℕ × (Option ℕ × (ℕ × (ℕ × (Triad × (ℕ × (ℕ × TargetState)))))))
+    (coded× coded_ℕ (coded× (coded_option coded_ℕ) (coded× coded_ℕ (coded× coded_ℕ (coded× triad_code
+    (coded× coded_ℕ (coded× coded_ℕ target_code)))))))
+    (λ c. (c.session, (c.group, (c.o_to_t_id, (c.t_to_o_id, (c.triad, (c.timeout, (c.deadline, c.target))))))))
     connection_from (λ _. refl)
 
-abbrev pub manager_from : ℕ × (ℕ × (DeviceKey × List Connection)) → ManagerState
-manager_from (places, (next_id, (device, connections))) =
-    record { places = places; next_id = next_id; device = device; connections = connections }
+abbrev pub manager_from : ℕ × (ℕ × (ℕ × (DeviceKey × List Connection))) → ManagerState
+manager_from (places, (share, (next_id, (device, connections)))) =
+    record { places = places; share = share; next_id = next_id; device = device; connections = connections }
 
 abbrev pub manager_code : Coded ManagerState
 manager_code =
-    code_by (ℕ × (ℕ × (DeviceKey × List Connection)))
-    (coded× coded_ℕ (coded× coded_ℕ (coded× device_code (coded_list connection_code))))
-    (λ m. (m.places, (m.next_id, (m.device, m.connections))))
+    code_by (ℕ × (ℕ × (ℕ × (DeviceKey × List Connection))))
+    (coded× coded_ℕ (coded× coded_ℕ (coded× coded_ℕ (coded× device_code (coded_list connection_code)))))
+    (λ m. (m.places, (m.share, (m.next_id, (m.device, m.connections)))))
     manager_from (λ _. refl)
 
 abbrev pub listen_code : Coded Listen

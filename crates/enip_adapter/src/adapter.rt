@@ -277,7 +277,13 @@ impl Adapter {
     {
         let places = PeerSlots::new(alloc, limits.peers)?;
         let key = device.router.objects.device();
-        let manager = Manager::new(alloc, limits.connections, limits.first_id, key)?;
+        let manager = Manager::with_share(
+            alloc,
+            limits.connections,
+            shares.connections,
+            limits.first_id,
+            key,
+        )?;
         Ok(Adapter {
             next_handle: u64::from(limits.first_handle),
             shared: Shared {

@@ -9,7 +9,7 @@ ghost use Rattle.enip_wire.specs.Stream.{frame_of};
 ghost use Rattle.enip_adapter.specs.Replies.{reply};
 ghost use Rattle.enip_adapter.specs.Replies.Reply.{Sends};
 ghost use Rattle.enip_adapter.specs.Rights.{after_for, answer_for};
-ghost use Rattle.enip_adapter.specs.SendRRData.{send_rr_data, routed, route_of, is_manager};
+ghost use Rattle.enip_adapter.specs.SendRRData.{send_rr_data, routed, route_of, opener_of, is_manager};
 ghost use Rattle.enip_adapter.specs.Routes.{route_in, is_path_of_manager};
 
 use crate::peer::Session;
@@ -19,6 +19,7 @@ use crate::shared::Shared;
 use cip_bytes::protocol::{
     CONNECTION_MANAGER, EncapsulationStatus, ManagerService, UNCONNECTED_LIMIT,
 };
+use cip_manager::Opener;
 use cip_message::{Path, RequestView, read_path};
 use cip_objects::{ReplyBuf, Router};
 use enip_wire::{FrameView, Header, rr_body, rr_body_head};
@@ -112,17 +113,27 @@ fn dispatch(shared: &mut Shared, session: Session, request: &[u8], reply: &mut R
         Route::Manager(ManagerService::ForwardOpen, data) => {
             shared
                 .manager
-                .open(shared.moment, session.handle, data, reply);
+                .open_for(shared.moment, opener_of(session), data, reply);
         }
         Route::Manager(ManagerService::LargeForwardOpen, data) => {
             shared
                 .manager
-                .open_large(shared.moment, session.handle, data, reply);
+                .open_large_for(shared.moment, opener_of(session), data, reply);
         }
         Route::Manager(ManagerService::ForwardClose, data) => {
             shared.manager.close(session.handle, data, reply);
         }
         Route::Objects => execute_for(shared, session, request, reply),
+    }
+}
+
+/// Who opens a connection: the session, and the group that its peer counts for.
+fn opener_of(session: Session) -> Opener
+    ensures { result ≡ opener_of session }
+{
+    Opener {
+        session: session.handle,
+        group: session.group,
     }
 }
 
