@@ -30,6 +30,25 @@ longer_is (Some first) (Some other) s is = by (ltb other.since first.since) is
     by true is = inr is
     by false is = inl is
 
+-- it is a later slot
+in_later : (rest : Option Silent) (s : Silent) → option_map one_further rest ≡ Some s
+    → (t : Silent) × (rest ≡ Some t) × (s.slot ≡ suc t.slot)
+in_later None s is = cc
+in_later (Some t) s is =
+    let same : one_further t ≡ s = cc in (t, refl, sym (ap (λ (u : Silent). u.slot) same))
+
+-- a peer with a session may not give way
+with_session : (registered : Option Bool) (others : Bool) → registered ≡ Some true
+    → is_without_session registered && others ≡ false
+with_session None others is = cc
+with_session (Some true) others is = refl
+with_session (Some false) others is = cc
+
+-- and one from which a byte arrived less than 10 seconds ago may not either
+heard_lately : (without : Bool) (silent : ℕ) → silent < 10000000 → without && not (ltb silent 10000000) ≡ false
+heard_lately false silent less = refl
+heard_lately true silent less = ap not (lt-ltb silent 10000000 less)
+
 module _ {W : Type 0} (a : AdapterState) (now : ℕ) where
   -- it is the first slot, and its peer may give way
   in_first : (slot : Option (PeerIo W)) (s : Silent) → silent_in a now slot ≡ Some s → (io : PeerIo W) → slot ≡ Some io
@@ -50,32 +69,26 @@ module _ {W : Type 0} (a : AdapterState) (now : ℕ) where
   at_first None s is = cc
   at_first (Some found) s is = (in_first (Some found) s is found refl).0
 
-  -- it is a later slot
-  in_later : (rest : Option Silent) (s : Silent) → option_map one_further rest ≡ Some s
-      → (t : Silent) × (rest ≡ Some t) × (s.slot ≡ suc t.slot)
-  in_later None s is = cc
-  in_later (Some t) s is =
-      let same : one_further t ≡ s = cc in (t, refl, sym (ap (λ (u : Silent). u.slot) same))
-
   -- the peer in the slot that is found may give way
   pub found_may : (slots : List (Option (PeerIo W))) (s : Silent) → longest_silent a now slots ≡ Some s → (io : PeerIo W)
       → slice_get slots s.slot ≡ Some (Some io) → may_give_way a now io ≡ true
   found_may [] s is io there = cc
   found_may (slot ∷ slots) s is io there =
-      by (longer_is (silent_in a now slot) (option_map one_further (longest_silent a now slots)) s is)
+      of_one (found_may slots) (longer_is (silent_in a now slot) (option_map one_further (longest_silent a now slots)) s is)
     where
-      by : (silent_in a now slot ≡ Some s) ⊎ (option_map one_further (longest_silent a now slots) ≡ Some s)
+      of_one : ((t : Silent) → longest_silent a now slots ≡ Some t → (l : PeerIo W)
+          → slice_get slots t.slot ≡ Some (Some l) → may_give_way a now l ≡ true)
+          → (silent_in a now slot ≡ Some s) ⊎ (option_map one_further (longest_silent a now slots) ≡ Some s)
           → may_give_way a now io ≡ true
-      by (inl first) =
+      of_one others (inl first) =
           let zeroth : slice_get (slot ∷ slots) zero ≡ Some (Some io)
           = subst (λ n. slice_get (slot ∷ slots) n ≡ Some (Some io)) (at_first slot s first) there in
           let same : slot ≡ Some io = cc in
           (in_first slot s first io same).1
-      by (inr later) =
+      of_one others (inr later) =
           let t : (t : Silent) × (longest_silent a now slots ≡ Some t) × (s.slot ≡ suc t.slot)
           = in_later (longest_silent a now slots) s later in
-          found_may slots t.0 t.1 io
-          (subst (λ n. slice_get (slot ∷ slots) n ≡ Some (Some io)) t.2 there)
+          others t.0 t.1 io (subst (λ n. slice_get (slot ∷ slots) n ≡ Some (Some io)) t.2 there)
 
 module _ {W : Type 0} where
   gives_way_may : (p : ServerState W) (now : ℕ) (group : Option ℕ) (s : Silent) → gives_way p now group ≡ Some s
@@ -181,18 +194,6 @@ module _ {W : Type 0} where
       (ends ++ begins.0, begins.1 ∙ ap (λ a. after_calls a begins.0) (freed_leads old at (slice_get old.slots at))
           ∙ sym (after_calls-append old.adapter ends begins.0))
   added_leads old new now wire rights group (Err full) result is = ([], ap (λ (q : ServerState W). q.adapter) is.1)
-
-  -- a peer with a session may not give way
-  with_session : (registered : Option Bool) (others : Bool) → registered ≡ Some true
-      → is_without_session registered && others ≡ false
-  with_session None others is = cc
-  with_session (Some true) others is = refl
-  with_session (Some false) others is = cc
-
-  -- and one from which a byte arrived less than 10 seconds ago may not either
-  heard_lately : (without : Bool) (silent : ℕ) → silent < 10000000 → without && not (ltb silent 10000000) ≡ false
-  heard_lately false silent less = refl
-  heard_lately true silent less = ap not (lt-ltb silent 10000000 less)
 
   -- as the law states it
   pub law_session : (now : ℕ) (wire : W) (rights : Rights) (group : Option ℕ) (old new : ServerState W)

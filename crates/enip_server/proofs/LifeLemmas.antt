@@ -73,7 +73,7 @@ module _ {W : Type 0} where
       cc
 
   -- the call that frees a slot
-  pub ends_before : (p : ServerState W) (slot : ℕ) → Option (Option (PeerIo W)) → List Call
+  abbrev pub ends_before : (p : ServerState W) (slot : ℕ) → Option (Option (PeerIo W)) → List Call
   ends_before p slot None = []
   ends_before p slot (Some None) = []
   ends_before p slot (Some (Some io)) = Ends_peer io.peer ∷ []
