@@ -35,4 +35,5 @@ pub mod RightsLemmas
 pub mod ReadingLemmas
 pub mod ReaderLemmas
 pub mod ShareLemmas
+pub mod ConnectionShareLemmas
 pub mod NothingAskedLemmas

@@ -1,9 +1,12 @@
 -- A request that is not a change leaves the device as it was, and asks the owner nothing.
 use Rattle.std.proofs.Common.{◌≡◌, ℕ, ◌*◌, ◌⊎◌, inl, inr, List, [], ◌∷◌, ◌++◌, map, length, Bool, true, false, cond, not, ◌&&◌, ◌||◌, eqb, nat_lt, Option, Some, None, Result, Ok, Err, unwrap_or, refl, sym, ap, subst, ◌∙◌}
 use Rattle.std.proofs.lemmas.Bool.{eqb-true, eq-eqb, false≢true}
-use Rattle.std.specs.List.{flat_map}
+use Rattle.std.specs.Prelude.{⊤}
+use Rattle.std.specs.List.{flat_map, list_any, AllByRecursion}
+use Rattle.std.specs.Option.{ok_or, option_map}
 use Rattle.cip_application.specs.Configuration.{is_taken_class}
 use Rattle.cip_bytes.specs.Reading.{◌>>=◌}
+use Rattle.cip_bytes.specs.declared.protocol.TheConstants.{IDENTITY, ASSEMBLY, CONNECTION_MANAGER}
 use Rattle.cip_ledger.specs.Device.{Device, exec_device}
 use Rattle.cip_ledger.specs.Reaching.{listed}
 use Rattle.cip_ledger.specs.Requests.{LedgerRequest, Command, ledger_request}
@@ -18,22 +21,21 @@ use Rattle.cip_message.specs.declared.request.RequestFault.{RequestFault}
 use Rattle.cip_message.specs.declared.request.RequestFault.TheVariants.{PathSize}
 use Rattle.cip_message.specs.PathReading.{path_of}
 use Rattle.cip_message.specs.Request.{Request, request_of}
-use Rattle.cip_objects.specs.declared.service.Service.{Service}
-use Rattle.cip_objects.specs.declared.service.Service.TheVariants.{GetAttributesAll, GetAttributeList}
-use Rattle.cip_objects.specs.declared.service.Service.TheVariants.{GetAttributeSingle, SetAttributeSingle, GetMember}
-use Rattle.cip_objects.specs.declared.service.Service.TheVariants.{SetMember, Add, Clear}
 use Rattle.cip_objects.specs.declared.status.Refusal.{Refusal}
 use Rattle.cip_objects.specs.Contents.{Contents}
 use Rattle.cip_objects.specs.Execution.{Outcome, Executed, outcome, perform, with_reply, or_refusal, exec}
 use Rattle.cip_objects.specs.ExecutionLaws.{is_outcome}
 use Rattle.cip_objects.specs.OwnRequests.{Asked, own_request, is_own_service}
-use Rattle.cip_objects.specs.Service.{service_code}
 use Rattle.cip_objects.proofs.Approved.{taken_not_asked}
-use Rattle.cip_objects.proofs.Effects.{goes, chosen_code, read_effect}
+use Rattle.cip_objects.specs.ReadServices.{service_at}
+use Rattle.cip_objects.specs.Service.{service_code, service_in}
+use Rattle.cip_objects.specs.Tables.{Shapes, is_counter_class, class_or_first, object_services, assembly_services, services_of, shape_at, object_at}
+use Rattle.cip_objects.proofs.Effects.{bound, found_some, goes, chosen_code, read_effect}
 use Rattle.cip_objects.proofs.OwnRequests.{unread_request, unread_path, other_request}
 use Rattle.cip_owner.specs.Owned.{OwnedState, asks, asked_within, by_owner, exec_owned}
 use Rattle.enip_adapter.specs.Asks.{asks_by_reached, asks_by_step}
 use Rattle.enip_adapter.specs.DeviceRuns.{DeviceStep, Requested, objects_after, objects_answer}
+use Rattle.enip_adapter.proofs.ListLemmas.{both}
 use Rattle.enip_adapter.specs.Rights.{service_of, is_change_service, is_path_to_ledger, is_to_ledger, is_get_last, is_change}
 
 -- A request that is not a change has another service, or is Get_Last to the command ledger.
@@ -110,16 +112,100 @@ own-none m text reading = by-request (request_of text) refl
 
 -- ---- the objects
 
-performed : (m : Contents) (text content : List ℕ) (path : Path) (s : Service) (o : Outcome) → Reads text
-    → service_code s ≡ service_of text → perform m s path content ≡ Ok o → o.after ≡ m
-performed m text content path GetAttributesAll o r code e = read_effect m _ o e
-performed m text content path GetAttributeList o r code e = read_effect m _ o e
-performed m text content path GetAttributeSingle o r code e = read_effect m _ o e
-performed m text content path GetMember o r code e = read_effect m _ o e
-performed m text content path SetAttributeSingle o r code e = absurd (not-service text 0x10 r refl refl (sym code))
-performed m text content path SetMember o r code e = absurd (not-service text 0x19 r refl refl (sym code))
-performed m text content path Add o r code e = absurd (not-service text 0x32 r refl refl (sym code))
-performed m text content path Clear o r code e = absurd (not-service text 0x33 r refl refl (sym code))
+-- The type of what a function takes. The objects' services have no name outside of their crate.
+abbrev Taken : {A B : Type 0} → (A → B) → Type 0
+Taken {A} f = A
+
+abbrev Service : Type 0
+Service = Taken service_code
+
+-- The services of the objects that change something.
+abbrev changes : ℕ → Bool
+changes n = eqb n 0x10 || eqb n 0x19 || eqb n 0x32 || eqb n 0x33
+
+-- The service leaves the objects as they are, unless it is one of these.
+abbrev Stays : Service → Type 0
+Stays s =
+    changes (service_code s) ≡ false → (m : Contents) (path : Path) (content : List ℕ) (o : Outcome)
+    → perform m s path content ≡ Ok o → o.after ≡ m
+
+abbrev AllStay : Option (List Service) → Type 0
+AllStay None = ⊤
+AllStay (Some services) = AllByRecursion Stays services
+
+first-stays : (instance : ℕ) (services : List Service) → AllByRecursion Stays services
+    → AllStay (class_or_first instance services)
+first-stays instance services all =
+    both AllStay (eqb instance 0) _ _ ((λ h m path content o e. read_effect m _ o e), tt)
+    (both AllStay (eqb instance 1) _ _ all tt)
+
+mapped-stay : {X : Type 0} (o : Option X) (services : List Service) → AllByRecursion Stays services
+    → AllStay (option_map (λ _. services) o)
+mapped-stay None services all = tt
+mapped-stay (Some x) services all = all
+
+none_changes : {X : Type 0} → true ≡ false → X
+none_changes e = absurd (cc)
+
+-- Each service that an instance of any class offers.
+offered-stay : (shapes : Shapes) (class instance : ℕ) → AllStay (services_of shapes class instance)
+unfolding services_of
+offered-stay shapes class instance =
+    both AllStay (eqb class IDENTITY) _ _
+    (first-stays instance _
+    ((λ h m path content o e. read_effect m _ o e), ((λ h m path content o e. read_effect m _ o e), ((λ h m path content o e. read_effect m _ o e), tt))))
+    (both AllStay (eqb class ASSEMBLY) _ _
+    (both AllStay (eqb instance 0) _ _ ((λ h m path content o e. read_effect m _ o e), tt)
+    (mapped-stay (shape_at instance shapes.assemblies) assembly_services
+    ((λ h m path content o e. read_effect m _ o e), ((λ h m path content o e. read_effect m _ o e), ((λ h. none_changes h), ((λ h m path content o e. read_effect m _ o e), ((λ h. none_changes h), tt)))))))
+    (both AllStay (eqb class CONNECTION_MANAGER) _ _ (both AllStay (eqb instance 1) _ _ tt tt)
+    (both AllStay (is_counter_class shapes class) _ _
+    (first-stays instance _
+    ((λ h. none_changes h), ((λ h. none_changes h), ((λ h m path content o e. read_effect m _ o e), ((λ h m path content o e. read_effect m _ o e), ((λ h. none_changes h), tt))))))
+    (both AllStay (eqb instance 0) _ _
+    (both AllStay (list_any (λ o. eqb o.class class) shapes.objects) _ _
+    ((λ h m path content o e. read_effect m _ o e), tt) tt)
+    (mapped-stay (object_at class instance shapes.objects) object_services
+    ((λ h m path content o e. read_effect m _ o e), ((λ h m path content o e. read_effect m _ o e), ((λ h m path content o e. read_effect m _ o e), ((λ h. none_changes h), tt)))))))))
+
+same_service : (x y : Service) → ◌≡◌ {A = Option Service} (Some x) (Some y) → x ≡ y
+same_service x y e = cc
+
+found-stays : (b : Bool) (x s : Service) (rest : Option Service) → Stays x → (rest ≡ Some s → Stays s)
+    → cond b (Some x) rest ≡ Some s → Stays s
+found-stays true x s rest here later e = subst Stays (same_service x s e) here
+found-stays false x s rest here later e = later e
+
+listed-stays : (code : ℕ) (services : List Service) (s : Service) → AllByRecursion Stays services
+    → service_in code services ≡ Some s → Stays s
+listed-stays code [] s all e = absurd (cc)
+listed-stays code (x ∷ xs) s all e =
+    found-stays (eqb (service_code x) code) x s (service_in code xs) all.0 (listed-stays code xs s all.1) e
+
+chosen-stays : (shapes : Shapes) (class instance code : ℕ) (s : Service) → service_at shapes class instance code ≡ Ok s
+    → Stays s
+unfolding service_at
+chosen-stays shapes class instance code s e =
+    let offered = bound (ok_or (services_of shapes class instance) _) _ s e in
+    listed-stays code offered.value s
+    (subst AllStay (found_some (services_of shapes class instance) _ offered.value offered.first)
+    (offered-stay shapes class instance))
+    (found_some (service_in code offered.value) _ s offered.rest)
+
+-- A service that is none of these four.
+none-of : (service : ℕ) (a b c d : Bool) → eqb service 0x10 ≡ a → eqb service 0x19 ≡ b → eqb service 0x32 ≡ c
+    → eqb service 0x33 ≡ d → ((n : ℕ) → is_change_service n ≡ true → eqb n 0x4c ≡ false → service ≡ n → ⊥)
+    → a || b || c || d ≡ false
+none-of service true b c d e f g h not = absurd (not 0x10 refl refl (eqb-true service 0x10 e))
+none-of service false true c d e f g h not = absurd (not 0x19 refl refl (eqb-true service 0x19 f))
+none-of service false false true d e f g h not = absurd (not 0x32 refl refl (eqb-true service 0x32 g))
+none-of service false false false true e f g h not = absurd (not 0x33 refl refl (eqb-true service 0x33 h))
+none-of service false false false false e f g h not = refl
+
+reads-stay : (text : List ℕ) (code : ℕ) → Reads text → code ≡ service_of text → changes code ≡ false
+reads-stay text code r same =
+    none-of code (eqb code 0x10) (eqb code 0x19) (eqb code 0x32) (eqb code 0x33) refl refl refl refl
+    (λ n is other e. not-service text n r is other (sym same ∙ e))
 
 exec-unchanged : (m : Contents) (max_size : ℕ) (text : List ℕ) → Reads text → (exec m max_size text).after ≡ m
 unfolding exec
@@ -131,9 +217,11 @@ exec-unchanged m max_size text r = go (outcome m text >>= with_reply max_size te
         let is = is_outcome max_size text (outcome m text) x e in
         let g = goes m text is.made is.is_made in
         is.after
-        ∙ performed m text g.request.data g.path g.service is.made r
+        ∙ chosen-stays m.shapes g.path.class g.path.instance g.request.service g.service g.is_chosen
+        (reads-stay text (service_code g.service) r
         (chosen_code m.shapes g.path.class g.path.instance g.request.service g.service g.is_chosen
-        ∙ service-read text g.request g.is_request) g.is_performed
+        ∙ service-read text g.request g.is_request))
+        m g.path g.request.data is.made g.is_performed
 
 owned-unchanged : (w : OwnedState) (max_size : ℕ) (text : List ℕ) → Reads text → (exec_owned w max_size text).after ≡ w
 unfolding exec_owned
@@ -202,7 +290,7 @@ abbrev asked_of : Device → List LimitedRequest → List Asked
 asked_of device requests = flat_map (asks_by_reached device.router.objects) (map Requested requests)
 
 asked-by-fate : (device : Device) (request : LimitedRequest) (f : Fate) → Means device.ledger request f → Reads request.1
-    → asked_of device (reached_by f request ++ []) ≡ []
+    → asked_of device (reached_by objects_after objects_answer f request ++ []) ≡ []
 asked-by-fate device request Passed means r =
     ap (λ xs. xs ++ []) (unasked device.router.objects request.0 request.1 r)
 asked-by-fate device request (Served service (Replies reply)) means r = refl

@@ -1,5 +1,5 @@
 -- No group has more peers than its share, and one under its share gets a slot.
-use Rattle.std.proofs.Common.{◌≡◌, ◌≢◌, ℕ, zero, suc, ◌+◌, ◌*◌, ◌<◌, ◌≤◌, List, [], ◌∷◌, ◌++◌, length, Bool, true, false, cond, not, ◌||◌, eqb, ltb, ltb-true, Option, Some, None, append-nil, refl, sym, ap, subst, ◌∙◌, arith}
+use Rattle.std.proofs.Common.{◌≡◌, ◌≢◌, ℕ, zero, suc, ◌+◌, ◌*◌, ◌<◌, ◌≤◌, List, [], ◌∷◌, ◌++◌, length, Bool, true, false, cond, not, ◌||◌, eqb, ltb, ltb-true, Option, Some, None, append-nil, get_or, refl, sym, ap, subst, ◌∙◌, arith}
 use Rattle.std.specs.Prelude.{filter, All}
 use Rattle.std.specs.List.{Contains}
 use Rattle.std.proofs.lemmas.Bool.{eqb-true, lt-ltb}
@@ -57,11 +57,12 @@ same-size false x y ys zs h = h
 count-without : (group n : ℕ) (xs : List Session)
     → peers_of_group group (without_first handle_of n xs) ≤ peers_of_group group xs
 count-without group n [] = omega arith
-count-without group n (x ∷ xs) = go (eqb x.handle n)
+count-without group n (x ∷ xs) = go (count-without group n xs) (eqb x.handle n)
   where
-    go : (b : Bool) → peers_of_group group (cond b xs (x ∷ without_first handle_of n xs)) ≤ peers_of_group group (x ∷ xs)
-    go true = at-least (is_of_group group x) x (filter (is_of_group group) xs)
-    go false = one-more (is_of_group group x) x _ _ (count-without group n xs)
+    go : peers_of_group group (without_first handle_of n xs) ≤ peers_of_group group xs
+        → (b : Bool) → peers_of_group group (cond b xs (x ∷ without_first handle_of n xs)) ≤ peers_of_group group (x ∷ xs)
+    go fewer true = at-least (is_of_group group x) x (filter (is_of_group group) xs)
+    go fewer false = one-more (is_of_group group x) x _ _ fewer
 
 same_found : (x y : Session) → ◌≡◌ {A = Option Session} (Some x) (Some y) → x ≡ y
 same_found x y e = cc
@@ -70,15 +71,18 @@ same_found x y e = cc
 count-changed : (group n : ℕ) (old new : Session) (xs : List Session) → first_with handle_of n xs ≡ Some old
     → new.group ≡ old.group → peers_of_group group (with_first handle_of n new xs) ≡ peers_of_group group xs
 count-changed group n old new [] found same = refl
-count-changed group n old new (x ∷ xs) found same = go (eqb x.handle n) found
+count-changed group n old new (x ∷ xs) found same =
+    go (λ is. count-changed group n old new xs is same) (eqb x.handle n) found
   where
-    go : (b : Bool) → cond b (Some x) (first_with handle_of n xs) ≡ Some old
+    go : (first_with handle_of n xs ≡ Some old
+        → peers_of_group group (with_first handle_of n new xs) ≡ peers_of_group group xs)
+        → (b : Bool) → cond b (Some x) (first_with handle_of n xs) ≡ Some old
         → peers_of_group group (cond b (new ∷ xs) (x ∷ with_first handle_of n new xs)) ≡ peers_of_group group (x ∷ xs)
-    go true is =
+    go later true is =
         ap (λ g. length (cond (is_group group g) (new ∷ filter (is_of_group group) xs) (filter (is_of_group group) xs)))
         (same ∙ ap (λ (p : Session). p.group) (sym (same_found x old is)))
         ∙ same-size (is_of_group group x) new x _ _ refl
-    go false is = same-size (is_of_group group x) x x _ _ (count-changed group n old new xs is same)
+    go later false is = same-size (is_of_group group x) x x _ _ (later is)
 
 -- A peer more.
 count-push : (group : ℕ) (xs : List Session) (last : Session)
@@ -227,8 +231,8 @@ under-share a rights group left = go (has_share a.state.shared.share a.state.pee
     go : (b : Bool) → b ≡ true → IsOther Share (cond (not b) (turned a.state (Refuses Share) false) (rest a.state rights group))
     go false e = absurd (cc)
     go true e =
-        both IsOther Share (not (ltb (length a.state.peers) a.state.places)) _ _ (λ f. cc)
-        (both IsOther Share (ltb 0xffffffff a.state.next_handle) _ _ (λ f. cc) (λ f. cc))
+        both (IsOther Share) (not (ltb (length a.state.peers) a.state.places)) _ _ (λ f. cc)
+        (both (IsOther Share) (ltb 0xffffffff a.state.next_handle) _ _ (λ f. cc) (λ f. cc))
 
 -- ---- a slot for each share
 
@@ -245,7 +249,8 @@ count-filter group p xs =
 others-of : (group : ℕ) (groups : List ℕ) (xs : List Session) → All (λ x. is_of_one_of (group ∷ groups) x ≡ true) xs
     → All (λ x. is_of_one_of groups x ≡ true) (filter (λ x. not (is_of_group group x)) xs)
 others-of group groups xs all = λ k d h.
-    either (is_of_group group _) _ (filter_passes (λ x. not (is_of_group group x)) xs k d h)
+    either (is_of_group group (get_or (filter (λ x. not (is_of_group group x)) xs) k d)) _
+    (filter_passes (λ x. not (is_of_group group x)) xs k d h)
     (All-filter (λ x. not (is_of_group group x)) (λ x. is_of_one_of (group ∷ groups) x ≡ true) xs all k d h)
   where
     either : (a b : Bool) → not a ≡ true → (a || b) ≡ true → b ≡ true
@@ -286,14 +291,14 @@ fits-below share (first ∷ groups) xs group all within (suc k, h, e) left =
 has-slot : (s : State) (rights : Rights) (group : Option ℕ) → length s.peers < s.places
     → (begun s rights group).answer.output ≢ Refuses Places
 has-slot s rights group free =
-    both IsOther Places (not (has_share s.shared.share s.peers group)) _ _ (λ f. cc)
+    both (IsOther Places) (not (has_share s.shared.share s.peers group)) _ _ (λ f. cc)
     (go (ltb (length s.peers) s.places) (lt-ltb _ _ free))
   where
     go : (b : Bool) → b ≡ true → IsOther Places (cond (not b) (turned s (Refuses Places) false)
         (cond (ltb 0xffffffff s.next_handle) (turned s (Refuses Handles) false)
         (turned (with_peer s rights group) (Begins s.next_handle) false)))
     go false e = absurd (cc)
-    go true e = both IsOther Places (ltb 0xffffffff s.next_handle) _ _ (λ f. cc) (λ f. cc)
+    go true e = both (IsOther Places) (ltb 0xffffffff s.next_handle) _ _ (λ f. cc) (λ f. cc)
 
 pub slot-for-each : (device : Device) (listen : Listen) (limits : Limits) (shares : Shares) (calls : List Call)
     (rights : Rights) (groups : List ℕ) (group : ℕ) → length groups * shares.peers ≤ limits.peers

@@ -2,6 +2,7 @@
 use Rattle.std.specs.Prelude.{◌≡◌, ◌≢◌, ◌<◌, ◌≤◌, ℕ, ◌*◌, Bool, true, Option, Some, List, length, All}
 use Rattle.std.specs.List.{Contains, list_any}
 use Rattle.cip_ledger.specs.Device.{Device}
+use Rattle.cip_manager.specs.Connection.{count_of_group}
 use Rattle.enip_adapter.specs.declared.adapter.Full.{Full}
 use Rattle.enip_adapter.specs.declared.adapter.Full.TheVariants.{Places, Share}
 use Rattle.enip_adapter.specs.declared.adapter.Limits.{Limits}
@@ -21,6 +22,13 @@ abbrev pub peers_share_law : Type 0
 peers_share_law =
     (device : Device) (listen : Listen) (limits : Limits) (shares : Shares) (calls : List Call) (group : ℕ) →
     peers_of_group group (after_calls (shared_adapter device listen limits shares) calls).state.peers ≤ shares.peers
+
+-- Nor more connections.
+abbrev pub connections_share_law : Type 0
+connections_share_law =
+    (device : Device) (listen : Listen) (limits : Limits) (shares : Shares) (calls : List Call) (group : ℕ) →
+    count_of_group group (after_calls (shared_adapter device listen limits shares) calls).state.shared.manager.connections
+    ≤ shares.connections
 
 -- A begin that is refused changes nothing.
 abbrev pub refused_begin_law : Type 0

@@ -614,7 +614,7 @@ impl Adapter {
     pub fn is_registered(&self, peer: &Peer) -> Option<bool>
         ensures { result ≡ option_map (λ session. session.registered) (session_of self.now.state peer.now) }
     {
-        match self.places.session(peer.handle) {
+        match self.session(peer.handle) {
             Some(session) => Some(session.registered),
             None => None,
         }

@@ -18,7 +18,7 @@ ghost use Rattle.enip_adapter.specs.Discovery.{discovered};
 ghost use Rattle.enip_adapter.specs.OwnerLaws.{one_asked_law, asked_alike_law, repeat_law, given_law, unasked_law};
 ghost use Rattle.enip_adapter.specs.OwnerLaws.{answered_law, nobody_law, calls_law, asked_once_law};
 ghost use Rattle.enip_adapter.specs.RightsLaws.{unchanged_law, unasked_by_reading_law, readers_law, readers_ask_nothing_law};
-ghost use Rattle.enip_adapter.specs.ShareLaws.{peers_share_law, refused_begin_law, under_share_law, slot_for_each_share_law};
+ghost use Rattle.enip_adapter.specs.ShareLaws.{peers_share_law, connections_share_law, refused_begin_law, under_share_law, slot_for_each_share_law};
 ghost use Rattle.enip_adapter.specs.EndCauses.{endings_in_calls, IsReportedClosed, IsForwardClosed};
 ghost use Rattle.enip_adapter.specs.Endings.{EndingsState, updated};
 ghost use Rattle.enip_adapter.specs.Turn.{Event, Answer, answers, after, session_of};
@@ -250,12 +250,14 @@ pub fn readers_change_nothing()
     ensures owner { readers_ask_nothing_law }
 {}
 
-/// Groups keep to their shares. Whatever calls are made, no group has more peers than its share. A begin that is refused
+/// Groups keep to their shares. Whatever calls are made, no group has more peers than
+/// its share, nor more connections. A begin that is refused
 /// changes nothing, and one of a group under its share is not refused for its share. If the shares of some groups
 /// together are at most all peer slots, and each peer is of one of these groups, one of them that is under its share is
 /// not refused for want of a slot either: so with `shares.peers * n` slots, n groups always get in.
 pub fn groups_keep_to_their_share()
     ensures peers { peers_share_law }
+    ensures connections { connections_share_law }
     ensures refused { refused_begin_law }
     ensures under { under_share_law }
     ensures slot { slot_for_each_share_law }

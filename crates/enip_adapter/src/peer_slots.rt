@@ -177,8 +177,8 @@ fn peers_of_group(places: &[PeerSlot], group: u128) -> usize
     ensures within { result ≤ length places.now }
 {
     let mut count = 0;
-    for place in places {
-        if place.session.group == Some(group) {
+    for index in 0..places.len() {
+        if places[index].session.group == Some(group) {
             count += 1;
         }
     }

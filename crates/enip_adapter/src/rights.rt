@@ -96,6 +96,7 @@ pub(crate) fn refuse_change(request: &[u8], reply: &mut ReplyBuf)
 pub(crate) struct Refuser;
 
 impl Router for Refuser {
+    ghost use Rattle.std.specs.Prelude.{refl};
     ghost use Rattle.enip_adapter.specs.Rights.{refusal};
 
     ghost after = { λ refuser max_size request. refuser };

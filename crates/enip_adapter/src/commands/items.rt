@@ -1,9 +1,11 @@
 //! SendUnitData: items on connections.
 //! Text: docs/PROTOCOL.md, "Packets: SendRRData and SendUnitData".
 
-ghost use Rattle.std.specs.Prelude.{◌≡◌, ◌≤◌, ℕ, List, ◌+◌, ◌++◌, length, true, false};
+ghost use Rattle.std.specs.Prelude.{◌≡◌, ◌≤◌, ℕ, List, ◌+◌, ◌++◌, length, true, false, IfSome};
+ghost use Rattle.std.specs.Option.{option_map};
 ghost use Rattle.cip_bytes.specs.declared.protocol.EncapsulationStatus.TheVariants.{Success};
 ghost use Rattle.cip_class3.specs.Item.{item, message_of};
+ghost use Rattle.cip_manager.specs.Items.{view as reply_in};
 ghost use Rattle.enip_wire.specs.Bodies.{unit_body_bytes};
 ghost use Rattle.enip_wire.specs.Stream.{frame_of};
 ghost use Rattle.enip_adapter.specs.Replies.{reply, written};
@@ -65,16 +67,10 @@ fn send_item(
         return refuse_item(shared, session, asked, id, item, answer);
     }
     let moment = shared.moment;
-    match shared
+    let kept = shared
         .manager
-        .connected(moment, session.handle, id, item, &mut shared.objects)
-    {
-        Some(kept) => {
-            write_unit_reply(asked, kept, answer);
-            Reaction::ANSWERED
-        }
-        None => Reaction::no_reply(NoReplyReason::NotTaken),
-    }
+        .connected(moment, session.handle, id, item, &mut shared.objects);
+    answer_item(asked, kept, answer)
 }
 
 /// Passes an item to the session's connection with this O->T ID, which keeps a refusal in place of the device's reply.
@@ -93,11 +89,20 @@ fn refuse_item(
         ≡ item_reply asked.now (turn_of_item shared.old session id item.now).reply }
     ensures close { result.close ≡ false }
 {
-    let moment = shared.moment;
-    match shared
+    let kept = shared
         .manager
-        .connected(moment, session.handle, id, item, &mut Refuser)
-    {
+        .connected(shared.moment, session.handle, id, item, &mut Refuser);
+    answer_item(asked, kept, answer)
+}
+
+/// Writes the answer that a connection keeps, if it took the item.
+#[inline(always)]
+fn answer_item(asked: &Header, kept: Option<KeptAnswer<'_>>, answer: &mut AnswerFrame) -> Reaction
+    requires { IfSome kept (λ kept. length kept.reply.now + SEQUENCE_COUNT_SIZE ≤ LARGEST_CONNECTION_SIZE) }
+    ensures answer { written result.reply answer.new.items ≡ item_reply asked.now (option_map reply_in kept.entry) }
+    ensures close { result.close ≡ false }
+{
+    match kept {
         Some(kept) => {
             write_unit_reply(asked, kept, answer);
             Reaction::ANSWERED
