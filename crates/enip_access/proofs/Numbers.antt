@@ -53,7 +53,7 @@ is_digit_of d h = and_from _ _ (le-leb 48 (48 + d) (omega arith)) (le-leb (48 + 
 is_first_digit_of : (d : ℕ) → 1 ≤ d → d < 10 → is_first_digit (48 + d) ≡ true
 is_first_digit_of d p h = and_from _ _ (le-leb 49 (48 + d) (omega arith)) (le-leb (48 + d) 57 (omega arith))
 
-abbrev Is : List ℕ → ℕ → Type 0
+abbrev pub Is : List ℕ → ℕ → Type 0
 Is text n = (n < 1000) × (text ≡ decimal n)
 
 sound_one : (x n : ℕ) → number_in (x ∷ []) ≡ Some n → Is (x ∷ []) n
@@ -80,14 +80,14 @@ sound_three x y z n h =
     let c = digit_of z last in
     rw (← value) (omega (arith, a.below, b.below, c.below), sym (three (x - 48) (y - 48) (z - 48) some a.below b.below c.below ∙ rw (a.same, b.same, c.same) refl))
 
-sound : (text : List ℕ) (n : ℕ) → number_in text ≡ Some n → Is text n
+pub sound : (text : List ℕ) (n : ℕ) → number_in text ≡ Some n → Is text n
 sound [] n h = absurd (none-some n h)
 sound (x ∷ []) n h = sound_one x n h
 sound (x ∷ y ∷ []) n h = sound_two x y n h
 sound (x ∷ y ∷ z ∷ []) n h = sound_three x y z n h
 sound (x ∷ y ∷ z ∷ u ∷ rest) n h = absurd (none-some n h)
 
-complete : (n : ℕ) → n < 1000 → number_in (decimal n) ≡ Some n
+pub complete : (n : ℕ) → n < 1000 → number_in (decimal n) ≡ Some n
 complete n h =
     elim (cases_lt n 10) [
       | inl one ↦

@@ -1,7 +1,8 @@
 -- A rule: an address, or the addresses that share their first bits.
-use Rattle.std.specs.Prelude.{◌≡◌, ℕ, ◌+◌, ◌-◌, ◌*◌, ◌/◌, ◌%◌, ◌^◌, ◌≤◌, Bool, ◌==◌, ◌&&◌, nat_le, if◌then◌else◌, List, [], ◌∷◌, ◌++◌, length, take, drop, codes, decimal, true, ◌<◌, ◌↔◌}
+use Rattle.std.specs.Prelude.{◌≡◌, ℕ, ◌+◌, ◌-◌, ◌*◌, ◌/◌, ◌%◌, ◌^◌, ◌≤◌, Bool, ◌==◌, ◌&&◌, nat_le, if◌then◌else◌, List, [], ◌∷◌, ◌++◌, length, take, drop, codes, decimal, true, ◌<◌, ◌↔◌, ◌⊎◌}
 use Rattle.std.specs.Prelude.{Option, Some, None, Result, Ok, Err}
 use Rattle.std.specs.List.{position_or_len}
+use Rattle.std.specs.Net.Grammar.{IsIpText}
 use Rattle.std.specs.Net.Text.{ip_text}
 use Rattle.std.specs.declared.net.ip_addr.IpAddr.{IpAddr}
 use Rattle.std.specs.declared.net.ip_addr.IpAddr.TheVariants.{V4, V6}
@@ -77,6 +78,27 @@ prefix_by (Some address) text =
 -- The prefix of a text, or the first fault from the left.
 unfoldable pub prefix_in : List ℕ → Result Prefix PrefixFault
 prefix_in text = prefix_by (address_in (take (slash_in text) text)) text
+
+-- The text is an address, and the prefix is this address alone.
+abbrev pub IsAlone : List ℕ → IpAddr → Prefix → Type 0
+IsAlone text address p = IsIpText text address × (p ≡ prefix_at address (family_bits address))
+
+-- The text is an address, a slash and the number of bits that count. The others are 0.
+pub record IsCounted (text : List ℕ) (of : IpAddr) (p : Prefix) : Type 0 where
+  pub before : List ℕ
+  pub n : ℕ
+  pub spelled : text ≡ before ++ codes "/" ++ decimal n
+  pub address : IsIpText before of
+  pub within : n ≤ family_bits of
+  pub value : p ≡ prefix_at of n
+  pub zeros : bits_after p ≡ 0
+
+abbrev pub IsRuleText : List ℕ → Prefix → Type 0
+IsRuleText text p = (address : IpAddr) × (IsAlone text address p ⊎ IsCounted text address p)
+
+-- A text is read as a prefix exactly if it is an address, alone or with the number of bits that count.
+abbrev pub RulesAreTexts : Type 0
+RulesAreTexts = (text : List ℕ) (p : Prefix) → (prefix_in text ≡ Ok p) ↔ IsRuleText text p
 
 -- How many bits of a prefix are written: 96 fewer for IPv4.
 abbrev pub written_bits : Prefix → ℕ

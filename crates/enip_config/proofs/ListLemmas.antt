@@ -1,7 +1,9 @@
 -- The lists of the table `access`.
 use Rattle.std.proofs.Common.{◌≡◌, ℕ, ◌+◌, ◌<◌, ◌≤◌, List, [], ◌∷◌, ◌++◌, length, Option, Some, None, option_map, refl, sym, ap, ◌∙◌, arith, le-leb, lt-leb}
 use Rattle.std.proofs.lemmas.List.{length-append}
-use Rattle.toml.specs.Data.{Members}
+use Rattle.std.proofs.lemmas.Option.{none-some, same_Some}
+use Rattle.std.proofs.NetLemmas.Options.{map_some}
+use Rattle.toml.specs.Data.{Data, Members}
 use Rattle.cip_objects.specs.Configuration.{fault_of}
 use Rattle.enip_access.specs.declared.access.Access.{Access}
 use Rattle.enip_access.specs.declared.prefix.Prefix.{Prefix}
@@ -9,7 +11,8 @@ use Rattle.enip_config.specs.declared.configuration.Configuration.{Configuration
 use Rattle.enip_config.specs.declared.fault.LoadFault.{LoadFault}
 use Rattle.enip_config.specs.declared.key.NumberKey.{NumberKey}
 use Rattle.enip_config.specs.declared.key.NumberKey.TheVariants.{Vendor, DeviceType, ProductCode, Major, Minor, Serial, Status, State, Port, Peers, Connections, FirstHandle, FirstId, CounterValue, CounterLimit}
-use Rattle.enip_config.specs.Access.{few, shares_seen, lists_of, IsBadList}
+use Rattle.enip_config.specs.Keys.{read_or}
+use Rattle.enip_config.specs.Access.{few, shares_in, shares_seen, lists_of, IsBadList}
 use Rattle.enip_config.specs.Documents.{number_in, HasValues, IsKnown, IsFaultOf}
 
 -- a list that is not too long
@@ -60,3 +63,15 @@ with_access described c access values same = record {
 pub refused_by_lists : (bytes : List ℕ) (described : Members) (c : Configuration) (fault : LoadFault)
     → IsKnown bytes described → HasValues described c → fault_of c.objects ≡ None → IsBadList (lists_of described) fault → IsFaultOf bytes fault
 refused_by_lists bytes described c fault known values taken bad = rw bad.0 (described, (c, (known, (values, (taken, bad.1)))))
+
+-- without shares there is no table
+pub no_table : (found : Option Data) → read_or (Some None) (λ value. option_map (λ shares. Some shares) (shares_in value)) found ≡ Some None → found ≡ None
+no_table None is = refl
+no_table (Some value) is =
+    map_some (λ shares. Some shares) (shares_in value) None is λ shares read same. absurd (none-some shares (sym same))
+
+-- and with shares there is one
+pub a_table : (found : Option Data) (shares : Option ℕ × Option ℕ)
+    → read_or (Some None) (λ value. option_map (λ shares. Some shares) (shares_in value)) found ≡ Some (Some shares) → found ≡ None → ⊥
+a_table None shares is none = none-some shares (same_Some None (Some shares) is)
+a_table (Some value) shares is none = none-some value (sym none)

@@ -47,15 +47,15 @@ fn rules_read_back(rt: HostRuntime) -> Result<(), Fail> {
     let alloc = rt.alloc();
     for (text, printed) in &PRINTED {
         let Ok(rule) = Prefix::parse(text.as_bytes()) else {
-            panic!(&rt; "{text} is refused");
+            panic!(rt; "{text} is refused");
         };
         let got = format!(in alloc; "{rule}")?;
-        assert!(&rt;
+        assert!(rt;
             got.as_str() == *printed,
             "{text} is printed as {}",
             got.as_str()
         );
-        assert!(&rt;
+        assert!(rt;
             Prefix::parse(got.as_bytes()) == Ok(rule),
             "{text} does not read back"
         );
@@ -68,10 +68,10 @@ fn bits_after_a_prefix(rt: HostRuntime) -> Result<(), Fail> {
     let alloc = rt.alloc();
     for (text, meant) in &REFUSED {
         let Err(PrefixFault::HostBits(prefix)) = Prefix::parse(text.as_bytes()) else {
-            panic!(&rt; "{text} has no bits after the prefix");
+            panic!(rt; "{text} has no bits after the prefix");
         };
         let got = format!(in alloc; "{prefix}")?;
-        assert!(&rt; got.as_str() == *meant, "{text} means {}", got.as_str());
+        assert!(rt; got.as_str() == *meant, "{text} means {}", got.as_str());
     }
     Ok(())
 }
@@ -80,9 +80,9 @@ fn bits_after_a_prefix(rt: HostRuntime) -> Result<(), Fail> {
 fn numbers_of_addresses(rt: HostRuntime) -> Result<(), Fail> {
     for (text, number) in &NUMBERS {
         let Some(address) = parse_address(text.as_bytes()) else {
-            panic!(&rt; "{text} is not an address");
+            panic!(rt; "{text} is not an address");
         };
-        assert!(&rt; address_number(address) == *number, "{text}");
+        assert!(rt; address_number(address) == *number, "{text}");
     }
     Ok(())
 }
