@@ -161,7 +161,8 @@ impl<W: Wire + Drop> Peers<W> {
         let slot = self.slot_for(now, group)?;
         self.free_slot(slot);
         let peer = self.adapter.begin_as(rights, group)?;
-        self.slots[slot] = Some(PeerIo::new(peer, wire, now));
+        let io = PeerIo::new(peer, wire, now);
+        self.slots[slot] = Some(io);
         Ok(slot)
     }
 
