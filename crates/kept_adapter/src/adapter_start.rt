@@ -4,7 +4,7 @@ ghost use Rattle.std.specs.Option.{ForSome};
 ghost use Rattle.cip_objects.specs.Configuration.{fault_of};
 
 use cip_objects::Config;
-use enip_adapter::{Limits, Listen};
+use enip_adapter::{Limits, Listen, Shares};
 
 /// A command ledger as it is configured.
 #[derive(Clone, Copy, Debug)]
@@ -16,11 +16,12 @@ pub struct LedgerStart {
     pub life: u64,
 }
 
-/// What an adapter is made from: the configuration of its objects, its ledger, and its limits. The objects accept their
-/// configuration.
+/// What an adapter is made from: the configuration of its objects, its ledger, its limits, and the share of each group.
+/// The objects accept their configuration.
 ///
 /// ```
-/// let start = AdapterStart { objects, ledger: None, begins_life: false, listen, limits, idle_timeout: 60_000_000 };
+/// let shares = Shares::NONE;
+/// let start = AdapterStart { objects, ledger: None, begins_life: false, listen, limits, shares, idle_timeout: 60_000_000 };
 /// let mut server = Server::<KeptPeers<TcpWire, AdapterStart>, Rows>::start(alloc, keeper, &start)?;
 /// ```
 #[derive(Debug, Drop)]
@@ -35,6 +36,8 @@ pub struct AdapterStart {
     pub listen: Listen,
     /// The capacity, and the first numbers that are assigned.
     pub limits: Limits,
+    /// How many of the peers and of the connections one group may have.
+    pub shares: Shares,
     /// For how long a peer may send nothing, in microseconds.
     pub idle_timeout: u64,
     ghost accepted: { fault_of objects ≡ None },
