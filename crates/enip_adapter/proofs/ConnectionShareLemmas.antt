@@ -6,7 +6,6 @@ use Rattle.std.proofs.lemmas.List.{length_push}
 use Rattle.std.proofs.lemmas.List.Elements.{filter-append}
 use Rattle.std.proofs.lemmas.List.Filters.{length-filter_both}
 use Rattle.cip_ledger.specs.Device.{Device}
-use Rattle.cip_message.specs.Open.{Layout}
 use Rattle.cip_manager.specs.declared.connection.Connection.{Connection}
 use Rattle.cip_manager.specs.declared.connection.Opener.{Opener}
 use Rattle.cip_manager.specs.declared.opening.Opening.{Opening}
@@ -30,7 +29,7 @@ use Rattle.enip_adapter.specs.Replies.{Served, leaving}
 use Rattle.enip_adapter.specs.Rights.{after_for, answer_for}
 use Rattle.enip_adapter.specs.Runs.{after_calls}
 use Rattle.enip_adapter.specs.SendRRData.{opener_of}
-use Rattle.enip_adapter.specs.Turn.{State, Event, TurnResult, turn, begun, end_found, serve_found, session_of, shared_after, without_connections, after}
+use Rattle.enip_adapter.specs.Turn.{State, Event, TurnResult, turn, end_found, serve_found, session_of, without_connections, after}
 use Rattle.enip_adapter.specs.Turn.Event.{Begin, End, At, Framed, Long, Written}
 use Rattle.enip_adapter.proofs.BeginLemmas.{each-begun}
 use Rattle.enip_adapter.proofs.CommandLemmas.{after_command}

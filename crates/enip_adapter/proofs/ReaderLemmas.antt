@@ -12,7 +12,6 @@ use Rattle.cip_ledger.specs.Device.{Device}
 use Rattle.cip_ledger.specs.Runs.{Request}
 use Rattle.cip_manager.specs.declared.connection.Connection.{Connection}
 use Rattle.cip_manager.specs.Connection.{is_named}
-use Rattle.cip_objects.specs.OwnRequests.{Asked}
 use Rattle.enip_wire.specs.Bodies.{rr_body_of, unit_body_of}
 use Rattle.enip_wire.specs.Frames.{Frame}
 use Rattle.enip_wire.specs.declared.item_list.CpfFault.{CpfFault}
@@ -20,16 +19,16 @@ use Rattle.enip_adapter.specs.declared.peer.Rights.{Rights}
 use Rattle.enip_adapter.specs.declared.peer.Rights.TheVariants.{Read, Write}
 use Rattle.enip_adapter.specs.declared.peer.Session.{Session}
 use Rattle.enip_adapter.specs.declared.shared.Shared.{Shared}
-use Rattle.enip_adapter.specs.Asks.{asks_by_step, asks_by_steps, asks_of_calls}
+use Rattle.enip_adapter.specs.Asks.{asks_by_steps, asks_of_calls}
 use Rattle.enip_adapter.specs.Calls.{AdapterState, Call}
 use Rattle.enip_adapter.specs.DeviceRuns.{requests_by_rights, requests_by_route, requests_in_rr, requests_by_connection, requests_in_unit, requests_by_command, requests_in_frame, requests_by_session}
-use Rattle.enip_adapter.specs.DeviceRuns.{DeviceStep, Requested, WrittenBy, steps_by_event, device_steps, device_after_step, device_after}
+use Rattle.enip_adapter.specs.DeviceRuns.{DeviceStep, Requested, steps_by_event, device_steps, device_after_step, device_after}
 use Rattle.enip_adapter.specs.Replies.{is_registered_as}
 use Rattle.enip_adapter.specs.Rights.{is_change}
 use Rattle.enip_adapter.specs.RightsLaws.{steps_by_rights, writer_steps_by_session, writer_steps_by_event, writer_steps, writer_steps_of_calls}
 use Rattle.enip_adapter.specs.Runs.{after_calls, events_of_calls}
 use Rattle.enip_adapter.specs.SendRRData.{Route, Opens, Closes, Executes, route_of}
-use Rattle.enip_adapter.specs.Turn.{State, Event, turn, after, session_of}
+use Rattle.enip_adapter.specs.Turn.{State, Event, turn, session_of}
 use Rattle.enip_adapter.specs.Turn.Event.{Begin, End, At, Framed, Long, Written}
 use Rattle.enip_adapter.proofs.AskedLemmas.{asks-two}
 use Rattle.enip_adapter.proofs.DeviceLemmas.{after-two, step-ends, events-end}

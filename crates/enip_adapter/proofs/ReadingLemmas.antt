@@ -1,6 +1,6 @@
 -- A request that is not a change leaves the device as it was, and asks the owner nothing.
-use Rattle.std.proofs.Common.{◌≡◌, ℕ, ◌*◌, ◌⊎◌, inl, inr, List, [], ◌∷◌, ◌++◌, map, length, Bool, true, false, cond, not, ◌&&◌, ◌||◌, eqb, nat_lt, Option, Some, None, Result, Ok, Err, unwrap_or, refl, sym, ap, subst, ◌∙◌}
-use Rattle.std.proofs.lemmas.Bool.{eqb-true, eq-eqb, false≢true}
+use Rattle.std.proofs.Common.{◌≡◌, ℕ, ◌*◌, List, [], ◌∷◌, ◌++◌, map, length, Bool, true, false, cond, not, ◌&&◌, ◌||◌, eqb, nat_lt, Option, Some, None, Result, Ok, Err, refl, sym, ap, subst, ◌∙◌}
+use Rattle.std.proofs.lemmas.Bool.{eqb-true, false≢true}
 use Rattle.std.specs.Prelude.{⊤}
 use Rattle.std.specs.List.{flat_map, list_any, AllByRecursion}
 use Rattle.std.specs.Option.{ok_or, option_map}
@@ -10,10 +10,10 @@ use Rattle.cip_bytes.specs.declared.protocol.TheConstants.{IDENTITY, ASSEMBLY, C
 use Rattle.cip_ledger.specs.Device.{Device, exec_device}
 use Rattle.cip_ledger.specs.Reaching.{listed}
 use Rattle.cip_ledger.specs.Requests.{LedgerRequest, Command, ledger_request}
-use Rattle.cip_ledger.specs.Runs.{Request as LimitedRequest, command_by, command_given, command_in_data, forgotten_by, forgotten, forgotten_in_data, reached, reached_by}
+use Rattle.cip_ledger.specs.Runs.{Request as LimitedRequest, command_by, command_given, command_in_data, forgotten_by, forgotten, forgotten_in_data, reached_by}
 use Rattle.cip_ledger.specs.Services.{Replies, Executes, Frees}
 use Rattle.cip_ledger.specs.Turn.{Fate, Passed, Served, fate, turn_by}
-use Rattle.cip_ledger.proofs.Fates.{Means, fate-means, IsServed}
+use Rattle.cip_ledger.proofs.Fates.{Means, fate-means}
 use Rattle.cip_ledger.proofs.Forms.{service_first}
 use Rattle.cip_message.specs.declared.path.Path.{Path}
 use Rattle.cip_message.specs.declared.path.PathFault.{PathFault}
@@ -34,7 +34,7 @@ use Rattle.cip_objects.proofs.Effects.{bound, found_some, goes, chosen_code, rea
 use Rattle.cip_objects.proofs.OwnRequests.{unread_request, unread_path, other_request}
 use Rattle.cip_owner.specs.Owned.{OwnedState, asks, asked_within, by_owner, exec_owned}
 use Rattle.enip_adapter.specs.Asks.{asks_by_reached, asks_by_step}
-use Rattle.enip_adapter.specs.DeviceRuns.{DeviceStep, Requested, objects_after, objects_answer}
+use Rattle.enip_adapter.specs.DeviceRuns.{Requested, objects_after, objects_answer}
 use Rattle.enip_adapter.proofs.ListLemmas.{both}
 use Rattle.enip_adapter.specs.Rights.{service_of, is_change_service, is_path_to_ledger, is_to_ledger, is_get_last, is_change}
 

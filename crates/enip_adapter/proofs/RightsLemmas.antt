@@ -7,13 +7,10 @@ use Rattle.cip_class3.specs.TargetRule.{KeptReply, TargetState, TargetStep, step
 use Rattle.cip_ledger.specs.Device.{Device, exec_device}
 use Rattle.cip_manager.specs.declared.connection.Connection.{Connection}
 use Rattle.cip_manager.specs.Connection.{is_named, deadline_at_item, until_after_item}
-use Rattle.cip_manager.specs.Items.{ItemTurn, ConnectionTurn, connection_turn, answer_of, with_first, item_turn, turn_of_found}
+use Rattle.cip_manager.specs.Items.{ItemTurn, connection_turn, answer_of, with_first, item_turn, turn_of_found}
 use Rattle.enip_adapter.specs.declared.peer.Rights.{Rights}
-use Rattle.enip_adapter.specs.declared.peer.Session.{Session}
 use Rattle.enip_adapter.specs.declared.rights.Refuser.{Refuser}
-use Rattle.enip_adapter.specs.declared.shared.Shared.{Shared}
 use Rattle.enip_adapter.specs.Rights.{is_refused, refusal, refused, after_for, answer_for}
-use Rattle.enip_adapter.specs.SendUnitData.{turn_of_item}
 
 -- What a target does with an item, by both tests of it, the router after its request, and the reply.
 abbrev step : {M : Type 0} → Bool → Bool → TargetState → M → List ℕ → M → List ℕ → TargetStep M

@@ -1,7 +1,6 @@
 -- What holds of readers: whatever they send, the device is as if they had sent nothing to it.
 use Rattle.std.specs.Prelude.{◌≡◌, ℕ, false, Option, Some, None, List, [], ◌∷◌, ◌++◌}
 use Rattle.cip_ledger.specs.Device.{Device, exec_device}
-use Rattle.enip_wire.specs.Frames.{Frame}
 use Rattle.enip_adapter.specs.declared.peer.Rights.{Rights}
 use Rattle.enip_adapter.specs.declared.peer.Rights.TheVariants.{Read, Write}
 use Rattle.enip_adapter.specs.declared.peer.Session.{Session}

@@ -1,5 +1,5 @@
 -- Worked examples: which requests are changes, and what a reader gets for one.
-use Rattle.std.specs.Prelude.{◌≡◌, List, [], ◌∷◌, true, false, refl}
+use Rattle.std.specs.Prelude.{◌≡◌, [], ◌∷◌, true, false, refl}
 use Rattle.cip_message.specs.PathReading.{path_of, class_of, instance_of, attribute_of, member_of, whole_of, segment_of}
 use Rattle.cip_message.specs.Request.{request_of}
 use Rattle.enip_adapter.specs.declared.peer.Rights.TheVariants.{Write}

@@ -18,7 +18,8 @@ ghost use Rattle.enip_adapter.specs.Discovery.{discovered};
 ghost use Rattle.enip_adapter.specs.OwnerLaws.{one_asked_law, asked_alike_law, repeat_law, given_law, unasked_law};
 ghost use Rattle.enip_adapter.specs.OwnerLaws.{answered_law, nobody_law, calls_law, asked_once_law};
 ghost use Rattle.enip_adapter.specs.RightsLaws.{unchanged_law, unasked_by_reading_law, readers_law, readers_ask_nothing_law};
-ghost use Rattle.enip_adapter.specs.ShareLaws.{peers_share_law, connections_share_law, refused_begin_law, under_share_law, slot_for_each_share_law};
+ghost use Rattle.enip_adapter.specs.ShareLaws.{peers_share_law, connections_share_law, refused_begin_law};
+ghost use Rattle.enip_adapter.specs.ShareLaws.{under_share_law, slot_for_each_share_law};
 ghost use Rattle.enip_adapter.specs.EndCauses.{endings_in_calls, IsReportedClosed, IsForwardClosed};
 ghost use Rattle.enip_adapter.specs.Endings.{EndingsState, updated};
 ghost use Rattle.enip_adapter.specs.Turn.{Event, Answer, answers, after, session_of};
@@ -139,8 +140,8 @@ pub fn closes_at_one_byte()
 
 /// A piece that is not empty is taken in part at least, or the answer is that the peer's connection is closed.
 pub fn progress()
-    ensures { (device : Device) (listen : Listen) (limits : Limits) (shares : Shares) (calls : List Call) (now peer b : ℕ)
-        (bs : List ℕ) → let a = after_calls (shared_adapter device listen limits shares) calls in
+    ensures { (device : Device) (listen : Listen) (limits : Limits) (shares : Shares) (calls : List Call)
+        (now peer b : ℕ) (bs : List ℕ) → let a = after_calls (shared_adapter device listen limits shares) calls in
         (call_answer a (Feeds now peer (b ∷ bs))).close ≡ false →
         1 ≤ (call_meaning a (Feeds now peer (b ∷ bs))).taken }
 {}
@@ -149,20 +150,20 @@ pub fn progress()
 /// same bytes and feed both at the same time, each piece until all of it is taken or the peer is closed: both have the
 /// same answers and leave the same adapter. Every list of pieces can be fed this way.
 pub fn cuts_change_nothing()
-    ensures answers { (device : Device) (listen : Listen) (limits : Limits) (shares : Shares) (calls : List Call) (now peer : ℕ)
-        (pieces others : List (List ℕ)) (answers replies : List Answer) (last end : AdapterState) →
+    ensures answers { (device : Device) (listen : Listen) (limits : Limits) (shares : Shares) (calls : List Call)
+        (now peer : ℕ) (pieces others : List (List ℕ)) (answers replies : List Answer) (last end : AdapterState) →
         concat pieces ≡ concat others →
         FeedsPieces now peer (after_calls (shared_adapter device listen limits shares) calls) pieces answers last →
         FeedsPieces now peer (after_calls (shared_adapter device listen limits shares) calls) others replies end →
         visible_answers answers ≡ visible_answers replies }
-    ensures adapter { (device : Device) (listen : Listen) (limits : Limits) (shares : Shares) (calls : List Call) (now peer : ℕ)
-        (pieces others : List (List ℕ)) (answers replies : List Answer) (last end : AdapterState) →
+    ensures adapter { (device : Device) (listen : Listen) (limits : Limits) (shares : Shares) (calls : List Call)
+        (now peer : ℕ) (pieces others : List (List ℕ)) (answers replies : List Answer) (last end : AdapterState) →
         concat pieces ≡ concat others →
         FeedsPieces now peer (after_calls (shared_adapter device listen limits shares) calls) pieces answers last →
         FeedsPieces now peer (after_calls (shared_adapter device listen limits shares) calls) others replies end →
         last ≡ end }
-    ensures some { (device : Device) (listen : Listen) (limits : Limits) (shares : Shares) (calls : List Call) (now peer : ℕ)
-        (pieces : List (List ℕ)) → (answers : List Answer) × ((last : AdapterState) ×
+    ensures some { (device : Device) (listen : Listen) (limits : Limits) (shares : Shares) (calls : List Call)
+        (now peer : ℕ) (pieces : List (List ℕ)) → (answers : List Answer) × ((last : AdapterState) ×
         FeedsPieces now peer (after_calls (shared_adapter device listen limits shares) calls) pieces answers last) }
 {}
 
@@ -172,20 +173,20 @@ pub fn cuts_change_nothing()
 /// limit, or that find the peer closed), both have the same answers. If the last current times are also the same, both
 /// leave the same adapter. Every list of pieces can be fed this way.
 pub fn times_between_change_nothing()
-    ensures answers { (device : Device) (listen : Listen) (limits : Limits) (shares : Shares) (calls : List Call) (peer : ℕ)
-        (pieces others : List TimedPiece) (moments : List ℕ) (answers replies : List Answer)
+    ensures answers { (device : Device) (listen : Listen) (limits : Limits) (shares : Shares) (calls : List Call)
+        (peer : ℕ) (pieces others : List TimedPiece) (moments : List ℕ) (answers replies : List Answer)
         (last end : AdapterState) → joined pieces ≡ joined others →
         FeedsTimedPieces peer (after_calls (shared_adapter device listen limits shares) calls) pieces moments answers last →
         FeedsTimedPieces peer (after_calls (shared_adapter device listen limits shares) calls) others moments replies end →
         visible_answers answers ≡ visible_answers replies }
-    ensures adapter { (device : Device) (listen : Listen) (limits : Limits) (shares : Shares) (calls : List Call) (peer : ℕ)
-        (pieces others : List TimedPiece) (moments : List ℕ) (answers replies : List Answer)
+    ensures adapter { (device : Device) (listen : Listen) (limits : Limits) (shares : Shares) (calls : List Call)
+        (peer : ℕ) (pieces others : List TimedPiece) (moments : List ℕ) (answers replies : List Answer)
         (last end : AdapterState) → joined pieces ≡ joined others →
         FeedsTimedPieces peer (after_calls (shared_adapter device listen limits shares) calls) pieces moments answers last →
         FeedsTimedPieces peer (after_calls (shared_adapter device listen limits shares) calls) others moments replies end →
         last.state.shared.moment ≡ end.state.shared.moment → last ≡ end }
-    ensures some { (device : Device) (listen : Listen) (limits : Limits) (shares : Shares) (calls : List Call) (peer : ℕ)
-        (pieces : List TimedPiece) → (moments : List ℕ) × ((answers : List Answer) × ((last : AdapterState) ×
+    ensures some { (device : Device) (listen : Listen) (limits : Limits) (shares : Shares) (calls : List Call)
+        (peer : ℕ) (pieces : List TimedPiece) → (moments : List ℕ) × ((answers : List Answer) × ((last : AdapterState) ×
         FeedsTimedPieces peer (after_calls (shared_adapter device listen limits shares) calls) pieces moments answers last)) }
 {}
 
@@ -195,10 +196,11 @@ pub fn times_between_change_nothing()
 /// of these. A connection that is reported as closed, by an update after each call, was closed by its own session: the
 /// call completed a frame with a Forward_Close of its triad.
 pub fn endings_have_causes()
-    ensures reasons { (device : Device) (listen : Listen) (limits : Limits) (shares : Shares) (earlier calls : List Call)
-        (e : EndingsState) → let a = after_calls (shared_adapter device listen limits shares) earlier in
+    ensures reasons { (device : Device) (listen : Listen) (limits : Limits) (shares : Shares)
+        (earlier calls : List Call) (e : EndingsState) → let a = after_calls (shared_adapter device listen limits shares) earlier in
         (updated (updated e a) (after_calls a calls)).ended ≡ endings_in_calls a calls }
-    ensures closed { (device : Device) (listen : Listen) (limits : Limits) (shares : Shares) (earlier : List Call) (call : Call) →
+    ensures closed { (device : Device) (listen : Listen) (limits : Limits) (shares : Shares) (earlier : List Call)
+        (call : Call) →
         let a = after_calls (shared_adapter device listen limits shares) earlier in
         AllByRecursion (λ (c : Connection). IsReportedClosed a call c → IsForwardClosed a call c)
         a.state.shared.manager.connections }
@@ -250,11 +252,10 @@ pub fn readers_change_nothing()
     ensures owner { readers_ask_nothing_law }
 {}
 
-/// Groups keep to their shares. Whatever calls are made, no group has more peers than
-/// its share, nor more connections. A begin that is refused
-/// changes nothing, and one of a group under its share is not refused for its share. If the shares of some groups
-/// together are at most all peer slots, and each peer is of one of these groups, one of them that is under its share is
-/// not refused for want of a slot either: so with `shares.peers * n` slots, n groups always get in.
+/// Groups keep to their shares. Whatever calls are made, no group has more peers than its share, nor more connections. A
+/// begin that is refused changes nothing, and one of a group under its share is not refused for its share. If the shares
+/// of some groups together are at most all peer slots, and each peer is of one of these groups, one of them that is under
+/// its share is not refused for want of a slot either: so with `shares.peers * n` slots, n groups always get in.
 pub fn groups_keep_to_their_share()
     ensures peers { peers_share_law }
     ensures connections { connections_share_law }

@@ -10,10 +10,9 @@ use Rattle.cip_bytes.specs.Protocol.{command_of}
 use Rattle.cip_bytes.specs.Reading.{map_ok, ◌>>=◌}
 use Rattle.cip_bytes.specs.declared.protocol.Command.{Command}
 use Rattle.cip_bytes.specs.declared.protocol.Command.TheVariants.{SendRRData, SendUnitData}
-use Rattle.cip_bytes.specs.declared.protocol.TheConstants.{UNCONNECTED_LIMIT}
 use Rattle.cip_bytes.proofs.Bytes.{AreBytes-take, AreBytes-drop, AreBytes-append}
 use Rattle.cip_class3.specs.Item.{sequence_count_of, message_of}
-use Rattle.cip_class3.specs.TargetRule.{TargetState, has_accepted_size, is_held, max_reply_size}
+use Rattle.cip_class3.specs.TargetRule.{TargetState, has_accepted_size, is_held}
 use Rattle.cip_ledger.specs.Runs.{Request}
 use Rattle.cip_manager.specs.declared.connection.Connection.{Connection}
 use Rattle.cip_manager.specs.Connection.{is_named}
@@ -26,6 +25,7 @@ use Rattle.enip_wire.specs.Stream.{Parsed, bytes_taken, held_and_taken, parsed, 
 use Rattle.enip_wire.specs.Stream.Parsed.{Incomplete, WholeFrame, TooLongHeader}
 use Rattle.enip_adapter.specs.declared.peer.Rights.{Rights}
 use Rattle.enip_adapter.specs.declared.peer.Session.{Session}
+use Rattle.enip_adapter.specs.Rights.{is_refused}
 use Rattle.enip_adapter.specs.declared.shared.Shared.{Shared}
 use Rattle.enip_adapter.specs.Calls.{AdapterState, Call, Held, Meaning, call_meaning, after_call, bytes_found}
 use Rattle.enip_adapter.specs.Calls.{bytes_held}
@@ -35,10 +35,9 @@ use Rattle.enip_adapter.specs.DeviceRuns.{DeviceStep, Requested, steps_by_event,
 use Rattle.enip_adapter.specs.DeviceRuns.{steps_of_calls}
 use Rattle.enip_adapter.specs.DeviceRuns.{requests_by_route, requests_in_rr, requests_by_target, requests_by_connection}
 use Rattle.enip_adapter.specs.DeviceRuns.{requests_in_unit, requests_by_command, requests_in_frame, requests_by_session}
-use Rattle.enip_adapter.specs.DeviceRuns.{requests_by_event, requests_by_rights}
+use Rattle.enip_adapter.specs.DeviceRuns.{requests_by_event}
 use Rattle.enip_adapter.specs.Lookup.{first_with, with_first, without_first}
 use Rattle.enip_adapter.specs.Replies.{is_registered_as}
-use Rattle.enip_adapter.specs.Rights.{is_refused}
 use Rattle.enip_adapter.specs.Runs.{after_calls, events_of_calls}
 use Rattle.enip_adapter.specs.SendRRData.{Route, Opens, Closes, Executes, route_of}
 use Rattle.enip_adapter.specs.Turn.{State, Event, Output, turn, session_of}
@@ -172,16 +171,11 @@ all_if : (t : Bool) (a b : List Request) → AllOfBytes a → AllOfBytes b → A
 all_if true a b one other = one
 all_if false a b one other = other
 
--- A request that is refused does not reach the device.
-by_rights : (rights : Rights) (max_size : ℕ) (request : List ℕ) → AreBytes request
-    → AllOfBytes (requests_by_rights rights max_size request)
-by_rights rights max_size request fits = all_if (is_refused rights request) _ _ tt (fits, tt)
-
 route_bytes : (rights : Rights) (request : List ℕ) (to : Route) → AreBytes request
     → AllOfBytes (requests_by_route rights request to)
 route_bytes rights request (Opens layout bytes) fits = tt
 route_bytes rights request (Closes bytes) fits = tt
-route_bytes rights request Executes fits = by_rights rights UNCONNECTED_LIMIT request fits
+route_bytes rights request Executes fits = all_if (is_refused rights request) _ _ tt (fits, tt)
 
 in_rr : (rights : Rights) (body : Result (List ℕ) CpfFault) → ((bytes : List ℕ) → body ≡ Ok bytes → AreBytes bytes)
     → AllOfBytes (requests_in_rr rights body)
@@ -194,7 +188,7 @@ by_target : (rights : Rights) (target : TargetState) (item : List ℕ) → AreBy
 by_target rights target item fits =
     all_if (has_accepted_size target item) _ _
     (all_if (is_held target.held (sequence_count_of item)) _ _ tt
-    (by_rights rights (max_reply_size target) (message_of item) (AreBytes-drop 2 item fits))) tt
+    (all_if (is_refused rights (message_of item)) _ _ tt (AreBytes-drop 2 item fits, tt))) tt
 
 by_connection : (rights : Rights) (item : List ℕ) (o : Option Connection) → AreBytes item
     → AllOfBytes (requests_by_connection rights item o)
@@ -205,7 +199,8 @@ in_unit : (shared : Shared) (session : Session) (body : Result (ℕ × List ℕ)
     → ((made : ℕ × List ℕ) → body ≡ Ok made → AreBytes made.1) → AllOfBytes (requests_in_unit shared session body)
 in_unit shared session (Err fault) fits = tt
 in_unit shared session (Ok (id, item)) fits =
-    by_connection session.rights item (find (is_named session.handle id) shared.manager.connections) (fits (id, item) refl)
+    by_connection session.rights item (find (is_named session.handle id) shared.manager.connections)
+    (fits (id, item) refl)
 
 by_command : (shared : Shared) (session : Session) (f : Frame) (command : Option Command) → AreBytes f.body
     → AllOfBytes (requests_by_command shared session f command)

@@ -16,12 +16,19 @@ pub struct LedgerStart {
     pub life: u64,
 }
 
-/// What an adapter is made from: the configuration of its objects, its ledger, its limits, and the share of each group.
-/// The objects accept their configuration.
+/// What an adapter is made from: the configuration of its objects, its ledger, and its limits. The objects accept their
+/// configuration.
 ///
 /// ```
-/// let shares = Shares::NONE;
-/// let start = AdapterStart { objects, ledger: None, begins_life: false, listen, limits, shares, idle_timeout: 60_000_000 };
+/// let start = AdapterStart {
+///     objects,
+///     ledger: None,
+///     begins_life: false,
+///     listen,
+///     limits,
+///     shares: Shares::NONE,
+///     idle_timeout: 60_000_000,
+/// };
 /// let mut server = Server::<KeptPeers<TcpWire, AdapterStart>, Rows>::start(alloc, keeper, &start)?;
 /// ```
 #[derive(Debug, Drop)]
@@ -36,7 +43,7 @@ pub struct AdapterStart {
     pub listen: Listen,
     /// The capacity, and the first numbers that are assigned.
     pub limits: Limits,
-    /// How many of the peers and of the connections one group may have.
+    /// How much of the adapter one group of peers may hold.
     pub shares: Shares,
     /// For how long a peer may send nothing, in microseconds.
     pub idle_timeout: u64,
@@ -49,4 +56,8 @@ pub struct AdapterStart {
     ghost connections_to: { limits.connections ≤ 64 },
     ghost handle: { 1 ≤ limits.first_handle },
     ghost id: { 1 ≤ limits.first_id },
+    ghost share_from: { 1 ≤ shares.peers },
+    ghost share_to: { shares.peers ≤ 16 },
+    ghost connection_share_from: { 1 ≤ shares.connections },
+    ghost connection_share_to: { shares.connections ≤ 64 },
 }

@@ -121,7 +121,14 @@ impl AdapterStart {
         } else {
             self.new_ledger(alloc)?
         };
-        Adapter::shared(alloc, objects, ledger, self.listen, self.limits, self.shares)
+        Adapter::shared(
+            alloc,
+            objects,
+            ledger,
+            self.listen,
+            self.limits,
+            self.shares,
+        )
     }
 }
 

@@ -1,4 +1,4 @@
-use Rattle.std.proofs.Common.{length, take, ap, sym, ◌∙◌, arith}
+use Rattle.std.proofs.Common.{length, ap, sym, ◌∙◌, arith}
 use Rattle.std.specs.Prelude.{filter}
 use Rattle.std.proofs.lemmas.List.{take_all}
 use Rattle.enip_adapter.proofs.MapLemmas.{is_at_group, slots_of_group, at_most}
