@@ -117,7 +117,8 @@ enum {
     ENIP_CONFIG_OBJECT = 10,    /* an application object: its class, instance or name, or more than 32 objects */
     ENIP_CONFIG_ATTRIBUTE = 11, /* an attribute of one: its number, type, value, range or size, or more than 32 */
     ENIP_CONFIG_SERVICE = 12,   /* a service of one: its number or sizes, or more than 16 */
-    ENIP_CONFIG_ORDER = 13      /* enip_adapter_new_kept: the assemblies or the objects are not in rising order */
+    ENIP_CONFIG_ORDER = 13,     /* enip_adapter_new_kept: the assemblies or the objects are not in rising order */
+    ENIP_CONFIG_ACCESS = 14     /* a list of the table access is not one (check 13 of the page) */
 };
 
 /* Why enip_adapter_new refuses a configuration, and enip_adapter_new_kept a configuration or a saved state. */

@@ -252,6 +252,8 @@ static void others(void) {
             ENIP_SAVED_STATE, ENIP_SAVED_DEVICE, another);
     refused("a configuration", IDENTITY("4660", "7", "1") "colour = 1\n" REST, state, state_size, ENIP_CONFIGURATION,
             ENIP_CONFIG_KEY, NULL);
+    refused("a list of addresses", IDENTITY("4660", "7", "1") REST "[access]\nread = [\"10.0.0.5/8\"]\n", state, state_size,
+            ENIP_CONFIGURATION, ENIP_CONFIG_ACCESS, NULL);
     refused("a falling order",
             IDENTITY("4660", "7", "1") REST LEDGER DATA "[[assembly]]\ninstance = 99\nmembers = [4]\n", NULL, 0, ENIP_CONFIGURATION, ENIP_CONFIG_ORDER,
             "the assemblies or the objects are not configured in rising order");

@@ -2,10 +2,10 @@
 import struct
 
 from reading.protocol import (
-    CONNECTED_ADDRESS, CONNECTED_DATA, IDENTITY, LAST, LIST_IDENTITY, LIST_INTERFACES, LIST_SERVICES, NOP,
+    CONNECTED_ADDRESS, CONNECTED_DATA, IDENTITY, LAST, LIST_IDENTITY, LIST_INTERFACES, LIST_SERVICES, MOST_PEERS, NOP,
     NULL_ADDRESS, REGISTER, ROOM, SEND_RR_DATA, SEND_UNIT_DATA, UNCONNECTED_DATA, UNREGISTER, number, to_manager,
 )
-from reading.ledger import Device
+from reading.ledger import Device, Readable
 from reading.manager import Manager
 
 
@@ -47,9 +47,16 @@ def body_of(*items):
     return bytes(6) + number(2, len(items)) + text
 
 
+# What a peer may do.
+READ, WRITE = "read", "write"
+
+
 class Peer:
-    def __init__(self, handle):
+    """A peer: its handle, what it may do, and the group for whom the shares count. None is nobody's share."""
+
+    def __init__(self, handle, rights, group):
         self.handle, self.registered, self.closed, self.held = handle, False, False, b""
+        self.rights, self.group = rights, group
 
 
 class Adapter:
@@ -64,13 +71,16 @@ class Adapter:
         self.now = max(self.now, self.given)
         self.manager.end(lambda one: one.deadline <= self.now)
 
-    def begin(self, digit):
+    def begin(self, digit, rights=WRITE, group=None):
         """Begins a peer. Returns None, or the reason why it can't begin."""
+        own = sum(peer.group == group for peer in self.peers.values())
+        if group is not None and own >= self.config.get("per_address", MOST_PEERS):
+            return 3
         if len(self.peers) == self.config["peers"]:
             return 1
         if self.next_handle > LAST:
             return 2
-        self.peers[digit] = Peer(self.next_handle)
+        self.peers[digit] = Peer(self.next_handle, rights, group)
         self.next_handle += 1
         return None
 
@@ -82,9 +92,9 @@ class Adapter:
         peer.closed = True
         self.manager.end(lambda one: one.session == peer.handle)
 
-    def line(self, digit, piece):
+    def line(self, digit, piece, rights=WRITE, group=None):
         """The lines printed for a piece of a peer's stream. The first piece begins the peer."""
-        full = self.begin(digit) if digit not in self.peers else None
+        full = self.begin(digit, rights, group) if digit not in self.peers else None
         if full is not None:
             return ["%d full %d" % (digit, full)]
         peer = self.peers[digit]
@@ -153,21 +163,28 @@ class Adapter:
         peer.registered = True
         return 0, b"\x01\x00\x00\x00", peer.handle
 
+    def peer_of(self, session):
+        return next(peer for peer in self.peers.values() if peer.handle == session)
+
+    def device_of(self, session):
+        """The device as the peer with this session sees it."""
+        return self.device if self.peer_of(session).rights == WRITE else Readable(self.device)
+
     def unconnected(self, session, data):
         message = message_of(data)
         if message is None or len(message) < 2:
             return 0x03, b"", session
         if to_manager(message):
-            reply = self.manager.execute(self.now, session, message)
+            reply = self.manager.execute(self.now, session, message, self.peer_of(session).group)
         else:
-            reply = self.device.execute(message, ROOM)
+            reply = self.device_of(session).execute(message, ROOM)
         return 0, body_of((NULL_ADDRESS, b""), (UNCONNECTED_DATA, reply)), session
 
     def connected(self, session, data):
         found = connected_of(data)
         for one in self.manager.connections if found else []:
             if (one.session, one.o_t_id) == (session, found[0]):
-                item = one.item(self.device, self.now, found[1])
+                item = one.item(self.device_of(session), self.now, found[1])
                 address = CONNECTED_ADDRESS, number(4, one.t_o_id)
                 return item and (0, body_of(address, (CONNECTED_DATA, item)), session)
         return None

@@ -5,7 +5,8 @@ from dataclasses import dataclass
 
 from reading.protocol import (
     ATTRIBUTE, CONNECTION_MANAGER, DESTINATION, DO_ONCE, FORGET, GET, GET_LAST, GET_LIST, LEDGER, LIST, LONG,
-    NOT_NEW, NO_SLOT, OTHER_LIFE, SERVICE, SHORT, TOO_LARGE, UNKNOWN_ORIGINATOR, class_of, number, request_of,
+    NOT_NEW, NO_SLOT, OTHER_LIFE, PRIVILEGE_VIOLATION, SERVICE, SHORT, TOO_LARGE, UNKNOWN_ORIGINATOR, class_of,
+    is_change, number, request_of,
 )
 from reading.objects import Objects, listed
 
@@ -140,3 +141,15 @@ class Device:
             return self.objects.execute(request, room)
         self.reached["no ledger"] += not self.ledger
         return (self.ledger or self.objects).execute(request, room)
+
+
+class Readable:
+    """A device as a reader sees it: what could change something is refused before anything else of it is looked at."""
+
+    def __init__(self, device):
+        self.device = device
+
+    def execute(self, request, room):
+        if is_change(request):
+            return bytes([request[0] | 0x80, 0, PRIVILEGE_VIOLATION, 0])
+        return self.device.execute(request, room)

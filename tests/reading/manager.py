@@ -3,14 +3,15 @@ import struct
 from dataclasses import dataclass
 
 from reading.protocol import (
-    CONNECTION_FAILURE, FORWARD_CLOSE, FORWARD_OPEN, LARGE_FORWARD_OPEN, LARGEST_SIZE, LAST, LAST_MOMENT, SHORT,
-    TEN_SECONDS, check, check_length, number, path_of, Refusal, request_of,
+    CONNECTION_FAILURE, FORWARD_CLOSE, FORWARD_OPEN, LARGE_FORWARD_OPEN, LARGEST_SIZE, LAST, LAST_MOMENT,
+    MOST_CONNECTIONS, SHORT, TEN_SECONDS, check, check_length, number, path_of, Refusal, request_of,
 )
 
 
 @dataclass
 class Connection:
-    """An open class 3 connection: its session, IDs, numbers, sizes and times, and the count and reply that are kept."""
+    """An open class 3 connection: its session, IDs, numbers, sizes and times, the count and reply that are kept, and the
+    group of the peer that opened it."""
 
     session: int
     o_t_id: int
@@ -22,6 +23,7 @@ class Connection:
     deadline: int
     count: bytes = b""
     reply: bytes = b""
+    group: object = None
 
     def item(self, device, now, item):
         """The count and reply that answer an item, or None if it is dropped."""
@@ -69,20 +71,23 @@ class Manager:
     def end(self, ends):
         self.connections = [one for one in self.connections if not ends(one)]
 
-    def execute(self, now, session, request):
-        """The reply to an opening or a closing."""
+    def execute(self, now, session, request, group=None):
+        """The reply to an opening or a closing of a peer of a group."""
         service, _, data = request_of(request)
         closes, layout = service == FORWARD_CLOSE, LAYOUTS.get(service)
         numbers = data[2:10] if closes else data[10:18]
         try:
-            reply = self.close(session, numbers, data) if closes else self.open(now, session, numbers, data, layout)
+            if closes:
+                reply = self.close(session, numbers, data)
+            else:
+                reply = self.open(now, session, numbers, data, layout, group)
         except Refusal as refusal:
             status, *extended = refusal.args
             reply = bytes([service | 0x80, 0, status, len(extended)]) + b"".join(number(2, one) for one in extended)
             return reply + (numbers + bytes(2) if status == CONNECTION_FAILURE else b"")
         return bytes([service | 0x80, 0, 0, 0]) + reply
 
-    def open(self, now, session, numbers, data, layout):
+    def open(self, now, session, numbers, data, layout, group):
         check(len(data) >= layout.before_path, SHORT)
         check_length(data, layout.before_path + 2 * data[layout.before_path - 1])
         t_o_id, multiplier, transport = int.from_bytes(data[6:10], "little"), data[18], data[layout.before_path - 2]
@@ -97,10 +102,14 @@ class Manager:
         check(all(one.numbers != numbers for one in self.connections), CONNECTION_FAILURE, 0x0100)
         free = len(self.connections) < self.config["connections"]
         check(free and self.next_id <= LAST, CONNECTION_FAILURE, 0x0113)
+        own = sum(one.group == group for one in self.connections)
+        share = self.config.get("connections_per_address", MOST_CONNECTIONS)
+        check(group is None or own < share, CONNECTION_FAILURE, 0x0113)
         o_t_id, time = self.next_id, o_t_interval * 4 * 2**multiplier
         deadline = min(now + max(time, TEN_SECONDS), LAST_MOMENT)
         self.next_id += 1
-        self.connections.append(Connection(session, o_t_id, t_o_id, numbers, o_t_size, t_o_size, time, deadline))
+        opened = Connection(session, o_t_id, t_o_id, numbers, o_t_size, t_o_size, time, deadline, group=group)
+        self.connections.append(opened)
         intervals = number(4, o_t_interval) + number(4, t_o_interval)
         return number(4, o_t_id) + number(4, t_o_id) + numbers + intervals + bytes(2)
 

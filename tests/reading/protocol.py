@@ -10,6 +10,11 @@ NO_SLOT, NOT_NEW, OTHER_LIFE, UNKNOWN_ORIGINATOR = 0x02, 0x0C, 0x10, 0x16
 CONNECTION_FAILURE = 0x01
 # There is no owner to execute a request, or to decide on it.
 DEVICE_STATE = 0x10
+# What a reader is refused: the sets of the standard and Reset, and the services that a vendor or a class defines.
+PRIVILEGE_VIOLATION = 0x0F
+CHANGES, FIRST_OWN, LAST_OWN = (0x02, 0x04, 0x05, SET, SET_MEMBER), 0x32, 0x63
+# The shares that limit nothing.
+MOST_PEERS, MOST_CONNECTIONS = 16, 64
 NOP, LIST_SERVICES, LIST_IDENTITY, LIST_INTERFACES = 0x0000, 0x0004, 0x0063, 0x0064
 REGISTER, UNREGISTER, SEND_RR_DATA, SEND_UNIT_DATA = 0x0065, 0x0066, 0x006F, 0x0070
 NULL_ADDRESS, CONNECTED_ADDRESS, CONNECTED_DATA, UNCONNECTED_DATA = 0x0000, 0x00A1, 0x00B1, 0x00B2
@@ -87,6 +92,13 @@ def class_of(request):
     """The class that the path of a request names, or None if the path can't be read."""
     path = path_read(request)
     return path and path["class"]
+
+
+def is_change(request):
+    """Whether a request could change something, by its service. The last command of the ledger is only read."""
+    if request[0] == GET_LAST and class_of(request) == LEDGER:
+        return False
+    return request[0] in CHANGES or FIRST_OWN <= request[0] <= LAST_OWN
 
 
 def to_manager(request):

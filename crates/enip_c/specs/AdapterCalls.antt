@@ -14,6 +14,7 @@ use Rattle.enip_adapter.specs.Discovery.{discovered}
 use Rattle.enip_adapter.specs.Turn.{Output, Answer}
 use Rattle.enip_adapter.specs.Turn.Output.{NoReply, Sends, Begins, Refuses}
 use Rattle.enip_config.specs.declared.fault.ConfigurationRefusal.{ConfigurationRefusal}
+use Rattle.enip_config.specs.declared.fault.ConfigurationRefusal.TheVariants as refused
 use Rattle.enip_config.specs.Configured.{IsAdapterOf}
 use Rattle.enip_config.specs.Refusals.{refusal_number}
 use Rattle.enip_config.specs.Documents.{IsRefused}
@@ -86,9 +87,14 @@ abbrev pub IsBegunKept : Option AdapterState → ℕ → ℕ → ℕ → Type 0
 IsBegunKept None old new result = ⊥
 IsBegunKept (Some a) old new result = IsBegun (call_answer a (Begins_peer Write None)).output old new result
 
+-- The number of a check in C. 13 is that of ENIP_CONFIG_ORDER.
+abbrev pub check_number : ConfigurationRefusal → ℕ
+check_number refused.Access = 14
+check_number refusal = refusal_number refusal
+
 -- The check with this number refuses the text.
 abbrev pub IsRefusedBy : List ℕ → ℕ → Type 0
-IsRefusedBy text number = (refusal : ConfigurationRefusal) × ((number ≡ refusal_number refusal) × IsRefused text refusal)
+IsRefusedBy text number = (refusal : ConfigurationRefusal) × ((number ≡ check_number refusal) × IsRefused text refusal)
 
 -- The status of making an adapter: the configuration is refused, or as for any object.
 abbrev pub IsAdapterStatus : ℕ → Type 0

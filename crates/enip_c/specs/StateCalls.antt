@@ -13,7 +13,7 @@ use Rattle.enip_config.specs.declared.ledger.LedgerConfig.{LedgerConfig}
 use Rattle.enip_adapter.specs.Groups.{no_shares}
 use Rattle.enip_config.specs.Configured.{listen_of, limits_of}
 use Rattle.enip_config.specs.Documents.{IsDescribed, IsRefused}
-use Rattle.enip_config.specs.Refusals.{refusal_number}
+use Rattle.enip_c.specs.AdapterCalls.{check_number}
 use Rattle.kept_adapter.specs.declared.adapter_start.AdapterStart.{AdapterStart}
 use Rattle.kept_adapter.specs.declared.adapter_start.LedgerStart.{LedgerStart}
 use Rattle.saved_adapter.specs.declared.starting.RestoreFault.{RestoreFault}
@@ -166,7 +166,7 @@ refusal_with number version = record { number = number; version = version }
 
 abbrev pub kept_refusal : KeptFault → CRefusal
 kept_refusal kept_fault.Memory = refusal_with 0 0
-kept_refusal (kept_fault.Configuration refusal) = refusal_with (refusal_number refusal) 0
+kept_refusal (kept_fault.Configuration refusal) = refusal_with (check_number refusal) 0
 kept_refusal (kept_fault.State why) = refusal_with (fault_number why) (fault_version why)
 
 -- When each fault comes: the configuration is checked first.

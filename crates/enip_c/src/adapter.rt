@@ -10,7 +10,7 @@ ghost use Rattle.enip_config.specs.Configured.{IsAdapterOf};
 ghost use Rattle.enip_config.specs.Documents.{IsFaultOf};
 ghost use Rattle.enip_c.specs.AdapterCalls.{IsFed, IsFedKept, IsBegun, IsBegunKept, IsRefusedBy, no_reply_reason_number, fed_of, answer_bytes};
 ghost use Rattle.enip_c.specs.AdapterCalls.{bool_number, full_status, AreFreeKept, deadline_kept, attribute_kept, discovered_kept};
-ghost use Rattle.enip_c.specs.AdapterCalls.{IsAdapterStatus};
+ghost use Rattle.enip_c.specs.AdapterCalls.{IsAdapterStatus, check_number};
 ghost use Rattle.enip_c.specs.Kept.{IsLive};
 ghost use Rattle.cip_objects.specs.Contents.{value_at};
 ghost use Rattle.enip_c.specs.Buffer.{status_number, in_buffer, returned_bytes, ReturnsNumber};
@@ -19,7 +19,7 @@ use crate::adapter_pointer::KeptAdapter;
 use crate::buffer::{copy_front, return_bytes};
 use crate::status::Status;
 use enip_adapter::{Adapter, DiscoveryBuffer, Full, LONGEST_ANSWER, NoReplyReason, Peer};
-use enip_config::{LoadFault, adapter_from};
+use enip_config::{ConfigurationRefusal, LoadFault, adapter_from};
 use std::alloc::Global;
 
 /// The result of a feed: `enip_fed` of `enip.h`.
@@ -34,6 +34,16 @@ pub struct Fed {
     pub no_reply_reason: u32,
     /// 1 if the peer is closed or unknown, otherwise 0.
     pub close: u32,
+}
+
+/// The number of a check in C. The lists of the table `access` have 14, since 13 is the number of `ENIP_CONFIG_ORDER`.
+pub(crate) fn check_number(refusal: ConfigurationRefusal) -> u32
+    ensures { result ≡ check_number refusal }
+{
+    match refusal {
+        ConfigurationRefusal::Access => 14,
+        _ => u32::from(refusal.number()),
+    }
 }
 
 /// Makes an adapter from the text of a configuration. Allocates all the memory that it will ever need.
@@ -55,7 +65,7 @@ pub extern "C" fn enip_core_adapter_new(
             Status::Done.number()
         }
         Err(LoadFault::Refused(why)) => {
-            *refusal = u32::from(why.number());
+            *refusal = check_number(why);
             Status::Configuration.number()
         }
         Err(LoadFault::Memory) => Status::Memory.number(),

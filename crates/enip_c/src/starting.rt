@@ -8,6 +8,7 @@ ghost use Rattle.enip_c.specs.Buffer.{status_number};
 ghost use Rattle.enip_c.specs.StateCalls.{IsKeptAdapterOf, IsKeptFault, IsKeptOutcome, IsStartOf, ledger_start};
 ghost use Rattle.enip_c.specs.StateCalls.{kept_refusal, kept_status, fault_number, fault_version};
 
+use crate::adapter::check_number;
 use crate::adapter_pointer::KeptAdapter;
 use crate::status::Status;
 use enip_adapter::{Adapter, Limits, Listen, Shares};
@@ -175,7 +176,7 @@ fn refusal_of(fault: KeptFault) -> CRefusal
             version: 0,
         },
         KeptFault::Configuration(refusal) => CRefusal {
-            number: u32::from(refusal.number()),
+            number: check_number(refusal),
             version: 0,
         },
         KeptFault::State(why) => CRefusal {

@@ -4,12 +4,13 @@
 //! than 80 columns.
 
 use crate::option_texts::{
-    ABANDON_DETAILS, ACCEPT_OLDER_DETAILS, CALLED_TYPE_DETAILS, CONNECTION_SERIAL_DETAILS,
-    COUNT_DETAILS, DATA_DETAILS, DEADLINE_DETAILS, EVERY_DETAILS, KEEP_DETAILS, KEPT_FILE_DETAILS,
-    MEMBER_DETAILS, MULTIPLIER_DETAILS, ONCE_DETAILS, ORIGINATOR_SERIAL_DETAILS, PENDING_DETAILS,
-    PRINTED_TYPE_DETAILS, QUIET_DETAILS, READ_MULTIPLIER_DETAILS, READ_TRIES_DETAILS,
-    REPLY_TYPE_DETAILS, ROUTE_DETAILS, RPI_DETAILS, SERVED_ADDRESS_DETAILS,
-    SESSION_MULTIPLIER_DETAILS, SIZE_DETAILS, TRIES_DETAILS, WAIT_DETAILS, WRITTEN_TYPE_DETAILS,
+    ABANDON_DETAILS, ACCEPT_OLDER_DETAILS, CALLED_TYPE_DETAILS, CLIENT_ADDRESS_DETAILS,
+    CONNECTION_SERIAL_DETAILS, COUNT_DETAILS, DATA_DETAILS, DEADLINE_DETAILS, EVERY_DETAILS,
+    KEEP_DETAILS, KEPT_FILE_DETAILS, MEMBER_DETAILS, MULTIPLIER_DETAILS, ONCE_DETAILS,
+    ORIGINATOR_SERIAL_DETAILS, PENDING_DETAILS, PRINTED_TYPE_DETAILS, QUIET_DETAILS,
+    READ_MULTIPLIER_DETAILS, READ_TRIES_DETAILS, REPLY_TYPE_DETAILS, ROUTE_DETAILS, RPI_DETAILS,
+    SERVED_ADDRESS_DETAILS, SESSION_MULTIPLIER_DETAILS, SIZE_DETAILS, TRIES_DETAILS, WAIT_DETAILS,
+    WRITTEN_TYPE_DETAILS,
 };
 use clap::{Arg, ArgAction};
 use std::alloc::{AllocError, Global};
@@ -21,6 +22,7 @@ pub(crate) enum Argument {
     CheckedConfig,
     Example,
     ServedAddress,
+    ClientAddress,
     Script,
     Ladder,
     ListenAddress,
@@ -99,6 +101,7 @@ impl Argument {
             Argument::CheckedConfig => config(alloc).required_unless_present("example")?,
             Argument::Example => example(alloc)?,
             Argument::ServedAddress => served_address(alloc),
+            Argument::ClientAddress => client_address(alloc),
             Argument::Script => script(alloc),
             Argument::Ladder => ladder(alloc),
             Argument::ListenAddress => listen_address(alloc),
@@ -181,7 +184,8 @@ fn example<'a>(alloc: Global) -> Result<Arg<'a>, AllocError> {
         .help("Print a configuration with every key, with comments")
         .conflicts_with("CONFIG")?
         .conflicts_with("keep")?
-        .conflicts_with("address")
+        .conflicts_with("address")?
+        .conflicts_with("from")
 }
 
 fn served_address<'a>(alloc: Global) -> Arg<'a> {
@@ -190,6 +194,14 @@ fn served_address<'a>(alloc: Global) -> Arg<'a> {
         .value_name("ADDRESS")
         .help("Warn if discovery reports another address")
         .long_help(SERVED_ADDRESS_DETAILS)
+}
+
+fn client_address<'a>(alloc: Global) -> Arg<'a> {
+    Arg::new(alloc, "from")
+        .long("from")
+        .value_name("ADDRESS")
+        .help("Also print what a client of this address may do")
+        .long_help(CLIENT_ADDRESS_DETAILS)
 }
 
 fn script<'a>(alloc: Global) -> Arg<'a> {

@@ -73,6 +73,7 @@ pub(crate) static COMMANDS: [Row; 16] = [
             Argument::CheckedConfig,
             Argument::KeptFile,
             Argument::ServedAddress,
+            Argument::ClientAddress,
             Argument::Example,
         ],
     },

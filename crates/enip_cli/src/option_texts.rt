@@ -4,6 +4,11 @@ pub(crate) const SERVED_ADDRESS_DETAILS: &str = "\
 Address at which the device will be served. Standard error has a
 warning if discovery reports another address or port";
 
+pub(crate) const CLIENT_ADDRESS_DETAILS: &str = "\
+Also print what a client of this IPv4 or IPv6 address may do, by the
+table `access` of the configuration: read and write, read, or not
+connect";
+
 pub(crate) const ROUTE_DETAILS: &str = "\
 Hops to a device behind routers, such as 1/0,2/10.0.0.7: ADDRESS is
 the first router, and each hop is PORT/LINK, a port of a router and

@@ -43,11 +43,12 @@ pub(crate) const EXAMPLES_CHECK: &str = "\
 Examples:
   enip check --example >device.toml
   enip check demo.toml
+  enip check demo.toml --from 10.0.0.5
   enip check demo.toml && enip serve demo.toml 127.0.0.1";
 
 pub(crate) const DETAILS_CHECK: &str = "\
 Prints the identity, the counter, each assembly with the sizes of its members,
-and the limits:
+the limits, and who may read and who may write if the configuration says so:
 
   vendor 4660
   device type 43
@@ -69,6 +70,7 @@ is, and `configuration N`. `enip --help` lists the meanings of N.
 Examples:
   enip check --example >device.toml
   enip check demo.toml
+  enip check demo.toml --from 10.0.0.5
   enip check demo.toml && enip serve demo.toml 127.0.0.1
 
 For exit statuses, see `enip --help`.";

@@ -4,21 +4,29 @@ use cip_application::{AttributeConfig, AttributeKind, NumberRange, ObjectConfig,
 use cip_names::{ClassText, ServiceText};
 use cip_objects::{AssemblyConfig, Config};
 use cip_values::{ElementaryType, ValueType, ValuesText, read_values};
+use enip_access::{Access, Permission, PrefixList, address_number};
 use enip_config::{AttributeType, Configuration, LedgerConfig};
 use std::alloc::Global;
 use std::io::{self, BufWriter, Write};
+use std::net::IpAddr;
 
-/// Prints the device that a configuration describes: its identity, its objects, and its limits.
+/// Prints the device that a configuration describes: its identity, its objects, its limits, and who may do what. Then
+/// what this client may do, if there is one.
 pub(crate) fn print_device<W: Write + Drop>(
     alloc: Global,
     configuration: &Configuration,
+    client: Option<IpAddr>,
     output: W,
 ) -> io::Result<()> {
     let mut output = BufWriter::new(alloc, output)?;
-    print_lines(alloc, &mut output, configuration)
+    print_lines(alloc, &mut output, configuration)?;
+    if let Some(client) = client {
+        print_permission(&mut output, configuration, client)?;
+    }
+    output.flush()
 }
 
-/// Prints all lines, and flushes the output.
+/// Prints all lines of a device.
 fn print_lines<W: Write>(
     alloc: Global,
     output: &mut W,
@@ -37,7 +45,10 @@ fn print_lines<W: Write>(
         print_ledger(output, ledger)?;
     }
     print_limits(output, configuration)?;
-    output.flush()
+    match &configuration.access {
+        Some(access) => print_access(output, access),
+        None => Ok(()),
+    }
 }
 
 /// Prints the Identity object. (Volume 1, Identity.)
@@ -91,6 +102,57 @@ fn print_limits<W: Write>(output: &mut W, configuration: &Configuration) -> io::
         output,
         "first session handle {handle}, first connection ID {id}"
     )
+}
+
+/// Prints who may connect, who may write, and how much one address may take.
+fn print_access<W: Write>(output: &mut W, access: &Access) -> io::Result<()> {
+    print_list(output, "may connect", "everybody", &access.read)?;
+    print_list(output, "may write", "whoever may connect", &access.write)?;
+    if let Some(share) = access.per_address {
+        writeln!(output, "up to {share} peers of one address")?;
+    }
+    if let Some(share) = access.connections_per_address {
+        writeln!(output, "up to {share} connections of one address")?;
+    }
+    Ok(())
+}
+
+/// Prints the rules of a list, or who has this permission if the list is left out.
+fn print_list<W: Write>(
+    output: &mut W,
+    permission: &str,
+    left_out: &str,
+    list: &Option<PrefixList>,
+) -> io::Result<()> {
+    write!(output, "{permission}:")?;
+    match list {
+        None => write!(output, " {left_out}")?,
+        Some(rules) if rules.is_empty() => write!(output, " nobody")?,
+        Some(rules) => {
+            for rule in rules.as_slice() {
+                write!(output, " {rule}")?;
+            }
+        }
+    }
+    writeln!(output)
+}
+
+/// Prints what a client of this address may do.
+fn print_permission<W: Write>(
+    output: &mut W,
+    configuration: &Configuration,
+    client: IpAddr,
+) -> io::Result<()> {
+    let permission = match &configuration.access {
+        Some(access) => access.permission_of(address_number(client)),
+        None => Some(Permission::Write),
+    };
+    let text = match permission {
+        Some(Permission::Write) => "may read and write",
+        Some(Permission::Read) => "may read",
+        None => "may not connect",
+    };
+    writeln!(output, "{client} {text}")
 }
 
 /// Prints an assembly: its instance, whether it can be set, its size, and the sizes of its members. (Volume 1,

@@ -12,6 +12,7 @@ use answer::answer;
 use checking::print_device;
 use clap::ArgMatches;
 use clap::error::ErrorKind;
+use enip_access::parse_address;
 use enip_adapter::Listen;
 use enip_cli::{OsArg, PROGRAM, arguments_after, os_args, program, reserve_streams};
 use enip_client::ListCommand;
@@ -29,6 +30,7 @@ use replay::{draw, replay};
 use report::Reported;
 use shells::{Page, run_page};
 use show::show;
+use std::net::IpAddr;
 use std::process::ExitCode;
 
 /// Runs the command in the arguments. Returns the exit status.
@@ -162,11 +164,15 @@ fn run_check<'a>(
         print!(rt; "{EXAMPLE}").map_err(|error| CommandError::of_system(OUTPUT, error))?;
         return Ok(0);
     }
+    let client = match client_address(matches) {
+        Ok(client) => client,
+        Err(error) => return Ok(print_argument_error(rt, error)),
+    };
     let config = NamedFile::read_config(rt, args, matches)?;
     let configuration = config.configuration(rt.alloc())?;
-    print_device(rt.alloc(), &configuration, rt.stdout()).map_err(|error| CommandError::of_system(
-        OUTPUT, error,
-    ))?;
+    print_device(rt.alloc(), &configuration, client, rt.stdout()).map_err(|error| {
+        CommandError::of_system(OUTPUT, error)
+    })?;
     if let Some(address) = matches.get_str("address") {
         let listen = Listen {
             address: configuration.address,
@@ -178,6 +184,17 @@ fn run_check<'a>(
         print_kept_values(rt, args, &config, file)?;
     }
     Ok(0)
+}
+
+/// The address of a client that `--from` gives, if there is one.
+fn client_address<'a>(matches: &ArgMatches<'a>) -> Result<Option<IpAddr>, ArgumentError<'a>> {
+    let Some(text) = matches.get_str("from") else {
+        return Ok(None);
+    };
+    match parse_address(text.as_bytes()) {
+        Some(address) => Ok(Some(address)),
+        None => Err(ArgumentError::From(text)),
+    }
 }
 
 /// Parses the command line, and runs its command. Returns the exit status.

@@ -34,6 +34,9 @@ pub enum ArgumentError<'a> {
     /// The text for the argument of this usage is neither a number nor a name of these.
     #[error("invalid value '{1}' for '{0}'\n  [{2}]")]
     Name(&'static str, &'a str, Choices),
+    /// The value of `--from` is not an address.
+    #[error("invalid value '{0}' for '--from <ADDRESS>'\n  [an IPv4 or IPv6 address, such as 10.0.0.5 or fd00::5]")]
+    From(&'a str),
     /// HEX has a second argument.
     #[error("unexpected argument '{0}' found\n  [HEX is one argument, unless '--as <TYPE>' is used]")]
     ExtraHex(&'a str),

@@ -39,7 +39,7 @@ unread_in key described table r (Ok n) found same bad = tt
 unread_in key described table r (Err fault) found same bad = unread_number key described fault (bad.0, rw found (rw (sym same) bad.1))
 
 -- A number that was read is in range.
-in_numbers : (least greatest : ℕ) (d : Data) (n : ℕ) → number_in least greatest d ≡ Some n → (least ≤ n) × (n ≤ greatest)
+pub in_numbers : (least greatest : ℕ) (d : Data) (n : ℕ) → number_in least greatest d ≡ Some n → (least ≤ n) × (n ≤ greatest)
 in_numbers least greatest d n is = search (rules, is)
 
 abbrev IsWithin : ℕ → ℕ → ℕ → Type 0

@@ -1,5 +1,5 @@
 -- What a configuration says, and why one is refused: the first check that fails, in the order 7, 9, 8, 1 to 5, 10
--- to 12.
+-- to 13.
 use Rattle.std.specs.Prelude.{◌≡◌, ◌≤◌, ◌⊎◌, ⊤, ℕ, List, Bool, true, false, Option, Some, None, IfSome, option_map, map, string_bytes}
 use Rattle.std.specs.Prelude.{IsUtf8}
 use Rattle.std.specs.Option.{IsSomeAnd}
@@ -11,7 +11,7 @@ use Rattle.enip_config.specs.declared.configuration.Configuration.{Configuration
 use Rattle.enip_config.specs.declared.fault.LoadFault.{LoadFault}
 use Rattle.enip_config.specs.declared.fault.LoadFault.TheVariants.{Refused, Memory}
 use Rattle.enip_config.specs.declared.fault.ConfigurationRefusal.{ConfigurationRefusal}
-use Rattle.enip_config.specs.declared.fault.ConfigurationRefusal.TheVariants.{NotToml, BadValue, UnknownKey}
+use Rattle.enip_config.specs.declared.fault.ConfigurationRefusal.TheVariants.{NotToml, BadValue, UnknownKey, Access}
 use Rattle.enip_config.specs.declared.key.NumberKey.{NumberKey}
 use Rattle.enip_config.specs.declared.key.NumberKey.TheVariants.{Vendor, DeviceType, ProductCode, Major, Minor, Serial}
 use Rattle.enip_config.specs.declared.key.NumberKey.TheVariants.{Status, State, Port, Peers, Connections, FirstHandle}
@@ -24,6 +24,7 @@ use Rattle.enip_config.specs.Keys.{counter_enabled}
 use Rattle.enip_config.specs.Objects.{objects_of, object_seen}
 use Rattle.enip_config.specs.ObjectTypes.{types_of, types_seen}
 use Rattle.enip_config.specs.Refusals.{fault_of_objects}
+use Rattle.enip_config.specs.Access.{shares_of, shares_seen, lists_of, lists_seen, HasShares}
 
 -- the number that a configuration has for a key
 abbrev pub number_in : Configuration → NumberKey → ℕ
@@ -51,7 +52,7 @@ assembly_seen assembly = (assembly.instance, (assembly.settable, assembly.member
 abbrev pub ledger_seen : LedgerConfig → ℕ × ℕ
 ledger_seen ledger = (ledger.originators, ledger.life)
 
--- the configuration has the value of each key
+-- the configuration has the value of each key, without the lists of the table `access`
 pub record HasValues (described : Members) (c : Configuration) : Type 0 where
   pub numbers : (key : NumberKey) → number_of key described ≡ Some (number_in c key)
   pub name : name_of described ≡ Some (string_bytes c.objects.name)
@@ -60,6 +61,7 @@ pub record HasValues (described : Members) (c : Configuration) : Type 0 where
   pub ledger : ledger_of described ≡ Some (option_map ledger_seen c.ledger)
   pub enabled : counter_enabled described ≡ Some c.objects.counter.enabled
   pub objects : objects_of described ≡ Some (map object_seen c.objects.objects.items)
+  pub shares : shares_of described ≡ Some (option_map shares_seen c.access)
   pub types : map types_seen c.attribute_types.items ≡ types_of described
 
 -- a required value is missing, or a value has another type or is out of range
@@ -67,7 +69,8 @@ abbrev pub HasBadValue : Members → Type 0
 HasBadValue described =
     ((key : NumberKey) × (number_of key described ≡ None))
     ⊎ ((name_of described ≡ None) ⊎ ((address_of described ≡ None) ⊎ ((assemblies_of described ≡ None)
-    ⊎ ((ledger_of described ≡ None) ⊎ ((counter_enabled described ≡ None) ⊎ (objects_of described ≡ None))))))
+    ⊎ ((ledger_of described ≡ None) ⊎ ((counter_enabled described ≡ None) ⊎ ((objects_of described ≡ None)
+    ⊎ (shares_of described ≡ None)))))))
 
 -- why a table whose keys are all known gives no configuration
 abbrev pub IsUnread : Members → LoadFault → Type 0
@@ -91,12 +94,13 @@ pub record IsKnown (bytes : List ℕ) (described : Members) : Type 0 where
   pub document : IsDocument bytes described
   pub known : has_unknown_key described ≡ false
 
--- the bytes are a configuration that the objects accept
+-- the bytes are a configuration that the objects accept, with the lists of the table `access`
 pub record IsDescribed (bytes : List ℕ) (c : Configuration) : Type 0 where
   pub described : Members
   pub known : IsKnown bytes described
   pub values : HasValues described c
   pub taken : fault_of c.objects ≡ None
+  pub lists : lists_of described ≡ Some (option_map lists_seen c.access)
 
 -- why bytes are refused
 abbrev pub IsRefused : List ℕ → ConfigurationRefusal → Type 0
@@ -106,6 +110,10 @@ IsRefused bytes NotToml = IsUtf8 bytes → parse_document bytes ≡ None
 IsRefused bytes UnknownKey = (described : Members) × (IsDocument bytes described × (has_unknown_key described ≡ true))
 -- 8: a required value is missing, or a value has another type or is out of range
 IsRefused bytes BadValue = (described : Members) × (IsKnown bytes described × HasBadValue described)
+-- 13: a list of the table `access` is not one
+IsRefused bytes Access =
+    (described : Members) × ((c : Configuration) × (IsKnown bytes described
+    × (HasValues described c × ((fault_of c.objects ≡ None) × (lists_of described ≡ None)))))
 -- 1 to 5 and 10 to 12: the first check of the objects that fails
 IsRefused bytes refusal =
     (described : Members) × ((c : Configuration) × (IsKnown bytes described
@@ -129,3 +137,7 @@ pub record HasRanges (ledger : LedgerConfig) : Type 0 where
 
 abbrev pub IsLedgerInRange : Configuration → Type 0
 IsLedgerInRange c = IfSome c.ledger HasRanges
+
+-- the shares of the table `access` are in range, if there is one
+abbrev pub AreSharesInRange : Configuration → Type 0
+AreSharesInRange c = IfSome c.access HasShares

@@ -3,7 +3,7 @@ use Rattle.std.specs.Prelude.{ℕ, List, [], ◌∷◌, ◌++◌, map, Bool, tru
 use Rattle.std.specs.List.{list_any}
 use Rattle.enip_config.specs.declared.known.TableKind.{TableKind}
 use Rattle.enip_config.specs.declared.known.TableKind.TheVariants.{Text, Counter, Assembly, Ledger, Object}
-use Rattle.enip_config.specs.declared.known.TableKind.TheVariants.{Attribute, Service}
+use Rattle.enip_config.specs.declared.known.TableKind.TheVariants.{Attribute, Service, Access}
 use Rattle.enip_config.specs.declared.key.NumberKey.{NumberKey}
 use Rattle.enip_config.specs.declared.key.NumberKey.TheVariants.{Vendor, DeviceType, ProductCode, Major, Minor, Serial}
 use Rattle.enip_config.specs.declared.key.NumberKey.TheVariants.{Status, State, Port, Peers, Connections, FirstHandle}
@@ -61,6 +61,7 @@ keys_of Text = map (λ key. (row key).name) text_numbers ++ (codes "name" ∷ co
 keys_of Counter = map (λ key. (row key).name) (CounterValue ∷ CounterLimit ∷ []) ++ (codes "enabled" ∷ [])
 keys_of Assembly = instance_row.name ∷ codes "settable" ∷ codes "members" ∷ []
 keys_of Ledger = originators_row.name ∷ life_row.name ∷ []
+keys_of Access = codes "read" ∷ codes "write" ∷ codes "per_address" ∷ codes "connections_per_address" ∷ []
 keys_of Object = class_row.name ∷ instance_row.name ∷ codes "name" ∷ []
 keys_of Attribute =
     attribute_row.name ∷ codes "type" ∷ codes "value" ∷ codes "settable" ∷ codes "checked" ∷ codes "min"
@@ -98,6 +99,7 @@ is_unknown key value =
     if bytes_eq key (codes "counter") then has_other_keys_within (keys_of Counter) value
     else if bytes_eq key (codes "assembly") then has_other_keys_within (keys_of Assembly) value
     else if bytes_eq key (codes "ledger") then has_other_keys_within (keys_of Ledger) value
+    else if bytes_eq key (codes "access") then has_other_keys_within (keys_of Access) value
     else if bytes_eq key (codes "object") then has_other_keys_in_objects value
     else not (is_among (keys_of Text) key) || has_key value
 

@@ -4,6 +4,7 @@ pub mod Objects
 pub mod ObjectTypes
 pub mod Known
 pub mod Refusals
+pub mod Access
 pub mod Documents
 pub mod Configured
 pub mod Explained

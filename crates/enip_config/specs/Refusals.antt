@@ -22,6 +22,7 @@ refusal_number refused.UnknownKey = 9
 refusal_number refused.Object = 10
 refusal_number refused.Attribute = 11
 refusal_number refused.Service = 12
+refusal_number refused.Access = 13
 
 -- the check of the objects that fails, or Memory
 abbrev pub fault_of_objects : ConfigFault → LoadFault

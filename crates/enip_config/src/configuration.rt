@@ -1,11 +1,13 @@
 //! The values of a configuration.
 //! Text: docs/PROGRAM.md, "The configuration".
 
-ghost use Rattle.std.specs.Prelude.{◌≡◌, IfOk, IfErr, None};
+ghost use Rattle.std.specs.Prelude.{◌≡◌, IfOk, IfErr, None, Some, option_map};
 ghost use Rattle.toml.specs.View.{table_view};
 ghost use Rattle.cip_objects.specs.Configuration.{fault_of};
-ghost use Rattle.enip_config.specs.Documents.{IsDescribed, IsFaultOf, IsInRange, IsLedgerInRange, IsUnread, HasValues};
+ghost use Rattle.enip_config.specs.Access.{lists_of, lists_seen, IsBadList};
+ghost use Rattle.enip_config.specs.Documents.{IsDescribed, IsFaultOf, IsInRange, IsLedgerInRange, AreSharesInRange, IsUnread, HasValues};
 
+use crate::access::{shares_of, with_lists};
 use crate::assemblies::assemblies_of;
 use crate::attribute_type::AttributeType;
 use crate::fault::{ConfigurationRefusal, LoadFault};
@@ -16,6 +18,7 @@ use crate::object_types::types_of;
 use crate::objects::objects_of;
 use crate::values::{address_of, counter_enabled, name_of, number};
 use cip_objects::{Config, CounterConfig};
+use enip_access::Access;
 use std::alloc::Global;
 use toml::Table;
 
@@ -55,6 +58,8 @@ pub struct Configuration {
     pub first_id: u32,
     /// The command ledger before the objects, if there is one.
     pub ledger: Option<LedgerConfig>,
+    /// Who may connect and who may change something, if the configuration says so. Otherwise everybody may.
+    pub access: Option<Access>,
     /// The types of the attributes of each own object, in the order of the file.
     pub attribute_types: Vec<Vec<AttributeType>>,
 }
@@ -66,11 +71,12 @@ impl Configuration {
     ///
     /// `LoadFault::Refused` with the first check that fails, in this order: `NotToml` (7); `UnknownKey` (9) if any key
     /// is unknown; `BadValue` (8) if a required key is missing, or a value has another type or is out of range; the
-    /// checks of the objects (1 to 5, 10 to 12). `LoadFault::Memory` if memory is refused.
+    /// checks of the objects (1 to 5, 10 to 12); `Access` (13). `LoadFault::Memory` if memory is refused.
     pub fn from_bytes(alloc: Global, bytes: &[u8]) -> Result<Configuration, LoadFault>
         ensures read { IfOk result (IsDescribed bytes.now) }
         ensures in_range { IfOk result IsInRange }
         ensures ledger { IfOk result IsLedgerInRange }
+        ensures shares { IfOk result AreSharesInRange }
         ensures refused { IfErr result (IsFaultOf bytes.now) }
     {
         let table = match toml::table_from_slice(alloc, bytes) {
@@ -81,11 +87,23 @@ impl Configuration {
         if has_unknown_key(&table) {
             return Err(LoadFault::Refused(ConfigurationRefusal::UnknownKey));
         }
-        let configuration = Configuration::from_table(alloc, &table)?;
-        match configuration.objects.fault() {
+        let values = Configuration::from_table(alloc, &table)?;
+        match values.objects.fault() {
             Some(check) => Err(LoadFault::from(check)),
-            None => Ok(configuration),
+            None => Ok(values.with_lists(&table)?),
         }
+    }
+
+    /// The same configuration with the lists of the table `access`.
+    fn with_lists(self, text: &Table) -> Result<Configuration, LoadFault>
+        requires { HasValues (table_view text.now) self }
+        ensures read { IfOk result (HasValues (table_view text.now)) }
+        ensures objects { IfOk result (λ c. c.objects ≡ self.objects) }
+        ensures lists { IfOk result (λ c. lists_of (table_view text.now) ≡ Some (option_map lists_seen c.access)) }
+        ensures refused { IfErr result (IsBadList (lists_of (table_view text.now))) }
+    {
+        let access = with_lists(text, self.access)?;
+        Ok(Configuration { access, ..self })
     }
 
     /// Reads the values of a table whose keys are all known.
@@ -119,6 +137,7 @@ impl Configuration {
             first_handle: number(text, NumberKey::FirstHandle)?,
             first_id: number(text, NumberKey::FirstId)?,
             ledger: ledger_of(text)?,
+            access: shares_of(text)?,
             attribute_types: types_of(alloc, text)?,
         })
     }

@@ -31,6 +31,12 @@ enabled = true               # false: the device has no counter; default true
 originators = 16             # how many clients it remembers: 1 to 64
 life = 1                     # `enip serve` uses the time of its start instead; default 1
 
+[access]                     # who may do what, by address; without it, everybody may do everything
+read = ["127.0.0.0/8", "::1"] # who may connect: up to 64 addresses and prefixes; default everybody
+write = ["127.0.0.1", "::1"] # who may also change something: the same; default whoever may connect
+per_address = 4              # how many clients of one address are served at once: 1 to 16; default no limit
+connections_per_address = 16 # how many of its connections are open at once: 1 to 64; default no limit
+
 [[assembly]]                 # class 4, one table for each assembly, up to 16
 instance = 100               # 1 to 65535
 settable = true              # whether clients can write the data; default false

@@ -3,6 +3,7 @@
 ghost use Rattle.std.specs.Prelude.{◌≡◌, IfOk, IfSome};
 ghost use Rattle.enip_config.specs.Explained.{IsExplained, refusal_of};
 
+use crate::access_problems::{ListProblem, list_problem};
 use crate::attribute_problems::AttributeProblem;
 use crate::configuration::Configuration;
 use crate::fault::{ConfigurationRefusal, LoadFault};
@@ -96,12 +97,14 @@ pub(crate) enum Problem {
     Attribute(AttributeProblem),
     #[error("{0}")]
     Service(ServiceProblem),
+    #[error("{0}")]
+    List(ListProblem),
     /// The number of a check for which no other text was found.
     #[error("check {0} of the configuration fails")]
     Check(u8),
 }
 
-/// A location in a configuration: a key at the top level, a key of the table `counter` or `ledger`, one of the tables
+/// A location in a configuration: a key at the top level, a key of the table `counter`, `ledger` or `access`, one of the tables
 /// `assembly` or `object`, from 0, or a key of one. A part of an object is one of its tables `attribute` or `service`,
 /// from 0.
 #[derive(Clone, Copy)]
@@ -109,6 +112,7 @@ pub(crate) enum Location<'a> {
     Text(&'a str),
     Counter(&'a str),
     Ledger(&'a str),
+    Access(&'a str),
     Assembly(usize),
     InAssembly(usize, &'a str),
     Object(usize),
@@ -124,6 +128,7 @@ impl Location<'_> {
             Location::Text(key) => text.get(key).is_some(),
             Location::Counter(key) => has_member(text.get("counter"), key),
             Location::Ledger(key) => has_member(text.get("ledger"), key),
+            Location::Access(key) => has_member(text.get("access"), key),
             Location::Assembly(place) => item_at(text.get("assembly"), place).is_some(),
             Location::InAssembly(place, key) => {
                 has_member(item_at(text.get("assembly"), place), key)
@@ -198,10 +203,11 @@ fn problem_in(alloc: Global, bytes: &[u8]) -> Result<Option<(Option<usize>, Prob
     if let Some((spot, problem)) = bad_value(&text) {
         return Ok(Some((line_of(alloc, bytes, spot), problem)));
     }
-    match object_problem(alloc, &text)? {
-        Some((spot, problem)) => Ok(Some((line_of(alloc, bytes, spot), problem))),
-        None => Ok(None),
-    }
+    let found = match object_problem(alloc, &text)? {
+        Some(found) => Some(found),
+        None => list_problem(alloc, &text)?,
+    };
+    Ok(found.map(|(spot, problem)| (line_of(alloc, bytes, spot), problem)))
 }
 
 /// The line of a location, from 1: the first one such that the lines up to it are a TOML document with something there.

@@ -33,6 +33,8 @@ pub enum ConfigurationRefusal {
     Attribute = 11,
     /// An own object has over 16 services, or one has a number or sizes that it cannot have.
     Service = 12,
+    /// The list `read` or `write` of the table `access` is not an array of up to 64 addresses and prefixes.
+    Access = 13,
 }
 
 impl ConfigurationRefusal {

@@ -26,6 +26,8 @@ pub(crate) enum TableKind {
     Assembly,
     /// The table `ledger`.
     Ledger,
+    /// The table `access`.
+    Access,
     /// A table `object`, without the tables in it.
     Object,
     /// A table `object.attribute`.
@@ -68,6 +70,7 @@ impl TableKind {
                 || name == "settable"
                 || name == "members",
             TableKind::Ledger => ORIGINATORS.is_named(name) || LIFE.is_named(name),
+            TableKind::Access => is_access_key(name),
             TableKind::Object => CLASS.is_named(name) || INSTANCE.is_named(name) || name == "name",
             TableKind::Attribute => is_attribute_key(name),
             TableKind::Service => SERVICE_NUMBER.is_named(name)
@@ -76,6 +79,13 @@ impl TableKind {
                 || REPLY.is_named(name),
         }
     }
+}
+
+/// Whether the table `access` has a key of this name.
+fn is_access_key(name: &str) -> bool
+    ensures { result ≡ is_among (keys_of TableKind.Access) name.now }
+{
+    name == "read" || name == "write" || name == "per_address" || name == "connections_per_address"
 }
 
 /// Whether a table `object.attribute` has a key of this name.
@@ -123,6 +133,7 @@ fn is_unknown(key: &str, value: &Value) -> bool
         "counter" => has_other_keys_within(value, TableKind::Counter),
         "assembly" => has_other_keys_within(value, TableKind::Assembly),
         "ledger" => has_other_keys_within(value, TableKind::Ledger),
+        "access" => has_other_keys_within(value, TableKind::Access),
         "object" => has_other_keys_in_objects(value),
         name => !TableKind::Text.knows(name) || has_key(value),
     }

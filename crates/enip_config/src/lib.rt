@@ -6,6 +6,8 @@
 //!   default (`specs/Keys.antt`). The objects accept every configuration that is read.
 //! - An own object has attributes and services (`specs/Objects.antt`). An [`AttributeType`] has a name, as `UINT[4]`,
 //!   and says how a value is read and which bytes it has (`specs/Types.antt`).
+//! - The table `access` has the rules of `enip_access`: who may connect, and who may change something
+//!   (`specs/Access.antt`).
 //! - [`adapter_from`] makes the adapter of a configuration (`specs/Configured.antt`), [`adapter_in_life`] that of another
 //!   life of its ledger.
 //! - [`explain`] says what is wrong with a refused configuration, and in which line.
@@ -25,6 +27,8 @@
 //! ```
 #![tactic(auto)]
 
+mod access;
+mod access_problems;
 mod adapter;
 mod assemblies;
 mod attribute_problems;

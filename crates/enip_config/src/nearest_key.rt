@@ -27,11 +27,13 @@ impl TableKind {
                 "counter",
                 "assembly",
                 "ledger",
+                "access",
                 "object",
             ],
             TableKind::Counter => &["value", "limit", "enabled"],
             TableKind::Assembly => &["instance", "members", "settable"],
             TableKind::Ledger => &["originators", "life"],
+            TableKind::Access => &["read", "write", "per_address", "connections_per_address"],
             TableKind::Object => &["class", "instance", "name", "attribute", "service"],
             TableKind::Attribute => &[
                 "number", "type", "value", "settable", "checked", "min", "max",

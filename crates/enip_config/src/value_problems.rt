@@ -1,5 +1,6 @@
 //! What is wrong with the value of a key: it is missing, has another type or is out of range.
 
+use crate::access_problems::bad_shares;
 use crate::explanation::{Location, Problem};
 use crate::key::{INSTANCE, LIFE, NumberKey, ORIGINATORS, Row};
 use crate::known::TEXT_NUMBERS;
@@ -20,7 +21,7 @@ const REQUIRED: [&str; 7] = [
 ];
 
 /// The required keys that are missing, if there are any. Otherwise the first bad value, in this order: the numbers, the
-/// name, the address, the counter, the assemblies, the ledger, the own objects.
+/// name, the address, the counter, the assemblies, the ledger, the table `access`, the own objects.
 pub(crate) fn bad_value(text: &Table) -> Option<(Location<'static>, Problem)> {
     if let Some((key, problem)) = missing_in(text, &REQUIRED) {
         return Some((Location::Text(key), problem));
@@ -44,6 +45,9 @@ pub(crate) fn bad_value(text: &Table) -> Option<(Location<'static>, Problem)> {
         return Some(found);
     }
     if let Some(found) = bad_ledger(text) {
+        return Some(found);
+    }
+    if let Some(found) = bad_shares(text) {
         return Some(found);
     }
     bad_objects(text)

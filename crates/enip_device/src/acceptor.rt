@@ -2,6 +2,7 @@
 
 use crate::readiness::Readiness;
 use mio::net::{TcpListener, TcpStream};
+use std::net::SocketAddr;
 
 /// A nonblocking listening socket.
 #[derive(Drop)]
@@ -34,17 +35,18 @@ impl Acceptor {
         self.readiness = self.readiness.on_descriptor_freed();
     }
 
-    /// The next connection. `None` if there is none, or if the listener is not to be tried yet. `now` is in microseconds.
-    pub(crate) fn accept(&mut self, now: u64) -> Option<TcpStream> {
+    /// The next connection, and the address of its client. `None` if there is none, or if the listener is not to be tried
+    /// yet. `now` is in microseconds.
+    pub(crate) fn accept(&mut self, now: u64) -> Option<(TcpStream, SocketAddr)> {
         if !self.readiness.is_due(now) {
             return None;
         }
         match self.listener.accept() {
-            Ok((stream, _)) => {
+            Ok((stream, address)) => {
                 self.readiness = Readiness::Ready;
                 // Answers are small, so they are not to wait for one another.
                 let _ = stream.set_nodelay(true);
-                Some(stream)
+                Some((stream, address))
             }
             Err(error) => {
                 self.readiness = Readiness::after_error(&error, now);

@@ -1,7 +1,7 @@
 //! `enip serve --log`: a line for each connection that begins or ends, and for each frame.
 
 use crate::frame_summary::{AnswerStatus, RequestSummary};
-use crate::log_event::{LogClock, LogEvent, LogLine, LogStyle, LogTime};
+use crate::log_event::{LogClock, LogEvent, LogLine, LogStyle, LogTime, TurnedAway};
 use crate::logged_wire::LoggedWire;
 use crate::observer::Observer;
 use enip_wire::{Held, parse_frame};
@@ -69,10 +69,8 @@ impl<'a, R: Eprint + Clock> Observer for &'a FrameLog<'a, R> {
         LoggedWire::new(*self, self.alloc, stream)
     }
 
-    fn turned_away(&mut self, _now: u64, stream: TcpStream) {
-        if let Ok(address) = stream.peer_addr() {
-            self.write(address, LogEvent::TurnedAway);
-        }
+    fn turned_away(&mut self, _now: u64, address: SocketAddr, why: TurnedAway) {
+        self.write(address, LogEvent::TurnedAway(why));
     }
 
     fn next_report(&self) -> Option<u64> {

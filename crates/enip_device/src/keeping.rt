@@ -4,19 +4,20 @@ ghost use Rattle.std.specs.Prelude.{◌≡◌};
 ghost use Rattle.enip_keep.specs.Server.{IsReady};
 ghost use Rattle.kept_server.specs.Rounds.{kept_of};
 
+use crate::admission::Admission;
 use crate::serving::Serving;
 use arrayvec::ArrayVec;
-use enip_adapter::DiscoveryBuffer;
+use enip_adapter::{DiscoveryBuffer, Full};
 use enip_keep::{Device, KeepError, Keeper, Server};
 use enip_server::{RoundEnd, Wire};
-use kept_server::{KeptDevice, KeptPeers, MOST_READY, ReadyWire, RoundInput};
+use kept_server::{Accepted, KeptDevice, KeptPeers, MOST_READY, ReadyWire, RoundInput};
 
 /// The peers of a device whose state is kept, and what the next round gets.
 #[derive(Drop)]
 pub(crate) struct Keeping<W: Wire + Drop, C: KeptDevice, K: Keeper + Drop> {
     server: Server<KeptPeers<W, C>, K>,
-    /// A connection that was accepted, for the first free slot.
-    accepted: Option<W>,
+    /// A connection that was accepted, for the first free slot, and what its client may do.
+    accepted: Option<(W, Admission)>,
     /// The wires that may be ready.
     ready: ArrayVec<ReadyWire, MOST_READY>,
 }
@@ -37,7 +38,14 @@ impl<W: Wire + Drop, C: KeptDevice, K: Keeper + Drop> Keeping<W, C, K> {
     fn input(&mut self, now: u64) -> RoundInput<W>
         ensures { self.new.server ≡ self.old.server }
     {
-        let accepted = self.accepted.take();
+        let accepted = match self.accepted.take() {
+            Some((wire, admission)) => Some(Accepted {
+                wire,
+                rights: admission.rights,
+                group: admission.group,
+            }),
+            None => None,
+        };
         let mut ready = ArrayVec::new();
         std::mem::swap(&mut self.ready, &mut ready);
         RoundInput {
@@ -56,8 +64,16 @@ impl<W: Wire + Drop, C: KeptDevice, K: Keeper + Drop> Serving<W> for Keeping<W, 
         self.server.device().peers().first_free()
     }
 
-    fn add(&mut self, _now: u64, wire: W) -> bool {
-        self.accepted = Some(wire);
+    fn slot_for(&self, now: u64, group: Option<u128>) -> Result<usize, Full> {
+        // Nobody gives way: a round that ended a peer and added another would have to be kept as one.
+        match self.first_free() {
+            Some(_) => self.server.device().peers().slot_for(now, group),
+            None => Err(Full::Places),
+        }
+    }
+
+    fn add(&mut self, _now: u64, wire: W, admission: Admission) -> bool {
+        self.accepted = Some((wire, admission));
         true
     }
 

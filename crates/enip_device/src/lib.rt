@@ -6,6 +6,7 @@
 #![tactic(auto)]
 
 mod acceptor;
+mod admission;
 mod discovery;
 mod file_identity;
 mod frame_log;

@@ -18,7 +18,8 @@ pub(crate) enum EndCause {
     Device,
     /// A read or a write failed.
     Failed,
-    /// The client sent nothing for the time of `--idle`, or the device stopped.
+    /// The client sent nothing for the time of `--idle`, or it had no session and gave its slot to another client, or
+    /// the device stopped.
     Silent,
 }
 
@@ -36,6 +37,37 @@ impl fmt::Display for EndCause {
     }
 }
 
+/// Why a connection is closed at once.
+#[derive(Clone, Copy)]
+pub(crate) enum TurnedAway {
+    /// No peer slot is free.
+    NoSlot,
+    /// The client's address holds its share of the peer slots.
+    Share,
+    /// The client's address is in neither list.
+    NotListed,
+}
+
+impl fmt::Display for TurnedAway {
+    fn fmt<W: fmt::Write>(&self, f: &mut fmt::Formatter<W>) -> fmt::Result {
+        let text = match self {
+            TurnedAway::NoSlot => "turned away: all peer slots are taken",
+            TurnedAway::Share => "turned away: its address holds all its peer slots",
+            TurnedAway::NotListed => "refused: in neither list of [access]",
+        };
+        write!(f, "{text}")
+    }
+}
+
+/// The members of a connection that is closed at once.
+fn write_turned_away<W: fmt::Write>(f: &mut fmt::Formatter<W>, why: TurnedAway) -> fmt::Result {
+    match why {
+        TurnedAway::NoSlot => write!(f, "\"event\":\"turned away\""),
+        TurnedAway::Share => write!(f, "\"cause\":\"share\",\"event\":\"turned away\""),
+        TurnedAway::NotListed => write!(f, "\"event\":\"refused\""),
+    }
+}
+
 /// An event of a served device.
 #[derive(Clone, Copy)]
 pub(crate) enum LogEvent {
@@ -43,8 +75,8 @@ pub(crate) enum LogEvent {
     Connected,
     /// A connection has ended.
     Disconnected(EndCause),
-    /// A connection was closed at once, because no peer slot was free.
-    TurnedAway,
+    /// A connection was closed at once.
+    TurnedAway(TurnedAway),
     /// A frame was answered.
     Answered(RequestSummary, AnswerStatus),
     /// A frame was answered with the reply that was kept: it repeats the request before it on its connection.
@@ -55,15 +87,12 @@ pub(crate) enum LogEvent {
     Datagram(RequestSummary, AnswerStatus),
 }
 
-/// The text of `TurnedAway`.
-const TURNED_AWAY: &str = "turned away: all peer slots are taken";
-
 impl fmt::Display for LogEvent {
     fn fmt<W: fmt::Write>(&self, f: &mut fmt::Formatter<W>) -> fmt::Result {
         match self {
             LogEvent::Connected => write!(f, "connected"),
             LogEvent::Disconnected(cause) => write!(f, "disconnected: {cause}"),
-            LogEvent::TurnedAway => write!(f, "{TURNED_AWAY}"),
+            LogEvent::TurnedAway(why) => write!(f, "{why}"),
             LogEvent::Answered(request, status) => write!(f, "{request}: {status}"),
             LogEvent::Repeated(request, status) => write!(f, "{request}: {status} (kept reply)"),
             LogEvent::Unanswered(request) => write!(f, "{request}: no answer"),
@@ -83,7 +112,7 @@ impl fmt::Display for JsonMembers {
             LogEvent::Disconnected(cause) => {
                 write!(f, "\"cause\":\"{cause}\",\"event\":\"disconnected\"")
             }
-            LogEvent::TurnedAway => write!(f, "\"event\":\"turned away\""),
+            LogEvent::TurnedAway(why) => write_turned_away(f, why),
             LogEvent::Answered(request, status) => write_frame(f, "frame", request, Some(status)),
             LogEvent::Repeated(request, status) => write_frame(f, "repeat", request, Some(status)),
             LogEvent::Unanswered(request) => write_frame(f, "frame", request, None),

@@ -1,5 +1,6 @@
 //! What observes the connections of a served device: the log, or a report of the clients that are turned away.
 
+use crate::log_event::TurnedAway;
 use crate::wire::TcpWire;
 use enip_server::Wire;
 use mio::net::TcpStream;
@@ -14,8 +15,8 @@ pub(crate) trait Observer {
     /// The wire of a connection that has a peer slot. `None` if there is no memory for it.
     fn wire(&self, stream: TcpStream) -> Option<Self::Wire>;
 
-    /// A connection is closed because there is no peer slot for it.
-    fn turned_away(&mut self, now: u64, stream: TcpStream);
+    /// A connection is closed at once.
+    fn turned_away(&mut self, now: u64, address: SocketAddr, why: TurnedAway);
 
     /// The time at which a report is due.
     fn next_report(&self) -> Option<u64>;
@@ -36,9 +37,41 @@ pub(crate) struct TurnedAwayReport<'a, R> {
     rt: &'a R,
     alloc: Global,
     /// How many clients were turned away since the last report.
-    count: u64,
+    counts: TurnedAwayCounts,
     /// The first time at which another report may be made.
     next: u64,
+}
+
+/// How many clients were turned away, by the reason.
+#[derive(Clone, Copy)]
+struct TurnedAwayCounts {
+    no_slot: u64,
+    share: u64,
+    not_listed: u64,
+}
+
+impl TurnedAwayCounts {
+    /// No client was turned away.
+    const NONE: TurnedAwayCounts = TurnedAwayCounts {
+        no_slot: 0,
+        share: 0,
+        not_listed: 0,
+    };
+
+    /// Counts a client.
+    fn add(&mut self, why: TurnedAway) {
+        let count = match why {
+            TurnedAway::NoSlot => &mut self.no_slot,
+            TurnedAway::Share => &mut self.share,
+            TurnedAway::NotListed => &mut self.not_listed,
+        };
+        *count = count.saturating_add(1);
+    }
+
+    /// Whether a client was turned away.
+    fn is_some(&self) -> bool {
+        self.no_slot > 0 || self.share > 0 || self.not_listed > 0
+    }
 }
 
 impl<'a, R: Eprint> TurnedAwayReport<'a, R> {
@@ -47,8 +80,19 @@ impl<'a, R: Eprint> TurnedAwayReport<'a, R> {
         TurnedAwayReport {
             rt,
             alloc,
-            count: 0,
+            counts: TurnedAwayCounts::NONE,
             next: 0,
+        }
+    }
+
+    /// Prints a line for so many clients, if there are any.
+    fn print(&self, count: u64, why: &str) {
+        if count == 0 {
+            return;
+        }
+        let clients = if count == 1 { "client" } else { "clients" };
+        if let Ok(line) = format!(in self.alloc; "enip: {count} {clients} {why}\n") {
+            let _ = self.rt.eprint(line.as_str());
         }
     }
 }
@@ -60,13 +104,13 @@ impl<R: Eprint> Observer for TurnedAwayReport<'_, R> {
         Some(TcpWire::new(stream))
     }
 
-    fn turned_away(&mut self, now: u64, _stream: TcpStream) {
-        self.count = self.count.saturating_add(1);
+    fn turned_away(&mut self, now: u64, _address: SocketAddr, why: TurnedAway) {
+        self.counts.add(why);
         self.report(now);
     }
 
     fn next_report(&self) -> Option<u64> {
-        if self.count > 0 {
+        if self.counts.is_some() {
             Some(self.next)
         } else {
             None
@@ -74,20 +118,18 @@ impl<R: Eprint> Observer for TurnedAwayReport<'_, R> {
     }
 
     fn report(&mut self, now: u64) {
-        if self.count == 0 || now < self.next {
+        if !self.counts.is_some() || now < self.next {
             return;
         }
-        let (count, clients) = (
-            self.count,
-            if self.count == 1 { "client" } else { "clients" },
-        );
-        let line = format!(in self.alloc;
-            "enip: {count} {clients} turned away: all peer slots are taken\n"
-        );
-        if let Ok(line) = line {
-            let _ = self.rt.eprint(line.as_str());
-        }
-        self.count = 0;
+        let TurnedAwayCounts {
+            no_slot,
+            share,
+            not_listed,
+        } = self.counts;
+        self.print(no_slot, "turned away: all peer slots are taken");
+        self.print(share, "turned away: their address holds all its peer slots");
+        self.print(not_listed, "refused: in neither list of [access]");
+        self.counts = TurnedAwayCounts::NONE;
         self.next = now.saturating_add(MINUTE);
     }
 

@@ -7,15 +7,19 @@
 ghost use Rattle.std.specs.Prelude.{◌≡◌, ◌≤◌, ◌<◌, ◌⊎◌, ◌↔◌, Some, IfSome, IsSomeAnd, IsTrue, IfOk};
 
 use crate::acceptor::Acceptor;
+use crate::admission::{Admission, admit};
 use crate::discovery::Discovery;
+use crate::log_event::TurnedAway;
 use crate::observer::Observer;
 use crate::serving::{ServeFault, Serving};
+use enip_access::{Access, address_number};
+use enip_adapter::Full;
 use enip_server::RoundEnd;
 use mio::net::{TcpListener, TcpStream, UdpSocket};
 use mio::{Events, Interest, Poll, Token};
 use std::alloc::Global;
 use std::io;
-use std::net::Net;
+use std::net::{Net, SocketAddr};
 use std::rt::Clock;
 use std::time::{Duration, Instant};
 
@@ -39,18 +43,27 @@ pub(crate) struct Sockets {
     pub(crate) datagrams: Option<UdpSocket>,
 }
 
-/// Serves `count` connections, until they have come and gone. A connection that fails ends only itself.
+/// Whom a device serves.
+#[derive(Drop)]
+pub(crate) struct ServeLimits {
+    /// How many connections to accept.
+    pub(crate) count: u64,
+    /// Who may connect, and what they may do. `None`: everybody may do everything.
+    pub(crate) access: Option<Access>,
+}
+
+/// Serves as many connections as the limits say, until they have come and gone. A connection that fails ends only itself.
 pub(crate) fn serve_connections<R: Clock + Net, O: Observer + Drop, S: Serving<O::Wire> + Drop>(
     rt: &R,
     alloc: Global,
     sockets: Sockets,
     serving: S,
-    count: u64,
+    limits: ServeLimits,
     observer: O,
 ) -> Result<(), ServeFault>
     requires { S.is_ready serving }
 {
-    let mut server = Server::new(rt, alloc, serving, count, observer)?;
+    let mut server = Server::new(rt, alloc, serving, limits, observer)?;
     server.run(rt, alloc, sockets)
 }
 
@@ -108,8 +121,7 @@ struct Server<O: Observer + Drop, S: Serving<O::Wire> + Drop> {
     observer: O,
     /// The end of the last round. `ready` is set if a peer was added since.
     last_round: RoundEnd,
-    /// How many connections to accept.
-    count: u64,
+    limits: ServeLimits,
     /// How many were accepted.
     accepted: u64,
     /// How many of these have ended.
@@ -124,7 +136,7 @@ impl<O: Observer + Drop, S: Serving<O::Wire> + Drop> Server<O, S> {
         rt: &R,
         alloc: Global,
         peers: S,
-        count: u64,
+        limits: ServeLimits,
         observer: O,
     ) -> io::Result<Server<O, S>>
         ensures { IfOk result (λ s. s.peers ≡ peers) }
@@ -142,7 +154,7 @@ impl<O: Observer + Drop, S: Serving<O::Wire> + Drop> Server<O, S> {
             peers,
             observer,
             last_round,
-            count,
+            limits,
             accepted: 0,
             ended: 0,
             rounds_deferred: 0,
@@ -208,9 +220,9 @@ impl<O: Observer + Drop, S: Serving<O::Wire> + Drop> Server<O, S> {
 
     /// Whether all connections have come and gone.
     fn is_done(&self) -> bool
-        ensures { IsTrue result ↔ (self.now.count ≤ self.now.ended) }
+        ensures { IsTrue result ↔ (self.now.limits.count ≤ self.now.ended) }
     {
-        self.ended >= self.count
+        self.ended >= self.limits.count
     }
 
     /// Waits until a socket may be ready or a time limit is reached. `now` is the time of the last round.
@@ -279,7 +291,8 @@ impl<O: Observer + Drop, S: Serving<O::Wire> + Drop> Server<O, S> {
         Ok(())
     }
 
-    /// Accepts the next connection, if there is one. If it cannot become a peer it is closed at once.
+    /// Accepts the next connection, if there is one. If its client is not admitted, or if it cannot become a peer, it is
+    /// closed at once.
     fn accept_one(&mut self, now: u64)
         requires ready { S.is_ready self.old.peers }
         ensures ready { S.is_ready self.new.peers }
@@ -291,14 +304,22 @@ impl<O: Observer + Drop, S: Serving<O::Wire> + Drop> Server<O, S> {
         let Some(acceptor) = &mut self.acceptor else {
             return;
         };
-        let Some(stream) = acceptor.accept(now) else {
+        let Some((stream, address)) = acceptor.accept(now) else {
             return;
         };
         self.accepted = self.accepted.saturating_add(1);
-        if self.accepted >= self.count {
+        if self.accepted >= self.limits.count {
             self.acceptor = None;
         }
-        if !self.add_peer(now, stream) {
+        let is_added = match admit(&self.limits.access, address_number(address.ip())) {
+            Some(admission) => self.add_peer(now, stream, address, admission),
+            None => {
+                self.observer
+                    .turned_away(now, address, TurnedAway::NotListed);
+                false
+            }
+        };
+        if !is_added {
             self.ended = self.ended.saturating_add(1);
         }
     }
@@ -322,15 +343,24 @@ impl<O: Observer + Drop, S: Serving<O::Wire> + Drop> Server<O, S> {
         false
     }
 
-    /// Makes a connection a peer in the first free slot. Returns whether there is a slot and a session handle for it.
-    fn add_peer(&mut self, now: u64, stream: TcpStream) -> bool
+    /// Makes a connection a peer in the slot that is for it. Returns whether there is a slot and a session handle for it.
+    fn add_peer(
+        &mut self,
+        now: u64,
+        stream: TcpStream,
+        address: SocketAddr,
+        admission: Admission,
+    ) -> bool
         requires ready { S.is_ready self.old.peers }
         ensures ready { S.is_ready self.new.peers }
     {
         let mut stream = stream;
-        let Some(slot) = self.peers.first_free() else {
-            self.observer.turned_away(now, stream);
-            return false;
+        let slot = match self.peers.slot_for(now, admission.group) {
+            Ok(slot) => slot,
+            Err(full) => {
+                self.observer.turned_away(now, address, turned_away_by(full));
+                return false;
+            }
         };
         let interests = Interest::READABLE | Interest::WRITABLE;
         let registered = self
@@ -344,10 +374,31 @@ impl<O: Observer + Drop, S: Serving<O::Wire> + Drop> Server<O, S> {
         let Some(wire) = self.observer.wire(stream) else {
             return false;
         };
-        if !self.peers.add(now, wire) {
+        if self.peers.first_free().is_none() {
+            self.on_evicted();
+        }
+        if !self.peers.add(now, wire, admission) {
             return false;
         }
         self.last_round.ready = true;
         true
+    }
+
+    /// A peer gives way to a new client.
+    fn on_evicted(&mut self)
+        ensures { self.new.peers ≡ self.old.peers }
+    {
+        self.ended = self.ended.saturating_add(1);
+        if let Some(acceptor) = &mut self.acceptor {
+            acceptor.on_descriptor_freed();
+        }
+    }
+}
+
+/// Why there is no slot for a client.
+fn turned_away_by(full: Full) -> TurnedAway {
+    match full {
+        Full::Share => TurnedAway::Share,
+        Full::Places | Full::Handles => TurnedAway::NoSlot,
     }
 }

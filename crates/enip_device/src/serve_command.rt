@@ -9,9 +9,10 @@ use crate::kept_values::KeptValues;
 use crate::log_event::{LogClock, LogStyle};
 use crate::observer::{Observer, TurnedAwayReport};
 use crate::reported_address::ReportedAddress;
-use crate::serve::{Sockets, serve_connections};
+use crate::serve::{ServeLimits, Sockets, serve_connections};
 use crate::serving::{ServeFault, Serving};
 use clap::ArgMatches;
+use enip_access::Access;
 use enip_adapter::{Adapter, Limits, Listen};
 use enip_cli::OsArg;
 use enip_common::{
@@ -118,15 +119,15 @@ fn serve_config<'a, O: Observer + Drop>(
     observer: O,
 ) -> Result<u8, CommandError<'a>> {
     let Some(file) = options.keep else {
-        let (adapter, listen) = adapter_to_serve(rt, config)?;
+        let (adapter, listen, access) = adapter_to_serve(rt, config)?;
         let peers = Peers::new(rt.alloc(), adapter, options.idle_timeout)?;
         let options = options.with_reported(config.name(), listen);
-        return listen_and_serve(rt, options, peers, observer);
+        return listen_and_serve(rt, options, access, peers, observer);
     };
-    let start = adapter_start(rt, config, file.accepts_older(), options.idle_timeout)?;
+    let (start, access) = adapter_start(rt, config, file.accepts_older(), options.idle_timeout)?;
     let opened = file.open(rt, args)?;
     let options = options.with_reported(config.name(), start.listen);
-    serve_kept(rt, file, opened, &start, options, observer)
+    serve_kept(rt, file, opened, &start, options, access, observer)
 }
 
 /// Serves a device that goes on with what is kept in an open file.
@@ -136,6 +137,7 @@ fn serve_kept<'a, O: Observer + Drop, K: Keeper + Drop>(
     opened: OpenFile<K>,
     start: &AdapterStart,
     options: ServeOptions<'a>,
+    access: Option<Access>,
     observer: O,
 ) -> Result<u8, CommandError<'a>>
     requires { K.doubt opened.rows ≡ 0 → K.is_up opened.rows }
@@ -143,7 +145,7 @@ fn serve_kept<'a, O: Observer + Drop, K: Keeper + Drop>(
     let keeper = file.numbered(rt.alloc(), opened)?;
     let (peers, values) = kept_peers(rt.alloc(), file, keeper, start)?;
     values.report_unused(rt, file);
-    listen_and_serve(rt, options, peers, observer)
+    listen_and_serve(rt, options, access, peers, observer)
 }
 
 /// The peers of a device that starts from what is kept, and what is kept.
@@ -171,7 +173,7 @@ pub fn print_kept_values<'a>(
     name: &'a str,
 ) -> Result<(), CommandError<'a>> {
     let file = KeptFile::to_read(name);
-    let start = adapter_start(rt, config, false, NO_IDLE_TIMEOUT)?;
+    let (start, _) = adapter_start(rt, config, false, NO_IDLE_TIMEOUT)?;
     let opened = file.open(rt, args)?;
     let values = kept_values(rt.alloc(), file, opened, &start)?;
     values
@@ -200,6 +202,7 @@ fn kept_values<'a, K: Keeper + Drop>(
 fn listen_and_serve<'a, O: Observer + Drop, S: Serving<O::Wire> + Drop>(
     rt: &HostRuntime,
     options: ServeOptions<'a>,
+    access: Option<Access>,
     peers: S,
     observer: O,
 ) -> Result<u8, CommandError<'a>>
@@ -210,7 +213,11 @@ fn listen_and_serve<'a, O: Observer + Drop, S: Serving<O::Wire> + Drop>(
     print_listening(rt, &sockets, options.reported, address.port()).map_err(
         |error| CommandError::of_system(ERRORS, error),
     )?;
-    match serve_connections(rt, rt.alloc(), sockets, peers, options.count, observer) {
+    let limits = ServeLimits {
+        count: options.count,
+        access,
+    };
+    match serve_connections(rt, rt.alloc(), sockets, peers, limits, observer) {
         Ok(()) => Ok(0),
         Err(fault) => Err(serve_error(options, address, fault)),
     }
@@ -232,12 +239,12 @@ fn serve_error<'a>(
     }
 }
 
-/// The adapter of a configuration whose device needs no owner, and where discovery reports it. A command ledger gets
-/// another life with each start, because it is empty then.
+/// The adapter of a configuration whose device needs no owner, where discovery reports it, and who may do what. A command
+/// ledger gets another life with each start, because it is empty then.
 fn adapter_to_serve<'a>(
     rt: &HostRuntime,
     config: &NamedFile<'a>,
-) -> Result<(Adapter, Listen), CommandError<'a>> {
+) -> Result<(Adapter, Listen, Option<Access>), CommandError<'a>> {
     let configuration = config.configuration_to_serve(rt.alloc())?;
     let listen = Listen {
         address: configuration.address,
@@ -247,21 +254,22 @@ fn adapter_to_serve<'a>(
         None => config.adapter(rt.alloc())?,
         Some(_) => config.adapter_in_life(rt.alloc(), life_now(rt)?)?,
     };
-    Ok((adapter, listen))
+    Ok((adapter, listen, configuration.access))
 }
 
-/// What the adapter of a configuration is started from, whose device needs no owner and keeps its state. A ledger of
-/// which nothing is kept begins a life now.
+/// What the adapter of a configuration is started from, whose device needs no owner and keeps its state, and who may do
+/// what. A ledger of which nothing is kept begins a life now.
 fn adapter_start<'a>(
     rt: &HostRuntime,
     config: &NamedFile<'a>,
     begins_life: bool,
     idle_timeout: u64,
-) -> Result<AdapterStart, CommandError<'a>> {
-    let configuration = config.configuration_to_serve(rt.alloc())?;
+) -> Result<(AdapterStart, Option<Access>), CommandError<'a>> {
+    let mut configuration = config.configuration_to_serve(rt.alloc())?;
+    let access = configuration.access.take();
     let life = life_now(rt)?;
     match start_of(configuration, life, begins_life, idle_timeout) {
-        Some(start) => Ok(start),
+        Some(start) => Ok((start, access)),
         None => Err(CommandError::of_reason(Reason::Named(config.name(), NamedReason::Failed))),
     }
 }
@@ -283,6 +291,7 @@ fn start_of(
         first_handle,
         first_id,
         ledger,
+        access: _,
         attribute_types: _,
     } = configuration;
     objects

@@ -2,7 +2,8 @@
 
 ghost use Rattle.std.specs.Prelude.{⊤};
 
-use enip_adapter::DiscoveryBuffer;
+use crate::admission::Admission;
+use enip_adapter::{DiscoveryBuffer, Full};
 use enip_keep::KeepError;
 use enip_server::{Peers, RoundEnd, Wire};
 use std::io;
@@ -30,8 +31,12 @@ pub(crate) trait Serving<W: Wire + Drop> {
     /// The index of the first free peer slot.
     fn first_free(&self) -> Option<usize>;
 
-    /// Begins a peer in the first free slot. Returns whether there is a slot and a session handle for it.
-    fn add(&mut self, now: u64, wire: W) -> bool
+    /// The slot that a new client of a group would get: the first free one, else that of a peer that gives way to it.
+    fn slot_for(&self, now: u64, group: Option<u128>) -> Result<usize, Full>;
+
+    /// Begins a peer that was admitted, in the slot that `slot_for` says. Returns whether there is a slot and a session
+    /// handle for it.
+    fn add(&mut self, now: u64, wire: W, admission: Admission) -> bool
         requires { is_ready self.old }
         ensures { is_ready self.new };
 
@@ -63,8 +68,12 @@ impl<W: Wire + Drop> Serving<W> for Peers<W> {
         Peers::first_free(self)
     }
 
-    fn add(&mut self, now: u64, wire: W) -> bool {
-        Peers::add(self, now, wire).is_ok()
+    fn slot_for(&self, now: u64, group: Option<u128>) -> Result<usize, Full> {
+        Peers::slot_for(self, now, group)
+    }
+
+    fn add(&mut self, now: u64, wire: W, admission: Admission) -> bool {
+        Peers::add_as(self, now, wire, admission.rights, admission.group).is_ok()
     }
 
     fn mark_ready(&mut self, slot: usize, ends: bool) {

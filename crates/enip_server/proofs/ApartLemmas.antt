@@ -1,6 +1,6 @@
 -- The peers of an adapter have different handles, each below the adapter's next one.
 use Rattle.std.proofs.Common.{◌≡◌, ◌≢◌, ◌<◌, ◌≤◌, ◌+◌, ℕ, zero, suc, List, [], ◌∷◌, replicate, slice_get, slice_set}
-use Rattle.std.proofs.Common.{Bool, Option, Some, None, refl, sym, subst, arith}
+use Rattle.std.proofs.Common.{Bool, Option, Some, None, refl, sym, ap, ◌∙◌, subst, arith}
 use Rattle.std.specs.Prelude.{◌-◌, length, ⊤}
 use Rattle.enip_adapter.specs.Calls.{AdapterState}
 use Rattle.enip_server.specs.declared.peer_io.PeerIo.{PeerIo}
@@ -179,6 +179,34 @@ module _ {W : Type 0} where
       (subst (λ o. IsOf o (Some after)) (sym is) same, are_of_themselves slots)
   of_set (first ∷ slots) (suc slot) io after there same =
       (is_of_itself first, of_set slots slot io after there same)
+
+  -- a slot is freed
+  pub of_freed : (slots : List (Option (PeerIo W))) (slot : ℕ) → AreOf slots (slice_set slots slot None)
+  of_freed [] slot = tt
+  of_freed (None ∷ slots) zero = (tt, are_of_themselves slots)
+  of_freed (Some io ∷ slots) zero = (tt, are_of_themselves slots)
+  of_freed (first ∷ slots) (suc slot) = (is_of_itself first, of_freed slots slot)
+
+  -- the peers of two slots differ
+  pub apart_at : (slots : List (Option (PeerIo W))) (i j : ℕ) (io other : PeerIo W) → AreApart slots
+      → slice_get slots i ≡ Some (Some io) → slice_get slots j ≡ Some (Some other) → i ≢ j → io.peer ≢ other.peer
+  apart_at [] i j io other apart here there differs = cc
+  apart_at (first ∷ slots) zero zero io other apart here there differs = absurd (differs refl)
+  apart_at (None ∷ slots) zero (suc j) io other apart here there differs = cc
+  apart_at (Some first ∷ slots) zero (suc j) io other apart here there differs =
+      let is : first ≡ io = cc in
+      λ same. none_at first.peer slots j other apart.0 there (sym (ap (λ (l : PeerIo W). l.peer) is ∙ same))
+  apart_at (None ∷ slots) (suc i) zero io other apart here there differs = cc
+  apart_at (Some first ∷ slots) (suc i) zero io other apart here there differs =
+      let is : first ≡ other = cc in
+      λ same. none_at first.peer slots i io apart.0 here (same ∙ sym (ap (λ (l : PeerIo W). l.peer) is))
+  apart_at (first ∷ slots) (suc i) (suc j) io other apart here there differs =
+      apart_at slots i j io other (apart_tail first slots apart) here there (λ same. differs (ap suc same))
+
+  -- a peer of a slot does not have the next handle
+  pub below_at : (n : ℕ) (slots : List (Option (PeerIo W))) (slot : ℕ) (io : PeerIo W) → AreBelow n slots
+      → slice_get slots slot ≡ Some (Some io) → io.peer ≢ n
+  below_at n slots slot io below there = none_at n slots slot io (none_next n slots below) there
 
   -- a slot is marked ready
   pub of_woken : (ends : Bool) (slots : List (Option (PeerIo W))) (slot : ℕ) (found : Option (Option (PeerIo W)))

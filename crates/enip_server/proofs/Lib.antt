@@ -11,4 +11,5 @@ pub mod HandleLemmas
 pub mod RoundMoves
 pub mod RoundAsks
 pub mod LifeLemmas
+pub mod EvictionLemmas
 pub mod HeldLemmas

@@ -1,5 +1,5 @@
 -- Lists of calls, and one peer that keeps its slot among them.
-use Rattle.std.proofs.Common.{◌≡◌, ◌≢◌, ◌+◌, ℕ, zero, suc, List, [], ◌∷◌, get_or, slice_get, slice_set}
+use Rattle.std.proofs.Common.{◌≡◌, ◌≢◌, ◌+◌, ℕ, zero, suc, List, [], ◌∷◌, ◌++◌, get_or, slice_get, slice_set}
 use Rattle.std.proofs.Common.{Bool, true, false, eqb, Option, Some, None, is_none, Result, Ok, Err, inl, inr, refl, sym, ap}
 use Rattle.std.proofs.Common.{subst, ◌∙◌, append-nil, arith}
 use Rattle.std.proofs.lemmas.Bool.{eqb-true, eqb-false}
@@ -11,7 +11,9 @@ use Rattle.cip_objects.specs.OwnRequests.{Asked}
 use Rattle.cip_owner.specs.Replies.{Reply}
 use Rattle.enip_adapter.specs.declared.adapter.Full.{Full}
 use Rattle.enip_adapter.specs.Calls.{AdapterState, Call, after_call}
-use Rattle.enip_adapter.specs.Calls.Call.{Begins_peer, Writes}
+use Rattle.enip_adapter.specs.declared.peer.Rights.{Rights}
+use Rattle.enip_adapter.specs.declared.peer.Rights.TheVariants.{Write}
+use Rattle.enip_adapter.specs.Calls.Call.{Begins_peer, Ends_peer, Writes}
 use Rattle.enip_adapter.specs.OwnWrites.{OwnWrite}
 use Rattle.enip_adapter.specs.Runs.{after_calls, IsForOther}
 use Rattle.enip_server.specs.declared.peer_io.PeerIo.{PeerIo}
@@ -20,14 +22,16 @@ use Rattle.enip_server.specs.Wires.{KnownCalls}
 use Rattle.enip_server.specs.PeerStates.{peer_state_of}
 use Rattle.enip_server.specs.Transfers.{Transfers, GoesOnWith}
 use Rattle.enip_server.specs.Rounds.{ServerState, new_peers, new_peer_io, first_free, IsAdded, marked_ready_in, marked_ready_at}
+use Rattle.enip_server.specs.Evictions.{BeginsIn, IsAddedAt, freed, freed_of, slot_for}
 use Rattle.enip_server.specs.Rounds.{written_by, nobody, no_answer, same_nobody}
 use Rattle.enip_server.specs.Runs.{IsStep, IsRun, HoldsSlot, KeepsSlot, IsStill, IsStillAt, AreStill}
-use Rattle.enip_server.specs.Runs.IsStep.{Adds, MarksReady, Rounds, Rounds_alone, Writes_own, Releases}
+use Rattle.enip_server.specs.Runs.IsStep.{Adds, Adds_as, MarksReady, Rounds, Rounds_alone, Writes_own, Releases}
 use Rattle.enip_server.specs.Runs.IsRun.{Still, Goes_on}
 use Rattle.enip_server.specs.Runs.KeepsSlot.{Begins, Stays_on}
-use Rattle.enip_server.proofs.ApartLemmas.{AreSound, sound_new, sound_come, sound_of, of_woken, are_of_themselves, IsOf, AreOf}
-use Rattle.enip_server.proofs.HandleLemmas.{next_begun, next_given}
-use Rattle.enip_server.proofs.TransferLemmas.{MovesBy, moves_by_then, moves_by_weaker, moves_not, moves_other}
+use Rattle.enip_server.proofs.ApartLemmas.{AreSound, sound_new, sound_come, sound_of, of_woken, of_freed, apart_at, below_at}
+use Rattle.enip_server.proofs.ApartLemmas.{are_of_themselves, IsOf, AreOf}
+use Rattle.enip_server.proofs.HandleLemmas.{next_begun, next_end, next_given}
+use Rattle.enip_server.proofs.TransferLemmas.{after_calls-append, MovesBy, moves_by_then, moves_by_weaker, moves_not, moves_other}
 use Rattle.enip_server.proofs.RoundMoves.{round_moves, sound_round, other_goes_on}
 
 -- what a list holds at an index after another index was set
@@ -50,6 +54,12 @@ got [] i d x there = cc
 got (y ∷ ys) zero d x there = cc
 got (y ∷ ys) (suc i) d x there = got ys i d x there
 
+-- one call more
+others_then : (P : Call → Type 0) (calls : List Call) (call : Call) → AllByRecursion P calls → P call
+    → AllByRecursion P (calls ++ call ∷ [])
+others_then P [] call each is = (is, tt)
+others_then P (first ∷ calls) call each is = (each.0, others_then P calls call each.1 is)
+
 module _ {W : Type 0} where
   -- the first free slot is not one that holds a peer
   pub free_elsewhere : (slots : List (Option (PeerIo W))) (free slot : ℕ) (io : PeerIo W) → first_free slots ≡ Some free
@@ -61,6 +71,25 @@ module _ {W : Type 0} where
       let here : get_or slots free (Some io) ≡ Some io = ap (λ n. get_or slots n (Some io)) same ∙ some in
       let held : is_none (Some io) ≡ true = subst (λ o. is_none o ≡ true) here none in
       cc
+
+  -- the call that frees a slot
+  abbrev pub ends_before : (p : ServerState W) (slot : ℕ) → Option (Option (PeerIo W)) → List Call
+  ends_before p slot None = []
+  ends_before p slot (Some None) = []
+  ends_before p slot (Some (Some io)) = Ends_peer io.peer ∷ []
+
+  pub freed_leads : (p : ServerState W) (slot : ℕ) (found : Option (Option (PeerIo W)))
+      → (freed_of p slot found).adapter ≡ after_calls p.adapter (ends_before p slot found)
+  freed_leads p slot None = refl
+  freed_leads p slot (Some None) = refl
+  freed_leads p slot (Some (Some io)) = refl
+
+  -- the peer that a slot was set to
+  pub set_peer : (slots : List (Option (PeerIo W))) (slot : ℕ) (io after : PeerIo W)
+      → slice_get (slice_set slots slot (Some io)) slot ≡ Some (Some after) → after.peer ≡ io.peer
+  set_peer [] slot io after there = cc
+  set_peer (first ∷ slots) zero io after there = cc
+  set_peer (first ∷ slots) (suc slot) io after there = set_peer slots slot io after there
 
   same_line : (slots : List (Option (PeerIo W))) (slot : ℕ) (io after : PeerIo W) → slice_get slots slot ≡ Some (Some io)
       → slice_get slots slot ≡ Some (Some after) → after ≡ io
@@ -110,17 +139,44 @@ module _ {W O : Type 0} (left written : W → Option (List ℕ)) (known : W → 
       → AreSound old → AreSound new
   sound_comes old new now wire (Ok slot) is sound =
       let given : (is.0 ≡ old.adapter.state.next_handle)
-      × ((after_call old.adapter Begins_peer).state.next_handle ≡ old.adapter.state.next_handle + 1)
-      = next_given old.adapter is.0 is.2 in
+      × ((after_call old.adapter (Begins_peer Write None)).state.next_handle ≡ old.adapter.state.next_handle + 1)
+      = next_given old.adapter Write None is.0 is.2 in
       sound_come old new slot (new_peer_io is.0 wire now) sound given.0 (ap (λ p. p.slots) is.3)
       (ap (λ p. p.adapter.state.next_handle) is.3 ∙ given.1)
   sound_comes old new now wire (Err full) (inl is) sound = subst AreSound (sym is.2) sound
   sound_comes old new now wire (Err full) (inr is) sound =
       sound_of old new sound (subst (AreOf old.slots) (sym (ap (λ p. p.slots) is.1)) (are_of_themselves old.slots))
-      (omega (arith, next_begun old.adapter, ap (λ p. p.adapter.state.next_handle) is.1))
+      (omega (arith, next_begun old.adapter Write None, ap (λ p. p.adapter.state.next_handle) is.1))
+
+  sound_freed : (p : ServerState W) (slot : ℕ) (found : Option (Option (PeerIo W))) → AreSound p
+      → AreSound (freed_of p slot found)
+  sound_freed p slot None sound = sound
+  sound_freed p slot (Some None) sound = sound
+  sound_freed p slot (Some (Some io)) sound =
+      sound_of p (freed_of p slot (Some (Some io))) sound (of_freed p.slots slot)
+      (omega (arith, next_end p.adapter io.peer))
+
+  sound_begins : (p new : ServerState W) (now : ℕ) (wire : W) (rights : Rights) (group : Option ℕ) (slot : ℕ)
+      (result : Result ℕ Full) → BeginsIn now wire rights group slot p new result → AreSound p → AreSound new
+  sound_begins p new now wire rights group slot (Ok taken) is sound =
+      let given : (is.0 ≡ p.adapter.state.next_handle)
+      × ((after_call p.adapter (Begins_peer rights group)).state.next_handle ≡ p.adapter.state.next_handle + 1)
+      = next_given p.adapter rights group is.0 is.2 in
+      sound_come p new slot (new_peer_io is.0 wire now) sound given.0 (ap (λ p. p.slots) is.3)
+      (ap (λ p. p.adapter.state.next_handle) is.3 ∙ given.1)
+  sound_begins p new now wire rights group slot (Err full) is sound = subst AreSound (sym is.1) sound
+
+  sound_added_as : (old new : ServerState W) (now : ℕ) (wire : W) (rights : Rights) (group : Option ℕ)
+      (slot result : Result ℕ Full) → IsAddedAt now wire rights group slot old new result → AreSound old → AreSound new
+  sound_added_as old new now wire rights group (Ok slot) result is sound =
+      sound_begins (freed old slot) new now wire rights group slot result is
+      (sound_freed old slot (slice_get old.slots slot) sound)
+  sound_added_as old new now wire rights group (Err full) result is sound = subst AreSound (sym is.1) sound
 
   sound_step : (old new : ServerState W) → IsStep left written known counts answer next old new → AreSound old → AreSound new
   sound_step old new (Adds now wire result is) sound = sound_comes old new now wire result is sound
+  sound_step old new (Adds_as now wire rights group result is) sound =
+      sound_added_as old new now wire rights group (slot_for old now group) result is sound
   sound_step old new (MarksReady slot ends is) sound =
       sound_of old new sound
       (subst (AreOf old.slots) (sym (ap (λ p. p.slots) is)) (of_woken ends old.slots slot (slice_get old.slots slot) refl))
@@ -164,10 +220,10 @@ module _ {W O : Type 0} (left written : W → Option (List ℕ)) (known : W → 
   kept_still a io b after is same = record { calls = []; each = tt; leads = is; same = same }
 
   -- a peer began, or was refused
-  kept_begun : (a : AdapterState) (io : PeerIo W) (b : AdapterState) (after : PeerIo W) → b ≡ after_call a Begins_peer
-      → after ≡ io → IsKept a io b after
+  kept_begun : (a : AdapterState) (io : PeerIo W) (b : AdapterState) (after : PeerIo W)
+      → b ≡ after_call a (Begins_peer Write None) → after ≡ io → IsKept a io b after
   kept_begun a io b after is same = record {
-    calls = Begins_peer ∷ [];
+    calls = Begins_peer Write None ∷ [];
     each = (tt, tt);
     leads = is;
     same = ap (peer_state_of left written known counts b) same;
@@ -192,6 +248,116 @@ module _ {W O : Type 0} (left written : W → Option (List ℕ)) (known : W → 
       kept_begun old.adapter io new.adapter after (ap (λ p. p.adapter) is.1)
       (same_line old.slots slot io after there
       (subst (λ (p : ServerState W). slice_get p.slots slot ≡ Some (Some after)) is.1 stays))
+
+  -- another peer is not ended
+  freed_others : (p : ServerState W) (at slot : ℕ) (found : Option (Option (PeerIo W))) → slice_get p.slots at ≡ found
+      → AreSound p → at ≢ slot → (io : PeerIo W) → slice_get p.slots slot ≡ Some (Some io)
+      → AllByRecursion (IsForOther io.peer) (ends_before p at found)
+  freed_others p at slot None is sound differs io there = tt
+  freed_others p at slot (Some None) is sound differs io there = tt
+  freed_others p at slot (Some (Some ended)) is sound differs io there =
+      (apart_at p.slots at slot ended io sound.apart is there differs, tt)
+
+  freed_elsewhere : (p : ServerState W) (at slot : ℕ) (found : Option (Option (PeerIo W))) → at ≢ slot
+      → slice_get (freed_of p at found).slots slot ≡ slice_get p.slots slot
+  freed_elsewhere p at slot None differs = refl
+  freed_elsewhere p at slot (Some None) differs = refl
+  freed_elsewhere p at slot (Some (Some io)) differs = get_set_other p.slots at slot None differs
+
+  -- a freed slot holds nobody
+  freed_here : (p : ServerState W) (at : ℕ) (found : Option (Option (PeerIo W))) → slice_get p.slots at ≡ found
+      → (after : PeerIo W) → slice_get (freed_of p at found).slots at ≡ Some (Some after) → ⊥
+  freed_here p at None is after stays = cc
+  freed_here p at (Some None) is after stays = cc
+  freed_here p at (Some (Some io)) is after stays =
+      let none : slice_get (slice_set p.slots at None) at ≡ Some None = get_set_same p.slots at None (Some io) is in
+      cc
+
+  freed_next : (p : ServerState W) (at : ℕ) (found : Option (Option (PeerIo W)))
+      → (freed_of p at found).adapter.state.next_handle ≡ p.adapter.state.next_handle
+  freed_next p at None = refl
+  freed_next p at (Some None) = refl
+  freed_next p at (Some (Some io)) = next_end p.adapter io.peer
+
+  -- another peer stays while a peer begins in a slot that was freed
+  kept_elsewhere : (old new : ServerState W) (now : ℕ) (wire : W) (rights : Rights) (group : Option ℕ) (at : ℕ)
+      (result : Result ℕ Full) → BeginsIn now wire rights group at (freed old at) new result → AreSound old
+      → (slot : ℕ) (io after : PeerIo W) → slice_get old.slots slot ≡ Some (Some io)
+      → slice_get new.slots slot ≡ Some (Some after) → at ≢ slot → IsKept old.adapter io new.adapter after
+  kept_elsewhere old new now wire rights group at (Ok taken) is sound slot io after there stays differs =
+      let found : Option (Option (PeerIo W)) = slice_get old.slots at in
+      let held : slice_get (slice_set (freed old at).slots at (Some (new_peer_io is.0 wire now))) slot
+      ≡ Some (Some after)
+      = subst (λ (p : ServerState W). slice_get p.slots slot ≡ Some (Some after)) is.3 stays in
+      let before : slice_get old.slots slot ≡ Some (Some after)
+      = sym (freed_elsewhere old at slot found differs)
+      ∙ sym (get_set_other (freed old at).slots at slot (Some (new_peer_io is.0 wire now)) differs) ∙ held in
+      record {
+        calls = ends_before old at found ++ Begins_peer rights group ∷ [];
+        each = others_then (IsForOther io.peer) (ends_before old at found) (Begins_peer rights group)
+            (freed_others old at slot found refl sound differs io there) tt;
+        leads = ap (λ p. p.adapter) is.3
+            ∙ ap (λ a. after_call a (Begins_peer rights group)) (freed_leads old at found)
+            ∙ sym (after_calls-append old.adapter (ends_before old at found) (Begins_peer rights group ∷ []));
+        same = ap (peer_state_of left written known counts new.adapter) (same_line old.slots slot io after there before);
+      }
+  kept_elsewhere old new now wire rights group at (Err full) is sound slot io after there stays differs =
+      let found : Option (Option (PeerIo W)) = slice_get old.slots at in
+      let before : slice_get old.slots slot ≡ Some (Some after)
+      = sym (freed_elsewhere old at slot found differs)
+      ∙ subst (λ (p : ServerState W). slice_get p.slots slot ≡ Some (Some after)) is.1 stays in
+      record {
+        calls = ends_before old at found;
+        each = freed_others old at slot found refl sound differs io there;
+        leads = ap (λ p. p.adapter) is.1 ∙ freed_leads old at found;
+        same = ap (peer_state_of left written known counts new.adapter) (same_line old.slots slot io after there before);
+      }
+
+  -- the peer of that slot does not stay: the one that begins there has another handle
+  not_kept : (old new : ServerState W) (now : ℕ) (wire : W) (rights : Rights) (group : Option ℕ) (at : ℕ)
+      (result : Result ℕ Full) → BeginsIn now wire rights group at (freed old at) new result → AreSound old
+      → (io after : PeerIo W) → slice_get old.slots at ≡ Some (Some io) → slice_get new.slots at ≡ Some (Some after)
+      → after.peer ≡ io.peer → ⊥
+  not_kept old new now wire rights group at (Ok taken) is sound io after there stays same =
+      let found : Option (Option (PeerIo W)) = slice_get old.slots at in
+      let given : (is.0 ≡ (freed old at).adapter.state.next_handle)
+      × ((after_call (freed old at).adapter (Begins_peer rights group)).state.next_handle
+      ≡ (freed old at).adapter.state.next_handle + 1)
+      = next_given (freed old at).adapter rights group is.0 is.2 in
+      let held : slice_get (slice_set (freed old at).slots at (Some (new_peer_io is.0 wire now))) at ≡ Some (Some after)
+      = subst (λ (p : ServerState W). slice_get p.slots at ≡ Some (Some after)) is.3 stays in
+      let is_new : after.peer ≡ is.0 = set_peer (freed old at).slots at (new_peer_io is.0 wire now) after held in
+      below_at old.adapter.state.next_handle old.slots at io sound.below there
+      (sym same ∙ is_new ∙ given.0 ∙ freed_next old at found)
+  not_kept old new now wire rights group at (Err full) is sound io after there stays same =
+      freed_here old at (slice_get old.slots at) refl after
+      (subst (λ (p : ServerState W). slice_get p.slots at ≡ Some (Some after)) is.1 stays)
+
+  kept_beside : (old new : ServerState W) (now : ℕ) (wire : W) (rights : Rights) (group : Option ℕ) (at : ℕ)
+      (result : Result ℕ Full) → BeginsIn now wire rights group at (freed old at) new result → AreSound old
+      → (slot : ℕ) (io after : PeerIo W) → slice_get old.slots slot ≡ Some (Some io)
+      → slice_get new.slots slot ≡ Some (Some after) → after.peer ≡ io.peer → (here : Bool) → eqb at slot ≡ here
+      → IsKept old.adapter io new.adapter after
+  kept_beside old new now wire rights group at result is sound slot io after there stays same false which =
+      kept_elsewhere old new now wire rights group at result is sound slot io after there stays
+      (eqb-false at slot which)
+  kept_beside old new now wire rights group at result is sound slot io after there stays same true which =
+      let here : slot ≡ at = sym (eqb-true at slot which) in
+      absurd (not_kept old new now wire rights group at result is sound io after
+      (subst (λ n. slice_get old.slots n ≡ Some (Some io)) here there)
+      (subst (λ n. slice_get new.slots n ≡ Some (Some after)) here stays) same)
+
+  kept_added_as : (old new : ServerState W) (now : ℕ) (wire : W) (rights : Rights) (group : Option ℕ)
+      (chosen result : Result ℕ Full) → IsAddedAt now wire rights group chosen old new result → AreSound old
+      → (slot : ℕ) (io after : PeerIo W) → slice_get old.slots slot ≡ Some (Some io)
+      → slice_get new.slots slot ≡ Some (Some after) → after.peer ≡ io.peer → IsKept old.adapter io new.adapter after
+  kept_added_as old new now wire rights group (Ok at) result is sound slot io after there stays same =
+      kept_beside old new now wire rights group at result is sound slot io after there stays same (eqb at slot) refl
+  kept_added_as old new now wire rights group (Err full) result is sound slot io after there stays same =
+      kept_still old.adapter io new.adapter after (ap (λ p. p.adapter) is.1)
+      (ap (peer_state_of left written known counts new.adapter)
+      (same_line old.slots slot io after there
+      (subst (λ (p : ServerState W). slice_get p.slots slot ≡ Some (Some after)) is.1 stays)))
 
   -- the device wrote, which is a call for no peer
   kept_written : (old new : ServerState W) (write : OwnWrite) → new ≡ written_by write old → (slot : ℕ) (io after : PeerIo W)
@@ -256,24 +422,28 @@ module _ {W O : Type 0} (left written : W → Option (List ℕ)) (known : W → 
   }
 
   step_moves : (old new : ServerState W) → AreSound old → IsStep left written known counts answer next old new → (slot : ℕ) (io after : PeerIo W)
-      → slice_get old.slots slot ≡ Some (Some io) → slice_get new.slots slot ≡ Some (Some after)
+      → slice_get old.slots slot ≡ Some (Some io) → slice_get new.slots slot ≡ Some (Some after) → after.peer ≡ io.peer
       → MovesBy io.peer (GoesOnWith io.peer) (peer_state_of left written known counts old.adapter io)
       (peer_state_of left written known counts new.adapter after)
-  step_moves old new sound (Adds now wire result is) slot io after there stays =
+  step_moves old new sound (Adds now wire result is) slot io after there stays same =
       kept_moves old.adapter io new.adapter after (kept_come old new now wire result is slot io after there stays)
-  step_moves old new sound (MarksReady waken ends is) slot io after there stays =
+  step_moves old new sound (Adds_as now wire rights group result is) slot io after there stays same =
+      kept_moves old.adapter io new.adapter after
+      (kept_added_as old new now wire rights group (slot_for old now group) result is sound slot io after there stays
+      same)
+  step_moves old new sound (MarksReady waken ends is) slot io after there stays same =
       kept_moves old.adapter io new.adapter after
       (kept_still old.adapter io new.adapter after (ap (λ p. p.adapter) is)
       (woken_desk ends new.adapter old.slots waken slot (slice_get old.slots waken) refl io after there
       (subst (λ (p : ServerState W). slice_get p.slots slot ≡ Some (Some after)) is stays) (eqb waken slot) refl))
-  step_moves old new sound (Rounds now first last is) slot io after there stays =
+  step_moves old new sound (Rounds now first last is) slot io after there stays same =
       round_moves left written known counts answer next now first old last new is sound slot io after there stays
-  step_moves old new sound (Rounds_alone now is) slot io after there stays =
+  step_moves old new sound (Rounds_alone now is) slot io after there stays same =
       round_moves left written known counts no_answer same_nobody now nobody old nobody new is sound slot io after there
       stays
-  step_moves old new sound (Writes_own write is) slot io after there stays =
+  step_moves old new sound (Writes_own write is) slot io after there stays same =
       kept_moves old.adapter io new.adapter after (kept_written old new write is slot io after there stays)
-  step_moves old new sound (Releases still is) slot io after there stays =
+  step_moves old new sound (Releases still is) slot io after there stays same =
       still_moves io after old.adapter new.adapter (ap (λ p. p.adapter) is)
       (still_in left written old.slots new.slots still slot io after there stays)
 
@@ -304,7 +474,7 @@ module _ {W O : Type 0} (left written : W → Option (List ℕ)) (known : W → 
       λ n. MovesBy n (GoesOnWith n) (peer_state_of left written known counts between.adapter mid) (peer_state_of left written known counts last.adapter after)
       ) before.peer_of
       (step_moves between last (sound_life slot peer first between io mid lives sound) step slot mid after before.there
-      holds.there))
+      holds.there (holds.peer_of ∙ sym before.peer_of)))
 
   -- as the law states it
   pub law_peers : (adapter : AdapterState) (idle_timeout slot peer : ℕ) (first last : ServerState W) (io after : PeerIo W)

@@ -21,14 +21,14 @@ use Rattle.enip_server.proofs.TransferLemmas.{all_weaker, after_calls-append}
 use Rattle.enip_server.proofs.TurnMoves.{turn_moves}
 
 about_turn : (now peer : ℕ) (call : Call) → IsTurnCall now peer call → IsAbout peer call
-about_turn now peer Begins_peer is = absurd is
+about_turn now peer (Begins_peer rights group) is = absurd is
 about_turn now peer (Feeds at other piece) is = is.1
 about_turn now peer (Ends_peer other) is = absurd is
 about_turn now peer (Ticks at) is = absurd is
 about_turn now peer (Writes write) is = tt
 
 about_other : (other peer : ℕ) → other ≢ peer → (call : Call) → IsAbout other call → IsForOther peer call
-about_other other peer differs Begins_peer is = absurd is
+about_other other peer differs (Begins_peer rights group) is = absurd is
 about_other other peer differs (Feeds now to piece) is = subst (λ n. n ≢ peer) (sym is) differs
 about_other other peer differs (Ends_peer to) is = subst (λ n. n ≢ peer) (sym is) differs
 about_other other peer differs (Ticks now) is = absurd is
@@ -36,14 +36,14 @@ about_other other peer differs (Writes write) is = tt
 
 -- a call of a turn, or one for another peer, does not end this one
 pub turn_goes_on : (now peer : ℕ) (call : Call) → IsTurnCall now peer call → GoesOnWith peer call
-turn_goes_on now peer Begins_peer is = tt
+turn_goes_on now peer (Begins_peer rights group) is = tt
 turn_goes_on now peer (Feeds at other piece) is = tt
 turn_goes_on now peer (Ends_peer other) is = absurd is
 turn_goes_on now peer (Ticks at) is = tt
 turn_goes_on now peer (Writes write) is = tt
 
 pub other_goes_on : (peer : ℕ) (call : Call) → IsForOther peer call → GoesOnWith peer call
-other_goes_on peer Begins_peer is = tt
+other_goes_on peer (Begins_peer rights group) is = tt
 other_goes_on peer (Feeds now other piece) is = tt
 other_goes_on peer (Ends_peer other) is = is
 other_goes_on peer (Ticks now) is = tt

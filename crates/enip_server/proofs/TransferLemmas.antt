@@ -226,14 +226,14 @@ other_call other peer x y differs = ap (λ b. cond b x y) (ne_eqb other peer dif
 
 -- a call for another peer sends this one nothing and takes nothing of it
 sent_other : (peer : ℕ) (a : AdapterState) (call : Call) → IsForOther peer call → sent_by_call peer a call ≡ []
-sent_other peer a Begins_peer is = refl
+sent_other peer a (Begins_peer rights group) is = refl
 sent_other peer a (Feeds now other piece) is = other_call other peer _ [] is
 sent_other peer a (Ends_peer other) is = refl
 sent_other peer a (Ticks now) is = refl
 sent_other peer a (Writes write) is = refl
 
 taken_other : (peer : ℕ) (a : AdapterState) (call : Call) → IsForOther peer call → taken_by_call peer a call ≡ []
-taken_other peer a Begins_peer is = refl
+taken_other peer a (Begins_peer rights group) is = refl
 taken_other peer a (Feeds now other piece) is = other_call other peer _ [] is
 taken_other peer a (Ends_peer other) is = refl
 taken_other peer a (Ticks now) is = refl

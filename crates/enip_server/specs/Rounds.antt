@@ -9,6 +9,7 @@ use Rattle.cip_owner.specs.Replies.{Reply}
 use Rattle.cip_owner.specs.declared.owner.NoOwner.{NoOwner}
 use Rattle.enip_adapter.specs.declared.adapter.Full.{Full}
 use Rattle.enip_adapter.specs.declared.adapter.Full.TheVariants.{Places}
+use Rattle.enip_adapter.specs.declared.peer.Rights.TheVariants.{Write}
 use Rattle.enip_adapter.specs.Calls.{AdapterState, call_answer, after_call}
 use Rattle.enip_adapter.specs.Calls.Call.{Begins_peer, Ends_peer, Ticks, Writes}
 use Rattle.enip_adapter.specs.OwnWrites.{OwnWrite}
@@ -166,19 +167,20 @@ new_peer_io peer wire now = record {
 abbrev pub first_free : {W : Type 0} → List (Option (PeerIo W)) → Option ℕ
 first_free slots = position (λ io. is_none io) slots
 
--- A peer is added: it takes the first free slot. If all slots are taken, or the adapter refuses it, nothing changes.
+-- A peer is added that may write and has no group: it takes the first free slot. If all slots are taken, or the adapter
+-- refuses it, nothing changes.
 abbrev pub IsAdded : {W : Type 0} → ℕ → W → ServerState W → ServerState W → Result ℕ Full → Type 0
 IsAdded now wire old new (Ok slot) =
     (handle : ℕ) × (first_free old.slots ≡ Some slot)
-    × ((call_answer old.adapter Begins_peer).output ≡ Begins handle)
+    × ((call_answer old.adapter (Begins_peer Write None)).output ≡ Begins handle)
     × (new ≡ record old {
-      adapter = after_call old.adapter Begins_peer;
+      adapter = after_call old.adapter (Begins_peer Write None);
       slots = slice_set old.slots slot (Some (new_peer_io handle wire now));
     })
 IsAdded now wire old new (Err full) =
     ((first_free old.slots ≡ None) × (full ≡ Places) × (new ≡ old))
-    ⊎ (((call_answer old.adapter Begins_peer).output ≡ Refuses full)
-    × (new ≡ record old { adapter = after_call old.adapter Begins_peer }))
+    ⊎ (((call_answer old.adapter (Begins_peer Write None)).output ≡ Refuses full)
+    × (new ≡ record old { adapter = after_call old.adapter (Begins_peer Write None) }))
 
 -- The device's own write is a call of the adapter, and changes nothing else.
 abbrev pub written_by : {W : Type 0} → OwnWrite → ServerState W → ServerState W

@@ -14,7 +14,7 @@ use Rattle.enip_server.specs.PeerStates.{PeerState}
 
 -- The bytes that a call sends to a peer.
 abbrev pub sent_by_call : ℕ → AdapterState → Call → List ℕ
-sent_by_call peer a Begins_peer = []
+sent_by_call peer a (Begins_peer rights group) = []
 sent_by_call peer a (Feeds now other piece) =
     if other == peer then output_bytes (call_answer a (Feeds now other piece)).output else []
 sent_by_call peer a (Ends_peer other) = []
@@ -42,7 +42,7 @@ pub record Transfers (peer : ℕ) (calls : List Call) (received gone : List ℕ)
 
 -- A call that does not end this peer.
 abbrev pub GoesOnWith : ℕ → Call → Type 0
-GoesOnWith peer Begins_peer = ⊤
+GoesOnWith peer (Begins_peer rights group) = ⊤
 GoesOnWith peer (Feeds now other piece) = ⊤
 GoesOnWith peer (Ends_peer other) = other ≢ peer
 GoesOnWith peer (Ticks now) = ⊤

@@ -1,15 +1,18 @@
 //! Laws that hold for every list of calls of `Peers`. Each law is the contract of a function that does nothing. It is
 //! stated over the same definitions as the contracts of the calls.
 
-ghost use Rattle.std.specs.Prelude.{ℕ, ◌≡◌, List, Option, Some, slice_get};
+ghost use Rattle.std.specs.Prelude.{ℕ, ◌≡◌, ◌<◌, ◌-◌, List, Option, Some, Result, true, slice_get};
 ghost use Rattle.std.specs.List.{AllByRecursion};
 ghost use Rattle.enip_adapter.specs.Asks.{asks_of_calls, owner_after};
 ghost use Rattle.enip_adapter.specs.Calls.{AdapterState, Call};
+ghost use Rattle.enip_adapter.specs.declared.adapter.Full.{Full};
+ghost use Rattle.enip_adapter.specs.declared.peer.Rights.{Rights};
 ghost use Rattle.enip_server.specs.declared.held_wire.HeldWire.{HeldWire};
 ghost use Rattle.enip_server.specs.declared.peer_io.PeerIo.{PeerIo};
 ghost use Rattle.enip_server.specs.PeerStates.{PeerState, IsTurn, peer_state_of};
 ghost use Rattle.enip_server.specs.Transfers.{Transfers, IsTurnCall, GoesOnWith, AreAsked};
 ghost use Rattle.enip_server.specs.Rounds.{ServerState, IsRound, new_peers};
+ghost use Rattle.enip_server.specs.Evictions.{IsAddedAs, is_registered};
 ghost use Rattle.enip_server.specs.Held.{AreReleased};
 ghost use Rattle.enip_server.specs.Runs.{IsRun, IsStep, KeepsSlot};
 
@@ -66,4 +69,17 @@ pub fn releases_lose_nothing<W: Wire, O: Owner>()
     ensures { (old new : ServerState (HeldWire W)) → AreReleased W.left W.written W.known W.counts old new →
         IsStep ⟦<HeldWire<W> as Wire>⟧.left ⟦<HeldWire<W> as Wire>⟧.written ⟦<HeldWire<W> as Wire>⟧.known
         ⟦<HeldWire<W> as Wire>⟧.counts O.answer O.after old new }
+{}
+
+/// Nobody with a session gives way to a new client, and nobody from whom a byte arrived in the last 10 seconds: such a
+/// peer keeps its slot, and nothing of it changes.
+pub fn nobody_with_a_session_gives_way<W: Wire>()
+    ensures session { (now : ℕ) (wire : W) (rights : Rights) (group : Option ℕ) (old new : ServerState W)
+        (result : Result ℕ Full) (slot : ℕ) (io : PeerIo W) →
+        IsAddedAs now wire rights group old new result → slice_get old.slots slot ≡ Some (Some io) →
+        is_registered old.adapter io.peer ≡ Some true → slice_get new.slots slot ≡ Some (Some io) }
+    ensures recent { (now : ℕ) (wire : W) (rights : Rights) (group : Option ℕ) (old new : ServerState W)
+        (result : Result ℕ Full) (slot : ℕ) (io : PeerIo W) →
+        IsAddedAs now wire rights group old new result → slice_get old.slots slot ≡ Some (Some io) →
+        now - io.last_byte_at < 10000000 → slice_get new.slots slot ≡ Some (Some io) }
 {}

@@ -5,6 +5,8 @@
 //! outbox of answer bytes that were not written. A `Wire` is a stream whose calls never block.
 //!
 //! - `add` begins a peer on a new wire.
+//! - `add_as` begins a peer with rights, as one of a group. If all slots are taken, a peer that has registered no session
+//!   and sent nothing for 10 seconds gives way to it.
 //! - `mark_ready` reports that a wire may be ready.
 //! - `round` gives each peer that may be ready one turn. A turn first writes what is left of an answer. Once all of it
 //!   is written, it makes one read of at most 4,096 bytes and feeds them frame by frame. Each answer is written before
@@ -87,6 +89,7 @@
 //! ```
 #![tactic(auto)]
 
+mod evictions;
 mod held_wire;
 mod io_buffer;
 pub mod laws;
@@ -95,6 +98,7 @@ mod peers;
 mod wire;
 mod wire_counts;
 
+pub use evictions::EVICTION_SILENCE;
 pub use held_wire::HeldWire;
 pub use io_buffer::IO_BUFFER_SIZE;
 pub use peer_io::LINGER;

@@ -4,10 +4,12 @@
 ghost use Rattle.std.specs.Prelude.{◌≡◌, ◌≢◌, ◌≤◌, ◌<◌, [], length, take, Some, None, true, false, IfSome, IfNone, IfErr, IfOk};
 ghost use Rattle.std.specs.Io.KnownBytes.{Appends};
 ghost use Rattle.enip_adapter.specs.Calls.{AdapterState};
+ghost use Rattle.enip_server.specs.Evictions.{may_give_way};
 ghost use Rattle.enip_server.specs.Rounds.{timeout_at, IsServedPeer};
 ghost use Rattle.enip_server.specs.PeerStates.{peer_state_of, fed_once, owner_fed, closed_at, IsFlushed, AreFed, IsDiscarded, IsTurn, FitsBuffers, FitsCounts, IsWaiting};
 ghost use Rattle.enip_server.specs.PeerStates.{IsFetched, IsByRead, IsThrough, GoesOn, IsCutShort, is_closed_now, turn_after};
 
+use crate::evictions::EVICTION_SILENCE;
 use crate::io_buffer::{IO_BUFFER_SIZE, IoBuffer};
 use crate::wire::{ReadOutcome, Wire};
 use cip_owner::Owner;
@@ -98,6 +100,24 @@ impl<W: Wire> PeerIo<W> {
         match self.closed {
             Some(last) => last.min(silent),
             None => silent,
+        }
+    }
+
+    /// When the last byte arrived, or when the peer began.
+    pub(crate) fn last_byte_at(&self) -> u64
+        ensures { result ≡ self.now.last_byte_at }
+    {
+        self.last_byte_at
+    }
+
+    /// Whether the peer may give way to a new client: it has registered no session, and no byte of it has arrived for 10
+    /// seconds.
+    pub(crate) fn may_give_way(&self, adapter: &Adapter, now: u64) -> bool
+        ensures { result ≡ may_give_way adapter.now now self.now }
+    {
+        match adapter.is_registered(&self.peer) {
+            Some(false) => now.saturating_sub(self.last_byte_at) >= EVICTION_SILENCE,
+            _ => false,
         }
     }
 

@@ -1,7 +1,7 @@
 //! The peers of an adapter, and the calls that serve them.
 //! Text: docs/PROGRAM.md, "`enip serve`".
 
-ghost use Rattle.std.specs.Prelude.{◌≡◌, ◌≤◌, length, IfOk, IfSome, is_some};
+ghost use Rattle.std.specs.Prelude.{◌≡◌, ◌≤◌, ◌<◌, length, IfOk, IfSome, is_some};
 ghost use Rattle.std.specs.List.{list_any};
 ghost use Rattle.std.specs.Option.{option_map};
 ghost use Rattle.cip_objects.specs.DeviceWrites.{device_write};
@@ -11,13 +11,15 @@ ghost use Rattle.enip_server.specs.Rounds.{IsSlotServed, AreSlotsServed, IsRound
 ghost use Rattle.enip_server.specs.Rounds.{state_of, new_peers, first_free, IsAdded, marked_ready, is_ready, earliest_of, next_moment};
 ghost use Rattle.enip_server.specs.Rounds.{due_with, due_by, moment_or_none, written_by};
 ghost use Rattle.enip_server.specs.Rounds.{nobody, no_answer, same_nobody};
+ghost use Rattle.enip_server.specs.Evictions.{IsAddedAs, freed, slot_for};
 ghost use Rattle.enip_server.specs.Held.{IsSlotReleased, AreSlotsReleased, AreReleased};
 
+use crate::evictions::longest_silent;
 use crate::held_wire::HeldWire;
 use crate::peer_io::{PeerIo, Turn};
 use crate::wire::Wire;
 use cip_owner::{NoOwner, Owner};
-use enip_adapter::{Adapter, DiscoveryBuffer, Full, LONGEST_ANSWER};
+use enip_adapter::{Adapter, DiscoveryBuffer, Full, LONGEST_ANSWER, Rights};
 use std::alloc::{AllocError, Global};
 use std::boxed::BoxedSlice;
 
@@ -106,6 +108,74 @@ impl<W: Wire + Drop> Peers<W> {
         let peer = self.adapter.begin()?;
         self.slots[slot] = Some(PeerIo::new(peer, wire, now));
         Ok(slot)
+    }
+
+    /// The slot that a new client of a group would get at the time `now`: the first free one. If all are taken, and the
+    /// client has a group, it is the slot of a peer that has registered no session and sent nothing for 10 seconds
+    /// (`EVICTION_SILENCE`): of those, the one that has been silent longest. Nobody with a session gives way.
+    ///
+    /// # Errors
+    ///
+    /// `Full::Share` if the group holds its share of the peer slots, otherwise `Full::Places` if no slot is for it.
+    pub fn slot_for(&self, now: u64, group: Option<u128>) -> Result<usize, Full>
+        ensures slot { result ≡ slot_for (state_of self.now) now group }
+        ensures within { IfOk result (λ slot. slot < length (state_of self.now).slots) }
+    {
+        if self.adapter.holds_share(group) {
+            return Err(Full::Share);
+        }
+        if let Some(free) = self.first_free() {
+            return Ok(free);
+        }
+        if group.is_none() {
+            return Err(Full::Places);
+        }
+        match longest_silent(&self.slots, &self.adapter, now) {
+            Some(silent) => Ok(silent.slot),
+            None => Err(Full::Places),
+        }
+    }
+
+    /// Begins a peer on a wire at the time `now`, with these rights and as one of a group, if it has one. It takes the
+    /// slot that `slot_for` says, whose index is returned. A peer that gives way is ended first, and its wire is dropped.
+    ///
+    /// ```
+    /// if let Err(Full::Share) = peers.add_as(now, wire, Rights::Read, Some(address)) {
+    ///     // the address holds as many slots as its share: its other peers go on
+    /// }
+    /// ```
+    ///
+    /// # Errors
+    ///
+    /// `Full::Share` or `Full::Places` as `slot_for`, otherwise `Full::Handles` if the last session handle was assigned.
+    /// The wire is dropped.
+    pub fn add_as(
+        &mut self,
+        now: u64,
+        wire: W,
+        rights: Rights,
+        group: Option<u128>,
+    ) -> Result<usize, Full>
+        ensures { IsAddedAs now wire rights group (state_of self.old) (state_of self.new) result }
+    {
+        let slot = self.slot_for(now, group)?;
+        self.free_slot(slot);
+        let peer = self.adapter.begin_as(rights, group)?;
+        let io = PeerIo::new(peer, wire, now);
+        self.slots[slot] = Some(io);
+        Ok(slot)
+    }
+
+    /// Ends the peer in a slot, if there is one.
+    fn free_slot(&mut self, slot: usize)
+        requires { slot < length (state_of self.old).slots }
+        ensures freed { state_of self.new ≡ freed (state_of self.old) slot }
+        ensures size { length (state_of self.new).slots ≡ length (state_of self.old).slots }
+    {
+        if let Some(io) = &self.slots[slot] {
+            self.adapter.end(io.peer);
+            self.slots[slot] = None;
+        }
     }
 
     /// Reports that the wire of a slot may be ready. `ends` reports that its stream has ended or failed too; the system

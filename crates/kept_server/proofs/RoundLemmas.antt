@@ -4,26 +4,29 @@ use Rattle.std.proofs.Common.{Option, Some, None, Result, Ok, Err, inl, inr, ref
 use Rattle.std.proofs.lemmas.Bool.{eqb-true, eqb-false}
 use Rattle.enip_adapter.specs.declared.adapter.Full.{Full}
 use Rattle.enip_adapter.specs.Calls.{AdapterState, Call}
-use Rattle.enip_adapter.specs.Calls.Call.{Begins_peer}
+use Rattle.enip_adapter.specs.declared.peer.Rights.{Rights}
 use Rattle.enip_adapter.specs.Runs.{after_calls}
 use Rattle.enip_server.specs.declared.held_wire.HeldWire.{HeldWire}
 use Rattle.enip_server.specs.declared.peer_io.PeerIo.{PeerIo}
 use Rattle.enip_server.specs.Held.{held_known, held_written}
-use Rattle.enip_server.specs.Rounds.{ServerState, IsAdded, marked_ready, marked_ready_in, marked_ready_at, new_peer_io}
+use Rattle.enip_server.specs.Evictions.{IsAddedAs, slot_for}
+use Rattle.enip_server.specs.Rounds.{ServerState, first_free, marked_ready, marked_ready_in, marked_ready_at}
 use Rattle.enip_server.specs.Rounds.{nobody, no_answer, same_nobody, ended_in, next_moment}
 use Rattle.enip_server.specs.declared.peers.RoundEnd.{RoundEnd}
 use Rattle.enip_server.specs.Transfers.{AreAsked}
 use Rattle.enip_server.proofs.HeldLemmas.{round_released, same_released}
-use Rattle.enip_server.proofs.LifeLemmas.{get_set_other, get_set_same, free_elsewhere}
+use Rattle.enip_server.proofs.LifeLemmas.{get_set_other, get_set_same}
+use Rattle.enip_server.proofs.EvictionLemmas.{added_elsewhere, added_leads}
 use Rattle.enip_server.proofs.RoundAsks.{law_asked}
 use Rattle.enip_server.proofs.TransferLemmas.{after_calls-append}
 use Rattle.enip_keep.specs.Kept.{Kept}
 use Rattle.kept_server.proofs.ChangeLemmas.{wait_on}
+use Rattle.kept_server.specs.declared.round.Accepted.{Accepted}
 use Rattle.kept_server.specs.declared.round.ReadyWire.{ReadyWire}
 use Rattle.kept_server.specs.declared.round.RoundInput.{RoundInput}
 use Rattle.kept_server.specs.Changes.{still_waiting}
 use Rattle.kept_server.specs.Rounds.{DeviceContents, contents_after_calls}
-use Rattle.kept_server.specs.Rounds.{IsAccepted, IsHeldRound, KeepsWires, SendsNothing, TakesRound, new_held, with_marks}
+use Rattle.kept_server.specs.Rounds.{IsAccepted, IsAcceptedIn, IsHeldRound, KeepsWires, SendsNothing, TakesRound, new_held, with_marks}
 
 -- Calls of the adapter lead from one to another.
 record Leads (a b : AdapterState) : Type 0 where
@@ -47,23 +50,21 @@ module _ {W : Type 0} where
 
   -- ---- a connection is added
 
-  keeps_added : (old new : ServerState (HeldWire W)) (now : ℕ) (wire : HeldWire W) (result : Result ℕ Full)
-      → IsAdded now wire old new result → KeepsWires old new
-  keeps_added old new now wire (Ok free) is = λ slot io there.
-      let elsewhere : free ≢ slot = free_elsewhere old.slots free slot io is.1 there in (
-        io,
-        ap (λ (p : ServerState (HeldWire W)). slice_get p.slots slot) is.3
-            ∙ get_set_other old.slots free slot (Some (new_peer_io is.0 wire now)) elsewhere ∙ there,
-        refl,
-      )
-  keeps_added old new now wire (Err full) (inl is) = keeps_same old new (ap (λ p. p.slots) is.2)
-  keeps_added old new now wire (Err full) (inr is) = keeps_same old new (ap (λ p. p.slots) is.1)
+  keeps_added : (old new : ServerState (HeldWire W)) (now : ℕ) (wire : HeldWire W) (rights : Rights) (group : Option ℕ)
+      (result : Result ℕ Full) (free : ℕ) → first_free old.slots ≡ Some free
+      → IsAddedAs now wire rights group old new result → KeepsWires old new
+  keeps_added old new now wire rights group result free some is = λ slot io there. (
+    io,
+    added_elsewhere old new now wire rights group (slot_for old now group) result is refl free some slot io there,
+    refl,
+  )
 
-  leads_added : (old new : ServerState (HeldWire W)) (now : ℕ) (wire : HeldWire W) (result : Result ℕ Full)
-      → IsAdded now wire old new result → Leads old.adapter new.adapter
-  leads_added old new now wire (Ok free) is = record { calls = Begins_peer ∷ []; after = ap (λ p. p.adapter) is.3 }
-  leads_added old new now wire (Err full) (inl is) = record { calls = []; after = ap (λ p. p.adapter) is.2 }
-  leads_added old new now wire (Err full) (inr is) = record { calls = Begins_peer ∷ []; after = ap (λ p. p.adapter) is.1 }
+  leads_added : (old new : ServerState (HeldWire W)) (now : ℕ) (wire : HeldWire W) (rights : Rights) (group : Option ℕ)
+      (result : Result ℕ Full) → IsAddedAs now wire rights group old new result → Leads old.adapter new.adapter
+  leads_added old new now wire rights group result is =
+      let l : (calls : List Call) × (new.adapter ≡ after_calls old.adapter calls)
+      = added_leads old new now wire rights group (slot_for old now group) result is in
+      record { calls = l.0; after = l.1 }
 
   -- ---- a wire is marked ready
 
@@ -104,15 +105,29 @@ module _ {W : Type 0} where
 
   -- ---- a connection is added, if there is one
 
-  keeps_accepted : (now : ℕ) (accepted : Option W) (old new : ServerState (HeldWire W)) → IsAccepted now accepted old new
-      → KeepsWires old new
-  keeps_accepted now None old new is = keeps_same old new (ap (λ p. p.slots) is)
-  keeps_accepted now (Some wire) old new is = keeps_added old new now (new_held wire) is.0 is.1
+  keeps_accepted_in : (free : Option ℕ) (now : ℕ) (accepted : Accepted W) (old new : ServerState (HeldWire W))
+      → first_free old.slots ≡ free → IsAcceptedIn free now accepted old new → KeepsWires old new
+  keeps_accepted_in None now accepted old new found is = keeps_same old new (ap (λ p. p.slots) is)
+  keeps_accepted_in (Some free) now accepted old new found is =
+      keeps_added old new now (new_held accepted.wire) accepted.rights accepted.group is.0 free found is.1
 
-  leads_accepted : (now : ℕ) (accepted : Option W) (old new : ServerState (HeldWire W)) → IsAccepted now accepted old new
-      → Leads old.adapter new.adapter
+  keeps_accepted : (now : ℕ) (accepted : Option (Accepted W)) (old new : ServerState (HeldWire W))
+      → IsAccepted now accepted old new → KeepsWires old new
+  keeps_accepted now None old new is = keeps_same old new (ap (λ p. p.slots) is)
+  keeps_accepted now (Some accepted) old new is =
+      keeps_accepted_in (first_free old.slots) now accepted old new refl is
+
+  leads_accepted_in : (free : Option ℕ) (now : ℕ) (accepted : Accepted W) (old new : ServerState (HeldWire W))
+      → IsAcceptedIn free now accepted old new → Leads old.adapter new.adapter
+  leads_accepted_in None now accepted old new is = record { calls = []; after = ap (λ p. p.adapter) is }
+  leads_accepted_in (Some free) now accepted old new is =
+      leads_added old new now (new_held accepted.wire) accepted.rights accepted.group is.0 is.1
+
+  leads_accepted : (now : ℕ) (accepted : Option (Accepted W)) (old new : ServerState (HeldWire W))
+      → IsAccepted now accepted old new → Leads old.adapter new.adapter
   leads_accepted now None old new is = record { calls = []; after = ap (λ p. p.adapter) is }
-  leads_accepted now (Some wire) old new is = leads_added old new now (new_held wire) is.0 is.1
+  leads_accepted now (Some accepted) old new is =
+      leads_accepted_in (first_free old.slots) now accepted old new is
 
 module _ {W : Type 0} (left written : W → Option (List ℕ)) where
   -- ---- the whole round

@@ -11,10 +11,12 @@ use Rattle.enip_server.specs.declared.peer_io.PeerIo.{PeerIo}
 use Rattle.enip_server.specs.declared.peers.RoundEnd.{RoundEnd}
 use Rattle.enip_server.specs.declared.wire_counts.WireCounts.{WireCounts}
 use Rattle.enip_server.specs.Held.{held_known, held_written, AreReleased}
-use Rattle.enip_server.specs.Rounds.{ServerState, IsRound, IsAdded, marked_ready, ended_in, is_ready, next_moment}
+use Rattle.enip_server.specs.Evictions.{IsAddedAs}
+use Rattle.enip_server.specs.Rounds.{ServerState, IsRound, first_free, marked_ready, ended_in, is_ready, next_moment}
 use Rattle.enip_server.specs.Rounds.{nobody, no_answer, same_nobody}
 use Rattle.enip_server.specs.Wires.{KnownCalls}
 use Rattle.kept_server.specs.Changes.{kept_over, still_waiting, waiting_for}
+use Rattle.kept_server.specs.declared.round.Accepted.{Accepted}
 use Rattle.kept_server.specs.declared.round.ReadyWire.{ReadyWire}
 use Rattle.kept_server.specs.declared.round.RoundInput.{RoundInput}
 
@@ -76,10 +78,18 @@ new_held wire = record {
   counts = record { reads = 0; drained = 0; waits = 0; ends = 0 };
 }
 
--- A connection is added at a time, if there is one.
-abbrev pub IsAccepted : {W : Type 0} → ℕ → Option W → ServerState (HeldWire W) → ServerState (HeldWire W) → Type 0
+-- A connection is added at a time, if there is one and a slot is free.
+abbrev pub IsAcceptedIn : {W : Type 0} → Option ℕ → ℕ → Accepted W → ServerState (HeldWire W) → ServerState (HeldWire W)
+    → Type 0
+IsAcceptedIn None now accepted old new = new ≡ old
+IsAcceptedIn (Some free) now accepted old new =
+    (result : Result ℕ Full)
+    × IsAddedAs now (new_held accepted.wire) accepted.rights accepted.group old new result
+
+abbrev pub IsAccepted : {W : Type 0} → ℕ → Option (Accepted W) → ServerState (HeldWire W) → ServerState (HeldWire W)
+    → Type 0
 IsAccepted now None old new = new ≡ old
-IsAccepted now (Some wire) old new = (result : Result ℕ Full) × IsAdded now (new_held wire) old new result
+IsAccepted now (Some accepted) old new = IsAcceptedIn (first_free old.slots) now accepted old new
 
 -- These wires are marked ready, one after the other.
 abbrev pub marked_all : {W : Type 0} → List ReadyWire → List (Option (PeerIo W)) → List (Option (PeerIo W))

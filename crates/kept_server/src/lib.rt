@@ -21,4 +21,4 @@ mod waits;
 pub use kept_device::KeptDevice;
 pub use kept_peers::KeptPeers;
 pub use lives::live_peers;
-pub use round::{MOST_READY, ReadyWire, RoundInput};
+pub use round::{Accepted, MOST_READY, ReadyWire, RoundInput};

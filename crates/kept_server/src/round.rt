@@ -1,11 +1,13 @@
 //! A round of peers whose wires hold back what is written to them.
 
-ghost use Rattle.std.specs.Prelude.{◌≡◌, List};
+ghost use Rattle.std.specs.Prelude.{◌≡◌, List, None};
+ghost use Rattle.enip_adapter.specs.declared.peer.Rights.TheVariants.{Write};
 ghost use Rattle.enip_adapter.specs.Calls.{Call};
 ghost use Rattle.enip_server.specs.Rounds.{state_of};
 ghost use Rattle.kept_server.specs.Rounds.{IsAccepted, SendsNothing, TakesRound, with_marks};
 
 use arrayvec::ArrayVec;
+use enip_adapter::Rights;
 use enip_server::{HeldWire, Peers, RoundEnd, Wire};
 
 /// How many wires can be marked ready in one round: a server has at most so many peers.
@@ -20,13 +22,41 @@ pub struct ReadyWire {
     pub ends: bool,
 }
 
+/// A connection that was accepted, and what its client may do.
+#[derive(Drop)]
+pub struct Accepted<W> {
+    pub wire: W,
+    /// What the client may do.
+    pub rights: Rights,
+    /// The group for whom the shares count, such as the client's address.
+    pub group: Option<u128>,
+}
+
+impl<W> Accepted<W> {
+    /// A client that may do everything, and has no group.
+    ///
+    /// ```
+    /// let input = RoundInput { now, accepted: Some(Accepted::writer(wire)), ready };
+    /// ```
+    pub fn writer(wire: W) -> Accepted<W>
+        ensures { result ≡ record { wire = wire; rights = Write; group = None } }
+    {
+        Accepted {
+            wire,
+            rights: Rights::Write,
+            group: None,
+        }
+    }
+}
+
 /// What the peers get in a round.
 #[derive(Drop)]
 pub struct RoundInput<W> {
     /// The time, in microseconds.
     pub now: u64,
-    /// A connection that was accepted. It takes the first free slot; if there is none, it is dropped, which closes it.
-    pub accepted: Option<W>,
+    /// A connection that was accepted. It takes the first free slot; if there is none, or if its group holds its share, it
+    /// is dropped, which closes it.
+    pub accepted: Option<Accepted<W>>,
     /// The wires that may be ready since the last round.
     pub ready: ArrayVec<ReadyWire, MOST_READY>,
 }
@@ -50,12 +80,20 @@ pub(crate) fn take_round<W: Wire + Drop>(
     peers.round(now)
 }
 
-/// Adds a connection, if there is one. If no slot is free, it is dropped.
-fn add_accepted<W: Wire + Drop>(peers: &mut Peers<HeldWire<W>>, now: u64, accepted: Option<W>)
+/// Adds a connection, if there is one. If no slot is free, it is dropped: no peer gives way to it.
+fn add_accepted<W: Wire + Drop>(
+    peers: &mut Peers<HeldWire<W>>,
+    now: u64,
+    accepted: Option<Accepted<W>>,
+)
     ensures { IsAccepted now accepted (state_of peers.old) (state_of peers.new) }
 {
-    if let Some(wire) = accepted {
-        let _ = peers.add(now, HeldWire::new(wire));
+    let Some(accepted) = accepted else {
+        return;
+    };
+    if let Some(_) = peers.first_free() {
+        let wire = HeldWire::new(accepted.wire);
+        let _ = peers.add_as(now, wire, accepted.rights, accepted.group);
     }
 }
 

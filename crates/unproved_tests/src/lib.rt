@@ -8,6 +8,8 @@
 #[cfg(test)]
 mod adapter;
 #[cfg(test)]
+mod addresses;
+#[cfg(test)]
 mod bench;
 #[cfg(test)]
 mod cip;

@@ -5,6 +5,7 @@ use crate::texts::check_texts;
 use cip_commander::CommandRefused;
 use cip_layouts::FieldsFault;
 use cip_values::{ValueFault, ValueType};
+use enip_access::{Prefix, PrefixFault};
 use enip_client::ClientFault;
 use enip_commands::{
     CommandFileFault, LedgerRefusal, LifeFault, LineFault, OnceRefusal, ProgramFault,
@@ -138,6 +139,22 @@ fn of_requests_and_programs(rt: HostRuntime) -> Result<(), Fail> {
     ];
     check_texts(&rt, rt.alloc(), &requests)?;
     check_texts(&rt, rt.alloc(), &programs)
+}
+
+#[test]
+fn of_enip_access(rt: HostRuntime) -> Result<(), Fail> {
+    let rows = [
+        (PrefixFault::Address, "not an address"),
+        (
+            PrefixFault::Length,
+            "a prefix has 0 to 32 bits of an IPv4 address, or 0 to 128 of an IPv6 address",
+        ),
+        (
+            PrefixFault::HostBits(Prefix::default()),
+            "the address has bits after the prefix",
+        ),
+    ];
+    check_texts(&rt, rt.alloc(), &rows)
 }
 
 #[test]

@@ -6,7 +6,7 @@ use cip_objects::{Config, Objects};
 use enip_adapter::Adapter;
 use enip_keep::{Device, Entry, KeepError, MemoryKeeper, Server};
 use enip_server::NO_IDLE_TIMEOUT;
-use kept_server::{KeptDevice, KeptPeers, ReadyWire, RoundInput};
+use kept_server::{Accepted, KeptDevice, KeptPeers, ReadyWire, RoundInput};
 use std::alloc::{AllocError, Global};
 use std::cell::Cell;
 use std::process::Abort;
@@ -109,7 +109,7 @@ fn input<'a>(
     }
     RoundInput {
         now,
-        accepted,
+        accepted: accepted.map(Accepted::writer),
         ready: wires,
     }
 }
