@@ -94,8 +94,14 @@ fn adapter_of(
     Adapter::shared(alloc, objects, ledger, listen, limits, shares)
 }
 
-/// How many peers and connections one address may have.
-fn shares_for(access: &Option<Access>) -> Shares
+/// How many peers and connections one address may have at a time, by the table `access` of a configuration. Without the
+/// table, or without a key of it, there is no limit.
+///
+/// ```
+/// let shares = shares_for(&configuration.access);
+/// let adapter = Adapter::shared(alloc, objects, None, listen, limits, shares)?;
+/// ```
+pub fn shares_for(access: &Option<Access>) -> Shares
     requires { IfSome access.now HasShares }
     ensures shares { result ≡ shares_for access.now }
     ensures peers_from { 1 ≤ result.peers }
