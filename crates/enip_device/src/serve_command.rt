@@ -1,6 +1,7 @@
 //! `enip serve`: the device that the arguments describe, its sockets, and what observes it.
 
 ghost use Rattle.std.specs.Prelude.{◌≡◌, ◌<◌, ◌≤◌, ◌*◌, ◌-◌, ◌^◌, IfSome, IfOk, IsTrue};
+ghost use Rattle.enip_config.specs.Configured.{shares_for};
 
 use crate::frame_log::FrameLog;
 use crate::keeping::Keeping;
@@ -13,7 +14,7 @@ use crate::serve::{ServeLimits, Sockets, serve_connections};
 use crate::serving::{ServeFault, Serving};
 use clap::ArgMatches;
 use enip_access::Access;
-use enip_adapter::{Adapter, Limits, Listen};
+use enip_adapter::{Adapter, Limits, Listen, Shares};
 use enip_cli::OsArg;
 use enip_common::{
     ArgumentError, CLOCK, CommandError, ERRORS, HostPort, NamedFile, NamedReason, NumberArgument,
@@ -268,7 +269,8 @@ fn adapter_start<'a>(
     let mut configuration = config.configuration_to_serve(rt.alloc())?;
     let access = configuration.access.take();
     let life = life_now(rt)?;
-    match start_of(configuration, life, begins_life, idle_timeout) {
+    let shares = shares_for(&access);
+    match start_of(configuration, shares, life, begins_life, idle_timeout) {
         Some(start) => Ok((start, access)),
         None => Err(CommandError::of_reason(Reason::Named(config.name(), NamedReason::Failed))),
     }
@@ -278,6 +280,7 @@ fn adapter_start<'a>(
 /// its own objects are in the order of their numbers. `None` if the configuration was not accepted before.
 fn start_of(
     configuration: Configuration,
+    shares: Shares,
     life: u64,
     begins_life: bool,
     idle_timeout: u64,
@@ -310,7 +313,7 @@ fn start_of(
         first_handle,
         first_id,
     };
-    if objects.fault().is_some() || !are_in_range(limits, ledger) {
+    if objects.fault().is_some() || !are_in_range(limits, ledger) || !are_shares(shares) {
         return None;
     }
     Some(AdapterStart {
@@ -319,8 +322,30 @@ fn start_of(
         begins_life,
         listen: Listen { address, port },
         limits,
+        shares,
         idle_timeout,
     })
+}
+
+/// How many peers and connections one address may have.
+fn shares_for(access: &Option<Access>) -> Shares
+    ensures { result ≡ shares_for access.now }
+{
+    match access {
+        Some(access) => Shares {
+            peers: access.peers_per_address(),
+            connections: access.most_connections_per_address(),
+        },
+        None => Shares::NONE,
+    }
+}
+
+/// Whether an adapter can have these shares.
+fn are_shares(shares: Shares) -> bool
+    ensures peers { IsTrue result → (1 ≤ shares.peers) × (shares.peers ≤ 16) }
+    ensures connections { IsTrue result → (1 ≤ shares.connections) × (shares.connections ≤ 64) }
+{
+    1 <= shares.peers && shares.peers <= 16 && 1 <= shares.connections && shares.connections <= 64
 }
 
 /// Whether an adapter has these limits, and a ledger so many slots.
