@@ -11,6 +11,7 @@ use Rattle.cip_message.specs.Close.{Close, close_of}
 use Rattle.cip_objects.specs.Router.{general_status}
 use Rattle.cip_manager.specs.Replies.{SUCCESS, failure_reply, length_reply}
 use Rattle.cip_manager.specs.declared.connection.Connection.{Connection}
+use Rattle.cip_manager.specs.declared.connection.Opener.{Opener}
 use Rattle.cip_manager.specs.declared.connection.Triad.{Triad}
 use Rattle.cip_manager.specs.declared.opening.Opening.{Opening}
 use Rattle.cip_manager.specs.Connection.{is_named, is_of_session_with}
@@ -34,21 +35,21 @@ length-said ForwardClose Short = refl
 length-said ForwardClose Long = refl
 
 -- An open refuses and changes nothing, or opens what it asks for.
-pub after_open : (P : Turn → Type 0) (layout : Layout) (manager : ManagerState) (now session : ℕ) (bytes : List ℕ)
+pub after_open : (P : Turn → Type 0) (layout : Layout) (manager : ManagerState) (now : ℕ) (opener : Opener) (bytes : List ℕ)
     → ((reply : List ℕ) → (general_status reply == SUCCESS) ≡ false → P (record { manager = manager; reply = reply }))
-    → ((opening : Opening) → opening_check manager opening ≡ Ok tt → P (decided_opening (service_in layout) manager now session opening (Ok tt)))
-    → P (open_turn_in layout manager now session bytes)
-after_open P layout manager now session bytes stays opens = read (open_in layout bytes)
+    → ((opening : Opening) → opening_check manager opener.group opening ≡ Ok tt → P (decided_opening (service_in layout) manager now opener opening (Ok tt)))
+    → P (open_turn_in layout manager now opener bytes)
+after_open P layout manager now opener bytes stays opens = read (open_in layout bytes)
   where
-    decide : (opening : Opening) (check : Result (Unit {0}) ExtendedStatus) → opening_check manager opening ≡ check
-        → P (decided_opening (service_in layout) manager now session opening check)
+    decide : (opening : Opening) (check : Result (Unit {0}) ExtendedStatus) → opening_check manager opener.group opening ≡ check
+        → P (decided_opening (service_in layout) manager now opener opening check)
     decide opening (Err extended) e =
         stays (failure_reply (service_in layout) extended opening.triad) (failure-said (service_in layout) extended opening.triad)
     decide opening (Ok passed) e = opens opening e
 
-    read : (request : Result Open LengthFault) → P (read_opening_turn layout manager now session request)
+    read : (request : Result Open LengthFault) → P (read_opening_turn layout manager now opener request)
     read (Err fault) = stays (length_reply (service_in layout) fault) (length-said (service_in layout) fault)
-    read (Ok request) = decide (opening_in layout request) (opening_check manager (opening_in layout request)) refl
+    read (Ok request) = decide (opening_in layout request) (opening_check manager opener.group (opening_in layout request)) refl
 
 -- A close changes nothing, or ends the connections that it names.
 pub after_close : (P : ManagerState → Type 0) (manager : ManagerState) (session : ℕ) (bytes : List ℕ)
@@ -69,6 +70,7 @@ after_close P manager session bytes stays ends = read (close_of bytes) refl
 -- the same connection, except for its deadline and its target
 pub record IsSame (old new : Connection) : Type 0 where
   pub session : new.session ≡ old.session
+  pub group : new.group ≡ old.group
   pub id : new.o_to_t_id ≡ old.o_to_t_id
   pub triad : new.triad ≡ old.triad
 
@@ -82,4 +84,4 @@ module _ {M : Type 0} (after : M → ℕ → List ℕ → M) (answer : M → ℕ
     where
       go : (o : Option Connection) → find (is_named session id) cs ≡ o → P (turn_of_found after answer cs now session id bytes router o).connections
       go None e = stays
-      go (Some c) e = changes c _ e (record { session = refl; id = refl; triad = refl })
+      go (Some c) e = changes c _ e (record { session = refl; group = refl; id = refl; triad = refl })

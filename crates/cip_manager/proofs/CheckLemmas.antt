@@ -14,7 +14,7 @@ use Rattle.cip_manager.specs.declared.opening.Opening.{Opening}
 use Rattle.cip_manager.specs.Check.{demand, refusal_by, first_failure}
 use Rattle.cip_manager.specs.Connection.{has_triad}
 use Rattle.cip_manager.specs.Manager.{ManagerState}
-use Rattle.cip_manager.specs.Opening.{are_point_to_point, is_size, key_in, key_refusal, names_message_router, path_checks, field_checks, table_checks, opening_check}
+use Rattle.cip_manager.specs.Opening.{are_point_to_point, is_size, key_in, key_refusal, names_message_router, path_checks, field_checks, has_share_left, table_checks, opening_check}
 
 -- the first failure of joined lists is that of the first list, or else that of the rest
 pub first_failure-append : (checks rest : List (Result (Unit {0}) ExtendedStatus)) → first_failure (checks ++ rest) ≡ first_failure checks >> first_failure rest
@@ -23,32 +23,32 @@ first_failure-append (Ok passed ∷ checks) rest = first_failure-append checks r
 first_failure-append (Err extended ∷ checks) rest = refl
 
 -- so an opening is refused by its path, or else by its other fields, or else by the open connections
-pub opening_check-parts : (manager : ManagerState) (opening : Opening)
-    → opening_check manager opening ≡ first_failure (path_checks manager.device opening) >> first_failure (field_checks opening) >> first_failure (table_checks manager opening.triad)
-opening_check-parts manager opening =
-    first_failure-append (path_checks manager.device opening ++ field_checks opening) (table_checks manager opening.triad)
-    ∙ ap (λ (front : Result (Unit {0}) ExtendedStatus). front >> first_failure (table_checks manager opening.triad))
+pub opening_check-parts : (manager : ManagerState) (group : Option ℕ) (opening : Opening)
+    → opening_check manager group opening ≡ first_failure (path_checks manager.device opening) >> first_failure (field_checks opening) >> first_failure (table_checks manager group opening.triad)
+opening_check-parts manager group opening =
+    first_failure-append (path_checks manager.device opening ++ field_checks opening) (table_checks manager group opening.triad)
+    ∙ ap (λ (front : Result (Unit {0}) ExtendedStatus). front >> first_failure (table_checks manager group opening.triad))
     (first_failure-append (path_checks manager.device opening) (field_checks opening))
 
-pub path-refuses : (manager : ManagerState) (opening : Opening) (extended : ExtendedStatus) → first_failure (path_checks manager.device opening) ≡ Err extended
-    → opening_check manager opening ≡ Err extended
-path-refuses manager opening extended e =
-    opening_check-parts manager opening
-    ∙ ap (λ (path : Result (Unit {0}) ExtendedStatus). path >> first_failure (field_checks opening) >> first_failure (table_checks manager opening.triad)) e
+pub path-refuses : (manager : ManagerState) (group : Option ℕ) (opening : Opening) (extended : ExtendedStatus) → first_failure (path_checks manager.device opening) ≡ Err extended
+    → opening_check manager group opening ≡ Err extended
+path-refuses manager group opening extended e =
+    opening_check-parts manager group opening
+    ∙ ap (λ (path : Result (Unit {0}) ExtendedStatus). path >> first_failure (field_checks opening) >> first_failure (table_checks manager group opening.triad)) e
 
-pub fields-refuse : (manager : ManagerState) (opening : Opening) (extended : ExtendedStatus) → first_failure (path_checks manager.device opening) ≡ Ok tt
-    → first_failure (field_checks opening) ≡ Err extended → opening_check manager opening ≡ Err extended
-fields-refuse manager opening extended e f =
-    opening_check-parts manager opening
-    ∙ ap (λ (path : Result (Unit {0}) ExtendedStatus). path >> first_failure (field_checks opening) >> first_failure (table_checks manager opening.triad)) e
-    ∙ ap (λ (fields : Result (Unit {0}) ExtendedStatus). fields >> first_failure (table_checks manager opening.triad)) f
+pub fields-refuse : (manager : ManagerState) (group : Option ℕ) (opening : Opening) (extended : ExtendedStatus) → first_failure (path_checks manager.device opening) ≡ Ok tt
+    → first_failure (field_checks opening) ≡ Err extended → opening_check manager group opening ≡ Err extended
+fields-refuse manager group opening extended e f =
+    opening_check-parts manager group opening
+    ∙ ap (λ (path : Result (Unit {0}) ExtendedStatus). path >> first_failure (field_checks opening) >> first_failure (table_checks manager group opening.triad)) e
+    ∙ ap (λ (fields : Result (Unit {0}) ExtendedStatus). fields >> first_failure (table_checks manager group opening.triad)) f
 
 -- if none of two joined lists fails, none of either does
 both-pass : (a b : Result (Unit {0}) ExtendedStatus) → (a >> b) ≡ Ok tt → (a ≡ Ok tt) × (b ≡ Ok tt)
 both-pass (Ok passed) b e = (refl, e)
 both-pass (Err extended) b e = absurd cc
 
-passed-append : (checks rest : List (Result (Unit {0}) ExtendedStatus)) → first_failure (checks ++ rest) ≡ Ok tt → (first_failure checks ≡ Ok tt) × (first_failure rest ≡ Ok tt)
+pub passed-append : (checks rest : List (Result (Unit {0}) ExtendedStatus)) → first_failure (checks ++ rest) ≡ Ok tt → (first_failure checks ≡ Ok tt) × (first_failure rest ≡ Ok tt)
 passed-append checks rest e = both-pass (first_failure checks) (first_failure rest) (sym (first_failure-append checks rest) ∙ e)
 
 -- if none fails, each check passed
@@ -104,34 +104,37 @@ has_fields opening e =
       rpi = above opening.o_to_t.rpi (demand-passed _ Rpi passed.1.1.1.0);
     }
 
--- no open connection has the triad, a slot is free, and an ID is left
-pub record HasRoom (manager : ManagerState) (triad : Triad) : Type 0 where
+-- no open connection has the triad, a slot is free, an ID is left, and the group has a share left
+pub record HasRoom (manager : ManagerState) (group : Option ℕ) (triad : Triad) : Type 0 where
   pub new_triad : list_any (has_triad triad) manager.connections ≡ false
   pub place_left : length manager.connections < manager.places
   pub id_left : manager.next_id < 2 ^ 32
+  pub share_left : has_share_left manager group ≡ true
 
-pub has_room : (manager : ManagerState) (triad : Triad) → first_failure (table_checks manager triad) ≡ Ok tt → HasRoom manager triad
-has_room manager triad e =
-    let passed = all-passed (table_checks manager triad) e in
+pub has_room : (manager : ManagerState) (group : Option ℕ) (triad : Triad) → first_failure (table_checks manager group triad) ≡ Ok tt → HasRoom manager group triad
+has_room manager group triad e =
+    let passed = all-passed (table_checks manager group triad) e in
     let left = and_parts _ _ (demand-passed _ OutOfConnections passed.1.0) in
+    let both = and_parts _ _ left.0 in
     record {
       new_triad = not-false _ (demand-passed _ DoubleOpen passed.0);
-      place_left = ltb-true _ _ left.0;
-      id_left = ltb-true _ _ left.1;
+      place_left = ltb-true _ _ both.0;
+      id_left = ltb-true _ _ both.1;
+      share_left = left.1;
     }
 
 -- what each of the checks says, by its name
-pub record PassesChecks (manager : ManagerState) (opening : Opening) : Type 0 where
+pub record PassesChecks (manager : ManagerState) (group : Option ℕ) (opening : Opening) : Type 0 where
   pub path : HasPath manager.device opening
   pub fields : HasFields opening
-  pub room : HasRoom manager opening.triad
+  pub room : HasRoom manager group opening.triad
 
-pub passes_checks : (manager : ManagerState) (opening : Opening) → opening_check manager opening ≡ Ok tt → PassesChecks manager opening
-passes_checks manager opening e =
-    let first = passed-append (path_checks manager.device opening ++ field_checks opening) (table_checks manager opening.triad) e in
+pub passes_checks : (manager : ManagerState) (group : Option ℕ) (opening : Opening) → opening_check manager group opening ≡ Ok tt → PassesChecks manager group opening
+passes_checks manager group opening e =
+    let first = passed-append (path_checks manager.device opening ++ field_checks opening) (table_checks manager group opening.triad) e in
     let front = passed-append (path_checks manager.device opening) (field_checks opening) first.0 in
     record {
       path = has_path manager.device opening front.0;
       fields = has_fields opening front.1;
-      room = has_room manager opening.triad first.1;
+      room = has_room manager group opening.triad first.1;
     }

@@ -12,9 +12,10 @@ use Rattle.cip_message.specs.Open.{Layout, small, large}
 use Rattle.cip_objects.specs.Router.{general_status}
 use Rattle.cip_manager.specs.declared.connection.Triad.{Triad}
 use Rattle.cip_manager.specs.declared.connection.Connection.{Connection}
+use Rattle.cip_manager.specs.declared.connection.Opener.{Opener}
 use Rattle.cip_manager.specs.declared.opening.Opening.{Opening}
 use Rattle.cip_manager.specs.Connection.{is_same_triad, has_triad, is_of_session, is_of_session_with, is_named, is_open_at}
-use Rattle.cip_manager.specs.Manager.{ManagerState, Turn, no_connection}
+use Rattle.cip_manager.specs.Manager.{ManagerState, Turn, no_connection_with_share}
 use Rattle.cip_manager.specs.Opening.{new_connection, with_opening, open_success, decided_opening, service_in, open_turn_in}
 use Rattle.cip_manager.specs.Closing.{triad_of}
 use Rattle.cip_manager.specs.Replies.{SUCCESS, o_to_t_id_in}
@@ -30,28 +31,28 @@ record Draws (next after : ℕ) (ids : List ℕ) : Type 0 where
 abbrev given : Turn → List ℕ
 given turn = cond (general_status turn.reply == SUCCESS) (o_to_t_id_in turn.reply ∷ []) []
 
-given-opened : (layout : Layout) (manager : ManagerState) (now session : ℕ) (opening : Opening)
+given-opened : (layout : Layout) (manager : ManagerState) (now : ℕ) (opener : Opener) (opening : Opening)
     → o_to_t_id_in (open_success (service_in layout) manager.next_id opening) ≡ manager.next_id
-    → given (decided_opening (service_in layout) manager now session opening (Ok tt)) ≡ manager.next_id ∷ []
-given-opened small manager now session opening e = ap (λ id. id ∷ []) e
-given-opened large manager now session opening e = ap (λ id. id ∷ []) e
+    → given (decided_opening (service_in layout) manager now opener opening (Ok tt)) ≡ manager.next_id ∷ []
+given-opened small manager now opener opening e = ap (λ id. id ∷ []) e
+given-opened large manager now opener opening e = ap (λ id. id ∷ []) e
 
-draws-open : (layout : Layout) (manager : ManagerState) (now session : ℕ) (bytes : List ℕ) →
-    Draws manager.next_id (open_turn_in layout manager now session bytes).manager.next_id (given (open_turn_in layout manager now session bytes))
-draws-open layout manager now session bytes =
-    after_open (λ turn. Draws manager.next_id turn.manager.next_id (given turn)) layout manager now session bytes
+draws-open : (layout : Layout) (manager : ManagerState) (now : ℕ) (opener : Opener) (bytes : List ℕ) →
+    Draws manager.next_id (open_turn_in layout manager now opener bytes).manager.next_id (given (open_turn_in layout manager now opener bytes))
+draws-open layout manager now opener bytes =
+    after_open (λ turn. Draws manager.next_id turn.manager.next_id (given turn)) layout manager now opener bytes
     (λ reply refused. record { drawn = inl (ap (λ b. cond b (o_to_t_id_in reply ∷ []) []) refused, refl) })
     (λ opening check. record {
       drawn = inr (
-        given-opened layout manager now session opening
-            (little_number-reads_back 4 manager.next_id [] (passes_checks manager opening check).room.id_left),
+        given-opened layout manager now opener opening
+            (little_number-reads_back 4 manager.next_id [] (passes_checks manager opener.group opening check).room.id_left),
         refl,
       );
     })
 
 module _ {M : Type 0} (after : M → ℕ → List ℕ → M) (answer : M → ℕ → List ℕ → List ℕ) where
   draws-call : (state : State M) (call : ManagerCall) → Draws state.manager.next_id (state_after_call after answer state call).manager.next_id (ids_of_call after answer state call)
-  draws-call state (Opens layout now session bytes) = draws-open layout state.manager now session bytes
+  draws-call state (Opens layout now opener bytes) = draws-open layout state.manager now opener bytes
   draws-call state (Closes session bytes) =
       record { drawn = inl (refl, after_close (λ m. m.next_id ≡ state.manager.next_id) state.manager session bytes refl (λ request e. refl)) }
   draws-call state (Receives now session id bytes) = record { drawn = inl (refl, refl) }
@@ -102,10 +103,10 @@ differ-filter p manager d = record {
   drawn = All-filter p (λ c. c.o_to_t_id < manager.next_id) manager.connections d.drawn;
 }
 
-differ-opening : (manager : ManagerState) (now session : ℕ) (opening : Opening) → HasRoom manager opening.triad → Differ manager → Differ (with_opening manager now session opening)
-differ-opening manager now session opening room d =
+differ-opening : (manager : ManagerState) (now : ℕ) (opener : Opener) (opening : Opening) → HasRoom manager opener.group opening.triad → Differ manager → Differ (with_opening manager now opener opening)
+differ-opening manager now opener opening room d =
     let cs = manager.connections in
-    let new : Connection = new_connection manager.next_id now session opening in
+    let new : Connection = new_connection manager.next_id now opener opening in
     record {
       apart = all_pairs_push AreApart cs new d.apart (λ k e h. record {
         ids = d.drawn k e h;
@@ -119,9 +120,9 @@ differ-opening manager now session opening room d =
 
 module _ {M : Type 0} (after : M → ℕ → List ℕ → M) (answer : M → ℕ → List ℕ → List ℕ) where
   differ-call : (state : State M) (call : ManagerCall) → Differ state.manager → Differ (state_after_call after answer state call).manager
-  differ-call state (Opens layout now session bytes) d =
-      after_open (λ turn. Differ turn.manager) layout state.manager now session bytes (λ reply refused. d)
-      (λ opening check. differ-opening state.manager now session opening (passes_checks state.manager opening check).room d)
+  differ-call state (Opens layout now opener bytes) d =
+      after_open (λ turn. Differ turn.manager) layout state.manager now opener bytes (λ reply refused. d)
+      (λ opening check. differ-opening state.manager now opener opening (passes_checks state.manager opener.group opening check).room d)
   differ-call state (Closes session bytes) d =
       after_close Differ state.manager session bytes d (λ request e. differ-filter (λ c. not (is_of_session_with session (triad_of request) c)) state.manager d)
   differ-call state (Receives now session id bytes) d =
@@ -141,8 +142,8 @@ module _ {M : Type 0} (after : M → ℕ → List ℕ → M) (answer : M → ℕ
   differ-calls state [] d = d
   differ-calls state (call ∷ calls) d = differ-calls (state_after_call after answer state call) calls (differ-call state call d)
 
-  pub connections-apart : (places first_id : ℕ) (device : Device) (router : M) (calls : List ManagerCall)
-      → AllPairs AreApart (state_after after answer (record { manager = no_connection places first_id device; router = router }) calls).manager.connections
-  connections-apart places first_id device router calls =
-      (differ-calls (record { manager = no_connection places first_id device; router = router }) calls
+  pub connections-apart : (places share first_id : ℕ) (device : Device) (router : M) (calls : List ManagerCall)
+      → AllPairs AreApart (state_after after answer (record { manager = no_connection_with_share places share first_id device; router = router }) calls).manager.connections
+  connections-apart places share first_id device router calls =
+      (differ-calls (record { manager = no_connection_with_share places share first_id device; router = router }) calls
       (record { apart = λ i j d h k. absurd (omega arith); drawn = All-nil (λ c. c.o_to_t_id < first_id) })).apart

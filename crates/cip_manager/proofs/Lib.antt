@@ -9,6 +9,7 @@ pub mod ListLemmas
 pub mod Places
 pub mod SearchLemmas
 pub mod SessionLemmas
+pub mod ShareLemmas
 pub mod SlotLemmas
 pub mod TableLemmas
 pub mod WalkLemmas

@@ -1,5 +1,5 @@
 -- Filters, the first element that passes a test, and pairs.
-use Rattle.std.proofs.Common.{◌≡◌, suc, List, [], ◌∷◌, ◌++◌, Bool, true, false, cond, ◌&&◌, Some, refl, ap, subst, sym, ◌∙◌, arith}
+use Rattle.std.proofs.Common.{◌≡◌, suc, List, [], ◌∷◌, ◌++◌, Bool, true, false, cond, ◌&&◌, Some, length, refl, ap, subst, sym, ◌∙◌, arith}
 use Rattle.std.specs.Prelude.{filter, find, All, AllPairs}
 use Rattle.std.proofs.lemmas.List.Elements.{All-cons, All-head, All-tail, All-weaker, filter_agree}
 use Rattle.std.proofs.lemmas.List.Kept.{AllPairs-cons}
@@ -110,6 +110,27 @@ module _ {X : Type 0} where
           let other : p x ≡ false = ap p same ∙ o in
           ap (λ b. cond b (new ∷ filter p xs) (filter p xs)) n ∙ sym (ap (λ b. cond b (x ∷ filter p xs) (filter p xs)) other)
       go false rest l = ap (λ ys. cond (p x) (x ∷ ys) ys) (rest l)
+
+  -- a change of the first that passes a test, if another test gives the same result before and after it: as many pass
+  pub length-with_first : (p test : X → Bool) (old new : X) (xs : List X) → find test xs ≡ Some old → p new ≡ p old
+      → length (filter p (with_first test new xs)) ≡ length (filter p xs)
+  length-with_first p test old new [] f s = refl
+  length-with_first p test old new (x ∷ xs) f s = go (test x) (λ l. length-with_first p test old new xs l s) f
+    where
+      counted : (b : Bool) (y z : X) (ys : List X) → length (cond b (y ∷ ys) ys) ≡ length (cond b (z ∷ ys) ys)
+      counted true y z ys = refl
+      counted false y z ys = refl
+
+      more : (b : Bool) (ys zs : List X) → length ys ≡ length zs → length (cond b (x ∷ ys) ys) ≡ length (cond b (x ∷ zs) zs)
+      more true ys zs e = ap suc e
+      more false ys zs e = e
+
+      go : (t : Bool) → (find test xs ≡ Some old → length (filter p (with_first test new xs)) ≡ length (filter p xs)) → cond t (Some x) (find test xs) ≡ Some old
+          → length (filter p (cond t (new ∷ xs) (x ∷ with_first test new xs))) ≡ length (cond (p x) (x ∷ filter p xs) (filter p xs))
+      go true rest l =
+          let same : x ≡ old = cc in
+          ap (λ b. length (cond b (new ∷ filter p xs) (filter p xs))) (s ∙ ap p (sym same)) ∙ counted (p x) new x (filter p xs)
+      go false rest l = more (p x) (filter p (with_first test new xs)) (filter p xs) (rest l)
 
   -- what holds of each element still holds after one is changed to another of which it holds
   pub All-with_first : (P : X → Type 0) (test : X → Bool) (old new : X) (xs : List X) → find test xs ≡ Some old → (P old → P new) → All P xs → All P (with_first test new xs)

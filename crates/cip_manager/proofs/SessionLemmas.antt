@@ -37,13 +37,13 @@ module _ {M : Type 0} (after : M → ℕ → List ℕ → M) (answer : M → ℕ
   call-of_other : (session : ℕ) (state : State M) (call : ManagerCall) → IsOfOther session call
       → of_session session (state_after_call after answer state call).manager.connections
       ≡ filter (λ c. is_open_after c call) (of_session session state.manager.connections)
-  call-of_other session state (Opens layout now other bytes) differ =
+  call-of_other session state (Opens layout now opener bytes) differ =
       let cs = state.manager.connections in
-      after_open (λ turn. of_session session turn.manager.connections ≡ filter (λ c. true) (of_session session cs)) layout state.manager now other bytes
+      after_open (λ turn. of_session session turn.manager.connections ≡ filter (λ c. true) (of_session session cs)) layout state.manager now opener bytes
       (λ reply refused. sym (filter-true (of_session session cs)))
       (λ opening check.
-      filter-append (is_of_session session) cs (new_connection state.manager.next_id now other opening ∷ [])
-      ∙ (ap (λ b. of_session session cs ++ cond b (new_connection state.manager.next_id now other opening ∷ []) []) (ne_eqb other session differ)
+      filter-append (is_of_session session) cs (new_connection state.manager.next_id now opener opening ∷ [])
+      ∙ (ap (λ b. of_session session cs ++ cond b (new_connection state.manager.next_id now opener opening ∷ []) []) (ne_eqb opener.session session differ)
       ∙ (append-nil (of_session session cs) ∙ sym (filter-true (of_session session cs)))))
   call-of_other session state (Closes other bytes) differ =
       let cs = state.manager.connections in
@@ -75,11 +75,11 @@ module _ {M : Type 0} (after : M → ℕ → List ℕ → M) (answer : M → ℕ
   -- one call that spares a connection leaves it as it is found
   call-is_spared : (session id : ℕ) (c : Connection) (state : State M) (call : ManagerCall) → find (is_named session id) state.manager.connections ≡ Some c → is_spared c call ≡ true
       → find (is_named session id) (state_after_call after answer state call).manager.connections ≡ Some c
-  call-is_spared session id c state (Opens layout now other bytes) found spared =
+  call-is_spared session id c state (Opens layout now opener bytes) found spared =
       let cs = state.manager.connections in
-      after_open (λ turn. find (is_named session id) turn.manager.connections ≡ Some c) layout state.manager now other bytes
+      after_open (λ turn. find (is_named session id) turn.manager.connections ≡ Some c) layout state.manager now opener bytes
       (λ reply refused. found)
-      (λ opening check. find-append (is_named session id) c cs (new_connection state.manager.next_id now other opening ∷ []) found)
+      (λ opening check. find-append (is_named session id) c cs (new_connection state.manager.next_id now opener opening ∷ []) found)
   call-is_spared session id c state (Closes other bytes) found spared =
       after_close (λ m. find (is_named session id) m.connections ≡ Some c) state.manager other bytes
       found

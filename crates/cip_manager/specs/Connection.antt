@@ -1,10 +1,10 @@
 -- One open connection (Volume 1, Connection Manager), and when connections end.
 --
--- `Connection` is the record that `src/connection.rt` declares: the session that opened it, the ID of each
--- direction, the triad of connection serial, originator vendor and originator serial, its timeout, its deadline,
--- and the target's end, with both sizes and the count and reply that are held.
+-- `Connection` is the record that `src/connection.rt` declares: the session that opened it, the group whose share it
+-- uses, the ID of each direction, the triad of connection serial, originator vendor and originator serial, its timeout,
+-- its deadline, and the target's end, with both sizes and the count and reply that are held.
 use Rattle.std.specs.Prelude.{ℕ, ◌+◌, ◌-◌, ◌*◌, ◌^◌, min, max, nat_lt, Bool, true, false, ◌&&◌, ◌==◌, if◌then◌else◌}
-use Rattle.std.specs.Prelude.{List, [], ◌∷◌, Option, Some, None, unwrap_or}
+use Rattle.std.specs.Prelude.{List, [], ◌∷◌, filter, length, Option, Some, None, unwrap_or}
 use Rattle.cip_class3.specs.declared.target.Received.{Received}
 use Rattle.cip_class3.specs.declared.target.Received.TheVariants.{Dropped, Repeated, Executed}
 use Rattle.cip_class3.specs.TargetRule.{TargetState}
@@ -48,6 +48,18 @@ has_triad triad connection = is_same_triad connection.triad triad
 
 abbrev pub is_of_session : ℕ → Connection → Bool
 is_of_session session connection = connection.session == session
+
+-- An optional group is this one.
+abbrev pub is_group : ℕ → Option ℕ → Bool
+is_group group None = false
+is_group group (Some other) = other == group
+
+abbrev pub is_of_group : ℕ → Connection → Bool
+is_of_group group connection = is_group group connection.group
+
+-- How many of these connections a group has.
+abbrev pub count_of_group : ℕ → List Connection → ℕ
+count_of_group group connections = length (filter (is_of_group group) connections)
 
 abbrev pub has_id : ℕ → Connection → Bool
 has_id id connection = connection.o_to_t_id == id

@@ -2,8 +2,9 @@
 -- refused.
 --
 -- `Opening` and `Direction` are the records that `src/opening.rt` declares. They hold what an opening asks for,
--- whatever its layout: the layouts differ only in how their parameters are read.
-use Rattle.std.specs.Prelude.{◌≡◌, ℕ, ◌+◌, ◌^◌, ◌≤◌, nat_lt, nat_le, ◌==◌, Bool, false, not, ◌&&◌, is_some, is_none}
+-- whatever its layout: the layouts differ only in how their parameters are read. `Opener`, of `src/connection.rt`, is who
+-- opens a connection: a session, and the group for which the connection counts, if any.
+use Rattle.std.specs.Prelude.{◌≡◌, ℕ, ◌+◌, ◌^◌, ◌≤◌, nat_lt, nat_le, ◌==◌, Bool, true, false, not, ◌&&◌, is_some, is_none}
 use Rattle.std.specs.Prelude.{List, [], ◌∷◌, ◌++◌, length, Option, Some, None, Result, Ok, Err}
 use Rattle.std.specs.List.{list_any}
 use Rattle.cip_bytes.specs.declared.protocol.TheConstants.{LARGEST_CONNECTION_SIZE, MESSAGE_ROUTER, SMALLEST_O_TO_T_SIZE, SMALLEST_T_TO_O_SIZE}
@@ -24,12 +25,13 @@ use Rattle.cip_message.specs.Open.{large_connection_type, large_size_of, is_serv
 use Rattle.cip_message.specs.OpenPath.{open_path_of}
 use Rattle.cip_message.specs.Key.{refusal}
 use Rattle.cip_manager.specs.declared.connection.Connection.{Connection}
+use Rattle.cip_manager.specs.declared.connection.Opener.{Opener}
 use Rattle.cip_manager.specs.declared.connection.Triad.{Triad}
 use Rattle.cip_manager.specs.declared.opening.Direction.{Direction}
 use Rattle.cip_manager.specs.declared.opening.Opening.{Opening}
 use Rattle.cip_class3.specs.TargetRule.{target_at_opening}
 use Rattle.cip_manager.specs.Check.{demand, refusal_by, first_failure}
-use Rattle.cip_manager.specs.Connection.{has_triad, timeout_of, deadline_at_opening}
+use Rattle.cip_manager.specs.Connection.{has_triad, count_of_group, timeout_of, deadline_at_opening}
 use Rattle.cip_manager.specs.Manager.{ManagerState, Turn, turn}
 use Rattle.cip_manager.specs.Replies.{reply_of_service, length_reply, failure_reply, open_success_data, o_to_t_id_in}
 
@@ -121,21 +123,39 @@ field_checks opening =
     ∷ demand (not (opening.o_to_t.rpi == 0)) Rpi
     ∷ []
 
--- The checks against the open connections.
-abbrev pub table_checks : ManagerState → Triad → List (Result (Unit {0}) ExtendedStatus)
-table_checks manager triad =
-    demand (not (list_any (has_triad triad) manager.connections)) DoubleOpen
-    ∷ demand (nat_lt (length manager.connections) manager.places && nat_lt manager.next_id (2 ^ 32)) OutOfConnections
-    ∷ []
+-- No open connection has the triad.
+abbrev pub triad_check : ManagerState → Triad → Result (Unit {0}) ExtendedStatus
+triad_check manager triad = demand (not (list_any (has_triad triad) manager.connections)) DoubleOpen
 
--- All checks, in their order.
-abbrev pub opening_checks : ManagerState → Opening → List (Result (Unit {0}) ExtendedStatus)
-opening_checks manager opening =
-    path_checks manager.device opening ++ field_checks opening ++ table_checks manager opening.triad
+-- A group has fewer connections than its share. A connection of no group needs no share.
+abbrev pub has_share_left : ManagerState → Option ℕ → Bool
+has_share_left manager None = true
+has_share_left manager (Some group) = nat_lt (count_of_group group manager.connections) manager.share
+
+-- A slot is free, an ID is left, and the group has a share left.
+abbrev pub room_check : ManagerState → Option ℕ → Result (Unit {0}) ExtendedStatus
+room_check manager group =
+    demand (nat_lt (length manager.connections) manager.places && nat_lt manager.next_id (2 ^ 32)
+    && has_share_left manager group) OutOfConnections
+
+-- The checks against the open connections.
+abbrev pub table_checks : ManagerState → Option ℕ → Triad → List (Result (Unit {0}) ExtendedStatus)
+table_checks manager group triad = triad_check manager triad ∷ room_check manager group ∷ []
+
+-- All checks of an opening for a group, in their order.
+abbrev pub opening_checks : ManagerState → Option ℕ → Opening → List (Result (Unit {0}) ExtendedStatus)
+opening_checks manager group opening =
+    path_checks manager.device opening ++ field_checks opening ++ table_checks manager group opening.triad
 
 -- Why the opening is refused: the first check that fails.
-abbrev pub opening_check : ManagerState → Opening → Result (Unit {0}) ExtendedStatus
-opening_check manager opening = first_failure (opening_checks manager opening)
+abbrev pub opening_check : ManagerState → Option ℕ → Opening → Result (Unit {0}) ExtendedStatus
+opening_check manager group opening = first_failure (opening_checks manager group opening)
+
+-- The same without the last check.
+abbrev pub earlier_check : ManagerState → Opening → Result (Unit {0}) ExtendedStatus
+earlier_check manager opening =
+    first_failure (path_checks manager.device opening ++ field_checks opening
+    ++ triad_check manager opening.triad ∷ [])
 
 -- What a connection needs of an opening.
 pub record CanBeOpened (opening : Opening) : Type 0 where
@@ -146,11 +166,12 @@ pub record CanBeOpened (opening : Opening) : Type 0 where
   pub t_to_o_to : opening.t_to_o.size ≤ LARGEST_CONNECTION_SIZE
 
 -- The connection that an opening asks for, with this ID.
-abbrev pub new_connection : ℕ → ℕ → ℕ → Opening → Connection
-new_connection id now session opening =
+abbrev pub new_connection : ℕ → ℕ → Opener → Opening → Connection
+new_connection id now opener opening =
     let timeout = timeout_of opening.o_to_t.rpi opening.timeout_multiplier in
     record {
-      session = session;
+      session = opener.session;
+      group = opener.group;
       o_to_t_id = id;
       t_to_o_id = opening.t_to_o_id;
       triad = opening.triad;
@@ -160,16 +181,17 @@ new_connection id now session opening =
     }
 
 -- The connection is opened after the others, and uses the next ID.
-abbrev pub with_opening : ManagerState → ℕ → ℕ → Opening → ManagerState
-with_opening manager now session opening =
+abbrev pub with_opening : ManagerState → ℕ → Opener → Opening → ManagerState
+with_opening manager now opener opening =
     record manager {
       next_id = manager.next_id + 1;
-      connections = manager.connections ++ new_connection manager.next_id now session opening ∷ [];
+      connections = manager.connections ++ new_connection manager.next_id now opener opening ∷ [];
     }
 
 -- The next ID is used, and the reply has it. One more connection, with this ID, is open after the others.
 pub record OpensNext (old new : ManagerState) (reply : List ℕ) : Type 0 where
   pub places : new.places ≡ old.places
+  pub share : new.share ≡ old.share
   pub device : new.device ≡ old.device
   pub drawn : new.next_id ≡ old.next_id + 1
   pub id_in_reply : o_to_t_id_in reply ≡ old.next_id
@@ -184,16 +206,17 @@ open_success service id opening =
     (open_success_data id opening.t_to_o_id opening.triad opening.o_to_t.rpi opening.t_to_o.rpi)
 
 -- After the checks.
-abbrev pub decided_opening : ManagerService → ManagerState → ℕ → ℕ → Opening → Result (Unit {0}) ExtendedStatus → Turn
-decided_opening service manager now session opening (Err extended) =
+abbrev pub decided_opening : ManagerService → ManagerState → ℕ → Opener → Opening
+    → Result (Unit {0}) ExtendedStatus → Turn
+decided_opening service manager now opener opening (Err extended) =
     turn manager (failure_reply service extended opening.triad)
-decided_opening service manager now session opening (Ok passed) =
-    turn (with_opening manager now session opening) (open_success service manager.next_id opening)
+decided_opening service manager now opener opening (Ok passed) =
+    turn (with_opening manager now opener opening) (open_success service manager.next_id opening)
 
--- An opening of a session, by either service. The first check that fails refuses it, and then nothing changes.
-abbrev pub opening_turn : ManagerService → ManagerState → ℕ → ℕ → Opening → Turn
-opening_turn service manager now session opening =
-    decided_opening service manager now session opening (opening_check manager opening)
+-- An opening, by either service. The first check that fails refuses it, and then nothing changes.
+abbrev pub opening_turn : ManagerService → ManagerState → ℕ → Opener → Opening → Turn
+opening_turn service manager now opener opening =
+    decided_opening service manager now opener opening (opening_check manager opener.group opening)
 
 -- For each layout: its service, how its bytes are read, and what they ask for.
 abbrev pub service_in : Layout → ManagerService
@@ -209,19 +232,22 @@ opening_in small o = opening_of o
 opening_in large o = large_opening_of o
 
 -- The same, from the data of the request.
-abbrev pub read_opening_turn : Layout → ManagerState → ℕ → ℕ → Result Open LengthFault → Turn
-read_opening_turn layout manager now session (Err fault) = turn manager (length_reply (service_in layout) fault)
-read_opening_turn layout manager now session (Ok request) =
-    opening_turn (service_in layout) manager now session (opening_in layout request)
+abbrev pub read_opening_turn : Layout → ManagerState → ℕ → Opener → Result Open LengthFault → Turn
+read_opening_turn layout manager now opener (Err fault) = turn manager (length_reply (service_in layout) fault)
+read_opening_turn layout manager now opener (Ok request) =
+    opening_turn (service_in layout) manager now opener (opening_in layout request)
 
-abbrev pub open_turn_in : Layout → ManagerState → ℕ → ℕ → List ℕ → Turn
-open_turn_in layout manager now session content =
-    read_opening_turn layout manager now session (open_in layout content)
+abbrev pub open_turn_in : Layout → ManagerState → ℕ → Opener → List ℕ → Turn
+open_turn_in layout manager now opener content = read_opening_turn layout manager now opener (open_in layout content)
 
--- Forward_Open.
+-- A session that opens for no group.
+abbrev pub without_group : ℕ → Opener
+without_group session = record { session = session; group = None }
+
+-- Forward_Open of a session, for no group.
 abbrev pub open_turn : ManagerState → ℕ → ℕ → List ℕ → Turn
-open_turn manager now session content = open_turn_in small manager now session content
+open_turn manager now session content = open_turn_in small manager now (without_group session) content
 
--- Large_Forward_Open.
+-- Large_Forward_Open of a session, for no group.
 abbrev pub open_large_turn : ManagerState → ℕ → ℕ → List ℕ → Turn
-open_large_turn manager now session content = open_turn_in large manager now session content
+open_large_turn manager now session content = open_turn_in large manager now (without_group session) content

@@ -1,22 +1,24 @@
 -- Lists of calls of the manager, with the router of its connections.
 use Rattle.std.specs.Prelude.{◌≡◌, ◌≢◌, ℕ, ◌+◌, ◌<◌, ◌==◌, Bool, true, false, not, if◌then◌else◌, List, [], ◌∷◌, ◌++◌}
 use Rattle.std.specs.Prelude.{filter, Result, Ok, Err, ⊤}
-use Rattle.std.specs.List.{list_all}
+use Rattle.std.specs.List.{list_all, list_any}
 use Rattle.cip_message.specs.declared.open.LengthFault.{LengthFault}
 use Rattle.cip_message.specs.Close.{Close, close_of}
 use Rattle.cip_message.specs.Open.{Layout}
 use Rattle.cip_objects.specs.Router.{general_status}
 use Rattle.cip_manager.specs.declared.connection.Connection.{Connection}
-use Rattle.cip_manager.specs.Connection.{is_of_session, is_of_session_with, is_named, is_open_at}
+use Rattle.cip_manager.specs.declared.connection.Opener.{Opener}
+use Rattle.cip_manager.specs.Connection.{is_of_session, is_of_session_with, is_of_group, is_named, is_open_at}
 use Rattle.cip_manager.specs.Manager.{ManagerState}
 use Rattle.cip_manager.specs.Opening.{open_turn_in}
 use Rattle.cip_manager.specs.Closing.{close_turn, triad_of, without_overdue, without_session}
 use Rattle.cip_manager.specs.Items.{item_turn}
 use Rattle.cip_manager.specs.Replies.{SUCCESS, o_to_t_id_in}
 
--- A call of the manager: `open` or `open_large`, by the layout, `close`, `connected`, `expire` or `end_session`.
+-- A call of the manager: `open_for` or `open_large_for`, by the layout, `close`, `connected`, `expire` or `end_session`.
+-- `open` and `open_large` are those of an opener without a group.
 pub data ManagerCall : Type 0 where
-  Opens : (layout : Layout) (now session : ℕ) (bytes : List ℕ) → ManagerCall
+  Opens : (layout : Layout) (now : ℕ) (opener : Opener) (bytes : List ℕ) → ManagerCall
   Closes : (session : ℕ) (bytes : List ℕ) → ManagerCall
   Receives : (now session id : ℕ) (bytes : List ℕ) → ManagerCall
   Expires : (now : ℕ) → ManagerCall
@@ -30,8 +32,8 @@ pub record State (M : Type 0) : Type 0 where
 module _ {M : Type 0} (after : M → ℕ → List ℕ → M) (answer : M → ℕ → List ℕ → List ℕ) where
   -- The state after a call.
   abbrev pub state_after_call : State M → ManagerCall → State M
-  state_after_call state (Opens layout now session bytes) =
-      record { manager = (open_turn_in layout state.manager now session bytes).manager; router = state.router }
+  state_after_call state (Opens layout now opener bytes) =
+      record { manager = (open_turn_in layout state.manager now opener bytes).manager; router = state.router }
   state_after_call state (Closes session bytes) =
       record { manager = (close_turn state.manager session bytes).manager; router = state.router }
   state_after_call state (Receives now session id bytes) =
@@ -46,10 +48,10 @@ module _ {M : Type 0} (after : M → ℕ → List ℕ → M) (answer : M → ℕ
   state_after state [] = state
   state_after state (call ∷ calls) = state_after (state_after_call state call) calls
 
-  -- The IDs in the replies to calls of `open` and `open_large`, in their order.
+  -- The IDs in the replies to openings, in their order.
   abbrev pub ids_of_call : State M → ManagerCall → List ℕ
-  ids_of_call state (Opens layout now session bytes) =
-      let reply = (open_turn_in layout state.manager now session bytes).reply in
+  ids_of_call state (Opens layout now opener bytes) =
+      let reply = (open_turn_in layout state.manager now opener bytes).reply in
       (if general_status reply == SUCCESS then o_to_t_id_in reply ∷ [] else [])
   ids_of_call state (Closes session bytes) = []
   ids_of_call state (Receives now session id bytes) = []
@@ -67,7 +69,7 @@ CountsFrom n (id ∷ ids) = (id ≡ n) × CountsFrom (n + 1) ids
 
 -- The call comes from another session, or from none.
 abbrev pub IsOfOther : ℕ → ManagerCall → Type 0
-IsOfOther session (Opens layout now other bytes) = other ≢ session
+IsOfOther session (Opens layout now opener bytes) = opener.session ≢ session
 IsOfOther session (Closes other bytes) = other ≢ session
 IsOfOther session (Receives now other id bytes) = other ≢ session
 IsOfOther session (Expires now) = ⊤
@@ -79,7 +81,7 @@ of_session session connections = filter (is_of_session session) connections
 
 -- The connection is still open after the timeouts of a call.
 abbrev pub is_open_after : Connection → ManagerCall → Bool
-is_open_after connection (Opens layout now session bytes) = true
+is_open_after connection (Opens layout now opener bytes) = true
 is_open_after connection (Closes session bytes) = true
 is_open_after connection (Receives now session id bytes) = true
 is_open_after connection (Expires now) = is_open_at now connection
@@ -95,7 +97,7 @@ is_closed_by session (Err fault) connection = false
 
 -- The call is for another session or another connection of it, and does not time the connection out.
 abbrev pub is_spared : Connection → ManagerCall → Bool
-is_spared connection (Opens layout now session bytes) = true
+is_spared connection (Opens layout now opener bytes) = true
 is_spared connection (Closes session bytes) = not (is_closed_by session (close_of bytes) connection)
 is_spared connection (Receives now session id bytes) = not (is_named session id connection)
 is_spared connection (Expires now) = is_open_at now connection
@@ -105,3 +107,7 @@ is_spared connection (Ends session) = not (is_of_session session connection)
 pub record AreApart (earlier later : Connection) : Type 0 where
   pub ids : earlier.o_to_t_id < later.o_to_t_id
   pub triads : earlier.triad ≢ later.triad
+
+-- The connection counts for one of these groups.
+abbrev pub is_of_one_of : List ℕ → Connection → Bool
+is_of_one_of groups connection = list_any (λ group. is_of_group group connection) groups

@@ -2,10 +2,10 @@
 use Rattle.std.specs.Prelude.{◌≡◌, ℕ, ◌<◌, ◌≤◌, Bool, not, List, [], All, filter_map, Some}
 use Rattle.slab.specs.Slab.{Slab, get}
 use Rattle.cip_manager.specs.declared.connection.Connection.{Connection}
-use Rattle.cip_manager.specs.declared.group.Group.{Group}
-use Rattle.cip_manager.specs.declared.group.Group.TheVariants.{Overdue, OfSession, WithTriad, OfSessionWith}
+use Rattle.cip_manager.specs.declared.selection.Selection.{Selection}
+use Rattle.cip_manager.specs.declared.selection.Selection.TheVariants.{Overdue, OfSession, OfGroup, WithTriad, OfSessionWith}
 use Rattle.cip_manager.specs.declared.index.Entry.{Entry}
-use Rattle.cip_manager.specs.Connection.{is_of_session, is_of_session_with, has_triad, is_open_at}
+use Rattle.cip_manager.specs.Connection.{is_of_session, is_of_session_with, is_of_group, has_triad, is_open_at}
 
 -- How many connections can be open, and the open ones, in the order of opening.
 pub record TableState : Type 0 where
@@ -15,10 +15,11 @@ pub record TableState : Type 0 where
 abbrev pub no_entry : ℕ → TableState
 no_entry places = record { places = places; connections = [] }
 
--- The connection belongs to the group.
-abbrev pub is_in : Group → Connection → Bool
+-- The connection is selected.
+abbrev pub is_in : Selection → Connection → Bool
 is_in (Overdue now) connection = not (is_open_at now connection)
 is_in (OfSession session) connection = is_of_session session connection
+is_in (OfGroup group) connection = is_of_group group connection
 is_in (WithTriad triad) connection = has_triad triad connection
 is_in (OfSessionWith session triad) connection = is_of_session_with session triad connection
 

@@ -28,7 +28,7 @@ ghost use Rattle.cip_class3.specs.TargetRule.{execution_limit};
 ghost use Rattle.cip_manager.specs.ConnectionInfo.{connection_info};
 ghost use Rattle.cip_manager.specs.Opening.{CanBeOpened, new_connection};
 ghost use Rattle.cip_manager.specs.Items.{view as reply_in, held_reply, connection_turn, turn_until, answer_of};
-ghost use Rattle.cip_manager.specs.Connection.{timeout_of, moment_after, is_of_session_with, is_answered};
+ghost use Rattle.cip_manager.specs.Connection.{timeout_of, moment_after, is_of_session_with, is_of_group, is_answered};
 
 use crate::manager::KeptAnswer;
 use crate::opening::Opening;
@@ -64,6 +64,21 @@ impl Triad {
     }
 }
 
+/// Who opens a connection, as `Manager::open_for` takes it.
+///
+/// ```
+/// let opener = Opener { session, group: Some(u128::from(address)) }; // a client by its address
+/// let local = Opener { session, group: None };                       // nobody's share
+/// ```
+#[derive(Clone, Copy, Debug, PartialEq, Eq)]
+pub struct Opener {
+    /// The handle of the session, 32 bits. The connection ends with it, and only it can use or close the connection.
+    pub session: u32,
+    /// The group whose share the connection uses while it is open, by a number that the caller chooses. `None`: it
+    /// uses nobody's.
+    pub group: Option<u128>,
+}
+
 /// An open connection, as `Manager::connection_info` reports it.
 #[derive(Clone, Copy, Debug, Default)]
 pub struct ConnectionInfo {
@@ -80,6 +95,8 @@ pub struct ConnectionInfo {
 pub struct Connection {
     /// The session that opened it.
     pub session: u32,
+    /// The group whose share it uses.
+    pub group: Option<u128>,
     // The ID of items to the target. Only `connection_info` and definitions read it: a search by ID goes through
     // the index, which counts each comparison.
     o_to_t_id: u32,
@@ -98,13 +115,14 @@ impl Connection {
     ghost use Rattle.cip_manager.specs.contracts.connection.Connection.{the_row};
 
     /// The connection that an opening asks for. Its target holds nothing yet.
-    pub fn new(id: u32, now: u64, session: u32, opening: &Opening) -> Connection
+    pub fn new(id: u32, now: u64, opener: Opener, opening: &Opening) -> Connection
         requires { CanBeOpened opening.now }
-        ensures { result ≡ new_connection id now session opening.now }
+        ensures { result ≡ new_connection id now opener opening.now }
     {
         let timeout = timeout_of(opening.o_to_t.rpi, opening.timeout_multiplier);
         Connection {
-            session,
+            session: opener.session,
+            group: opener.group,
             o_to_t_id: id,
             t_to_o_id: opening.t_to_o_id,
             triad: opening.triad,
@@ -131,6 +149,16 @@ impl Connection {
         ensures { result ≡ moment_after now self.now.timeout }
     {
         moment_after(now, self.timeout)
+    }
+
+    /// Whether it uses the share of this group.
+    pub fn is_of_group(&self, group: u128) -> bool
+        ensures { result ≡ is_of_group group self.now }
+    {
+        match self.group {
+            Some(other) => other == group,
+            None => false,
+        }
     }
 
     /// Whether a Forward_Close of this session with this triad closes it.

@@ -11,13 +11,13 @@ ghost use Rattle.cip_manager.specs.Connection.{has_id, earliest_deadline};
 ghost use Rattle.cip_manager.specs.Index.{binary_digits};
 ghost use Rattle.cip_manager.specs.ConnectionInfo.{connection_info};
 ghost use Rattle.cip_manager.specs.declared.connection.Connection.{Connection as OpenConnection};
-ghost use Rattle.cip_manager.specs.Opening.{CanBeOpened, table_checks};
+ghost use Rattle.cip_manager.specs.Opening.{CanBeOpened, table_checks, has_share_left};
 
-use crate::connection::{Connection, ConnectionInfo, Triad};
-use crate::group::Group;
+use crate::connection::{Connection, ConnectionInfo, Opener, Triad};
 use crate::index::Steps;
 use crate::opening::Opening;
 use crate::reply::{write_close_success, write_failure, write_length_fault, write_open_success};
+use crate::selection::Selection;
 use crate::table::Table;
 use cip_bytes::protocol::{
     ExtendedStatus, LARGEST_CONNECTION_SIZE, ManagerService, REPLY_LIMIT, SEQUENCE_COUNT_SIZE,
@@ -53,6 +53,8 @@ pub struct KeptAnswer<'a> {
 /// ```
 #[derive(Drop)]
 pub struct Manager {
+    // How many connections one group may have.
+    share: u16,
     // It is past the greatest ID after that was used.
     next_id: u64,
     device: Device,
@@ -68,6 +70,7 @@ impl Model for Manager {
 
     ghost view = { λ m. record {
       places = m.table.places;
+      share = m.share;
       next_id = m.next_id;
       device = m.device;
       connections = m.table.connections;
@@ -77,15 +80,17 @@ impl Model for Manager {
 }
 
 impl Manager {
-    ghost use Rattle.cip_manager.specs.Manager.{no_connection, turn};
-    ghost use Rattle.cip_manager.specs.Opening.{opening_check, opening_turn, open_turn, open_large_turn, OpensNext};
+    ghost use Rattle.cip_message.specs.Open.{small, large};
+    ghost use Rattle.cip_manager.specs.Manager.{no_connection, no_connection_with_share, turn};
+    ghost use Rattle.cip_manager.specs.Opening.{opening_check, opening_turn, open_turn, open_large_turn, open_turn_in};
+    ghost use Rattle.cip_manager.specs.Opening.{OpensNext};
     ghost use Rattle.cip_manager.specs.Closing.{close_turn, closing_turn, without_overdue, without_session};
     ghost use Rattle.cip_manager.specs.contracts.manager.Manager.{the_row};
     ghost use Rattle.cip_objects.specs.Router.{general_status};
     ghost use Rattle.cip_manager.specs.Replies.{SUCCESS};
 
-    /// A manager with `places` slots and no connection. The first O->T ID is `first_id`. It allocates all its
-    /// memory here.
+    /// A manager with `places` slots and no connection. The first O->T ID is `first_id`. A group may have all
+    /// connections. It allocates all its memory here.
     pub fn new(
         alloc: Global,
         places: u16,
@@ -97,7 +102,31 @@ impl Manager {
         requires id { 1 ≤ first_id }
         ensures { IfOk result (λ manager. manager ≡ no_connection places first_id device) }
     {
+        Manager::with_share(alloc, places, places, first_id, device)
+    }
+
+    /// A manager with `places` slots and no connection. The first O->T ID is `first_id`. A group may have `share`
+    /// connections at a time: `places` and more limit nothing, and with 0 no group can open one. It allocates all its
+    /// memory here.
+    ///
+    /// ```
+    /// let mut manager = Manager::with_share(alloc, 64, 8, 1, objects.device())?;
+    /// manager.open_for(now, Opener { session, group: Some(address) }, data, &mut reply);
+    /// ```
+    pub fn with_share(
+        alloc: Global,
+        places: u16,
+        share: u16,
+        first_id: u32,
+        device: Device,
+    ) -> Result<Manager, AllocError>
+        requires places_from { 1 ≤ places }
+        requires places_to { places ≤ 64 }
+        requires id { 1 ≤ first_id }
+        ensures { IfOk result (λ manager. manager ≡ no_connection_with_share places share first_id device) }
+    {
         Ok(Manager {
+            share,
             next_id: u64::from(first_id),
             device,
             table: Table::new(alloc, places)?,
@@ -111,11 +140,51 @@ impl Manager {
         self.table.free()
     }
 
-    /// Forward_Open: opens the connection that the data of a session's request ask for. Leaves the whole router
-    /// reply in `reply`.
-    #[inline(never)]
+    /// Forward_Open: opens the connection that the data of a session's request ask for. It uses nobody's share.
+    /// Leaves the whole router reply in `reply`.
     pub fn open(&mut self, now: u64, session: u32, data: &[u8], reply: &mut ReplyBuf)
         ensures turn { turn self.new reply.new.items ≡ open_turn self.old now session «data».now }
+
+        // A refused open changes nothing, and uses no ID. Any other uses the next ID, and opens one more
+        // connection, after the others.
+        ensures refused { general_status reply.new.items ≢ SUCCESS → self.new ≡ self.old }
+        ensures opened { general_status reply.new.items ≡ SUCCESS → OpensNext self.old self.new reply.new.items }
+        ensures fits { length reply.new.items ≤ LONGEST_REPLY }
+    {
+        let opener = Opener {
+            session,
+            group: None,
+        };
+        self.open_for(now, opener, data, reply);
+    }
+
+    /// Large_Forward_Open: the same as `open`, for data with 32-bit parameters.
+    pub fn open_large(&mut self, now: u64, session: u32, data: &[u8], reply: &mut ReplyBuf)
+        ensures turn { turn self.new reply.new.items ≡ open_large_turn self.old now session «data».now }
+
+        // A refused open changes nothing, and uses no ID. Any other uses the next ID, and opens one more
+        // connection, after the others.
+        ensures refused { general_status reply.new.items ≢ SUCCESS → self.new ≡ self.old }
+        ensures opened { general_status reply.new.items ≡ SUCCESS → OpensNext self.old self.new reply.new.items }
+        ensures fits { length reply.new.items ≤ LONGEST_REPLY }
+    {
+        let opener = Opener {
+            session,
+            group: None,
+        };
+        self.open_large_for(now, opener, data, reply);
+    }
+
+    /// Forward_Open, of a session whose connection counts for a group: the same as `open`, but an opening of a group
+    /// that has its share already is refused with the extended status 0x0113, as if all slots were taken.
+    ///
+    /// ```
+    /// let opener = Opener { session, group: Some(u128::from(address)) };
+    /// manager.open_for(now, opener, data, &mut reply);
+    /// ```
+    #[inline(never)]
+    pub fn open_for(&mut self, now: u64, opener: Opener, data: &[u8], reply: &mut ReplyBuf)
+        ensures turn { turn self.new reply.new.items ≡ open_turn_in small self.old now opener «data».now }
 
         // A refused open changes nothing, and uses no ID. Any other uses the next ID, and opens one more
         // connection, after the others.
@@ -126,16 +195,17 @@ impl Manager {
         match OpenRequest::read(data) {
             Ok(request) => {
                 let opening = Opening::of(&request);
-                self.open_connection(ManagerService::ForwardOpen, now, session, &opening, reply);
+                self.open_connection(ManagerService::ForwardOpen, now, opener, &opening, reply);
             }
             Err(fault) => write_length_fault(ManagerService::ForwardOpen, fault, reply),
         }
     }
 
-    /// Large_Forward_Open: the same as `open`, for data with 32-bit parameters.
+    /// Large_Forward_Open, of a session whose connection counts for a group: the same as `open_for`, for data with
+    /// 32-bit parameters.
     #[inline(never)]
-    pub fn open_large(&mut self, now: u64, session: u32, data: &[u8], reply: &mut ReplyBuf)
-        ensures turn { turn self.new reply.new.items ≡ open_large_turn self.old now session «data».now }
+    pub fn open_large_for(&mut self, now: u64, opener: Opener, data: &[u8], reply: &mut ReplyBuf)
+        ensures turn { turn self.new reply.new.items ≡ open_turn_in large self.old now opener «data».now }
 
         // A refused open changes nothing, and uses no ID. Any other uses the next ID, and opens one more
         // connection, after the others.
@@ -149,7 +219,7 @@ impl Manager {
                 self.open_connection(
                     ManagerService::LargeForwardOpen,
                     now,
-                    session,
+                    opener,
                     &opening,
                     reply,
                 );
@@ -280,14 +350,14 @@ impl Manager {
     pub fn end_session(&mut self, session: u32)
         ensures { self.new ≡ without_session self.old session }
     {
-        self.table.end(&Group::OfSession(session));
+        self.table.end(&Selection::OfSession(session));
     }
 
     fn close_named(&mut self, session: u32, triad: Triad, reply: &mut ReplyBuf)
         ensures turn { turn self.new reply.new.items ≡ closing_turn self.old session triad }
         ensures fits { length reply.new.items ≤ LONGEST_REPLY }
     {
-        let named = Group::OfSessionWith(session, triad);
+        let named = Selection::OfSessionWith(session, triad);
         if !self.table.has_any(&named) {
             write_failure(
                 ManagerService::ForwardClose,
@@ -305,50 +375,63 @@ impl Manager {
         &mut self,
         service: ManagerService,
         now: u64,
-        session: u32,
+        opener: Opener,
         opening: &Opening,
         reply: &mut ReplyBuf,
     )
-        ensures turn { turn self.new reply.new.items ≡ opening_turn service self.old now session opening.now }
+        ensures turn { turn self.new reply.new.items ≡ opening_turn service self.old now opener opening.now }
         ensures refused { general_status reply.new.items ≢ SUCCESS → self.new ≡ self.old }
         ensures opened { general_status reply.new.items ≡ SUCCESS → OpensNext self.old self.new reply.new.items }
         ensures fits { length reply.new.items ≤ LONGEST_REPLY }
     {
-        if let Err(extended) = self.check(opening) {
+        if let Err(extended) = self.check(opener, opening) {
             write_failure(service, extended, opening.triad, reply);
             return;
         }
         let id = self.next_id as u32;
         self.next_id += 1;
         self.table
-            .push(id, Connection::new(id, now, session, opening));
+            .push(id, Connection::new(id, now, opener, opening));
         write_open_success(service, id, opening, reply);
     }
 
     /// Why an opening is refused: the first check that fails.
-    fn check(&self, opening: &Opening) -> Result<(), ExtendedStatus>
-        ensures check { result ≡ opening_check self.now opening.now }
+    fn check(&self, opener: Opener, opening: &Opening) -> Result<(), ExtendedStatus>
+        ensures check { result ≡ opening_check self.now opener.group opening.now }
         ensures can_be { OnOk result (CanBeOpened opening.now) }
         ensures position { OnOk result (length self.now.connections < self.now.places) }
         ensures id { OnOk result (self.now.next_id < 2 ^ 32) }
     {
         opening.check_path(&self.device)?;
         opening.check_fields()?;
-        self.check_table(opening.triad)
+        self.check_table(opener, opening.triad)
     }
 
     /// The checks against the open connections.
-    fn check_table(&self, triad: Triad) -> Result<(), ExtendedStatus>
-        ensures check { result ≡ first_failure (table_checks self.now triad) }
+    fn check_table(&self, opener: Opener, triad: Triad) -> Result<(), ExtendedStatus>
+        ensures check { result ≡ first_failure (table_checks self.now opener.group triad) }
         ensures position { OnOk result (length self.now.connections < self.now.places) }
         ensures id { OnOk result (self.now.next_id < 2 ^ 32) }
     {
-        if self.table.has_any(&Group::WithTriad(triad)) {
+        if self.table.has_any(&Selection::WithTriad(triad)) {
             return Err(ExtendedStatus::DoubleOpen);
         }
-        if self.table.free() == 0 || self.next_id > u64::from(u32::MAX) {
+        if self.table.free() == 0
+            || self.next_id > u64::from(u32::MAX)
+            || !self.has_share_left(opener)
+        {
             return Err(ExtendedStatus::OutOfConnections);
         }
         Ok(())
+    }
+
+    /// Whether the opener's group has fewer connections than its share. No group needs no share.
+    fn has_share_left(&self, opener: Opener) -> bool
+        ensures { result ≡ has_share_left self.now opener.group }
+    {
+        match opener.group {
+            Some(group) => self.table.count(&Selection::OfGroup(group)) < usize::from(self.share),
+            None => true,
+        }
     }
 }

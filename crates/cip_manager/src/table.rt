@@ -14,10 +14,10 @@ ghost use Rattle.cip_manager.specs.Items.{view as reply_in, item_turn, item_exec
 ghost use Rattle.cip_manager.specs.Table.{is_in, no_entry, AreBelow};
 
 use crate::connection::{Connection, ConnectionInfo};
-use crate::group::Group;
 use crate::index::{Index, Steps};
 use crate::manager::KeptAnswer;
 use crate::search::position_of;
+use crate::selection::Selection;
 use crate::slots::Slots;
 use cip_bytes::protocol::{LARGEST_CONNECTION_SIZE, REPLY_LIMIT, SEQUENCE_COUNT_SIZE};
 use cip_objects::Router;
@@ -81,16 +81,27 @@ impl Table {
         self.places - self.len() as u16
     }
 
-    /// Whether any connection of the group is open.
-    pub fn has_any(&self, group: &Group) -> bool
-        ensures { result ≡ list_any (is_in group.now) self.now.connections }
+    /// Whether a selected connection is open.
+    pub fn has_any(&self, selection: &Selection) -> bool
+        ensures { result ≡ list_any (is_in selection.now) self.now.connections }
     {
         for position in 0..self.len() {
-            if group.has(self.at(position)) {
+            if selection.has(self.at(position)) {
                 return true;
             }
         }
         false
+    }
+
+    /// How many of the open connections are selected.
+    pub fn count(&self, selection: &Selection) -> usize
+        ensures { result ≡ length (filter (is_in selection.now) self.now.connections) }
+    {
+        let mut count = 0;
+        for position in 0..self.len() {
+            count += usize::from(selection.has(self.at(position)));
+        }
+        count
     }
 
     /// Whether a connection with this O->T ID is open. It takes at most as many steps as the number of open
@@ -127,15 +138,15 @@ impl Table {
         self.index.push(id, key);
     }
 
-    /// Ends the connections of the group.
+    /// Ends the selected connections.
     #[inline(always)]
-    pub fn end(&mut self, group: &Group)
+    pub fn end(&mut self, selection: &Selection)
         ensures ended { self.new
-            ≡ record self.old { connections = filter (λ c. not (is_in group.now c)) self.old.connections } }
+            ≡ record self.old { connections = filter (λ c. not (is_in selection.now c)) self.old.connections } }
         ensures below { (n : ℕ) → AreBelow n self.old.connections → AreBelow n self.new.connections }
     {
         for position in (0..self.len()).rev() {
-            if group.has(self.at(position)) {
+            if selection.has(self.at(position)) {
                 self.remove(position);
             }
         }
@@ -237,7 +248,7 @@ impl Table {
             ≡ record self.old { connections = filter (is_open_at now) self.old.connections } }
         ensures below { (n : ℕ) → AreBelow n self.old.connections → AreBelow n self.new.connections }
     {
-        self.end(&Group::Overdue(now));
+        self.end(&Selection::Overdue(now));
         self.earliest = self.deadline().unwrap_or(u64::MAX);
     }
 

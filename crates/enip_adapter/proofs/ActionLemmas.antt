@@ -79,7 +79,7 @@ deeds_stand a last (Serves now peer ∷ actions) lead =
     )
 
 feed_for_other : (now to peer : ℕ) (call : Call) → IsFeedOf now to call → to ≢ peer → IsForOther peer call
-feed_for_other now to peer Begins_peer is differs = absurd is
+feed_for_other now to peer (Begins_peer rights group) is differs = absurd is
 feed_for_other now to peer (Feeds at other piece) is differs = subst (λ n. n ≢ peer) (sym is.1) differs
 feed_for_other now to peer (Ends_peer other) is differs = absurd is
 feed_for_other now to peer (Ticks at) is differs = absurd is

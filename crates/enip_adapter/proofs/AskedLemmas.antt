@@ -6,6 +6,7 @@ use Rattle.std.specs.List.{flat_map}
 use Rattle.cip_bytes.specs.Protocol.{command_of}
 use Rattle.cip_bytes.specs.declared.protocol.Command.{Command}
 use Rattle.cip_bytes.specs.declared.protocol.Command.TheVariants.{SendRRData, SendUnitData}
+use Rattle.cip_bytes.specs.declared.protocol.TheConstants.{UNCONNECTED_LIMIT}
 use Rattle.cip_class3.specs.Item.{sequence_count_of, message_of}
 use Rattle.cip_class3.specs.TargetRule.{TargetState, has_accepted_size, is_held, max_reply_size}
 use Rattle.cip_ledger.specs.Device.{Device, exec_device}
@@ -29,16 +30,18 @@ use Rattle.enip_wire.specs.Frames.{Frame}
 use Rattle.enip_wire.specs.Stream.{Parsed, held_and_taken, parsed}
 use Rattle.enip_wire.specs.Stream.Parsed.{Incomplete, WholeFrame, TooLongHeader}
 use Rattle.enip_wire.specs.declared.item_list.CpfFault.{CpfFault}
+use Rattle.enip_adapter.specs.declared.peer.Rights.{Rights}
 use Rattle.enip_adapter.specs.declared.peer.Session.{Session}
 use Rattle.enip_adapter.specs.declared.shared.Shared.{Shared}
 use Rattle.enip_adapter.specs.Asks.{asks_by_reached, asks_by_step, asks_by_steps, asks_of_call, asks_of_calls, asks_by_requests, with_reply, after_asking, asking_adapter, calls_asking, asked_adapter}
 use Rattle.enip_adapter.specs.Calls.{AdapterState, Call, after_call, call_answer, call_meaning, bytes_held, piece_to, piece_meaning, dropped_piece, events_of_parsed}
 use Rattle.enip_adapter.specs.Calls.Call.{Feeds, Writes}
 use Rattle.enip_adapter.specs.DeviceRuns.{DeviceStep, Requested, device_steps, steps_of_calls, objects_after, objects_answer, objects_after_steps, reached_by_steps, reached_by_step, steps_by_event, device_after, device_after_step, journal_by_step, journal_by_steps}
-use Rattle.enip_adapter.specs.DeviceRuns.{requests_by_route, requests_in_rr, requests_by_connection, requests_by_target, requests_in_unit, requests_by_command, requests_in_frame, requests_by_session}
+use Rattle.enip_adapter.specs.DeviceRuns.{requests_by_rights, requests_by_route, requests_in_rr, requests_by_connection, requests_by_target, requests_in_unit, requests_by_command, requests_in_frame, requests_by_session}
 use Rattle.enip_adapter.specs.OwnerLaws.{owned_in, answer_by, HadValue, IsRepeat, no_answer, no_change, asks_call_by_call, asking_events, asking_journal_by_steps}
 use Rattle.enip_adapter.specs.OwnWrites.{OwnWrite, objects_written, device_written, Prepares}
 use Rattle.enip_adapter.specs.Replies.{is_registered_as}
+use Rattle.enip_adapter.specs.Rights.{is_refused}
 use Rattle.enip_adapter.specs.Runs.{after_calls, events_of_calls}
 use Rattle.enip_adapter.specs.SendRRData.{Route, Opens, Closes, Executes, route_of}
 use Rattle.enip_adapter.specs.Turn.{State, Event, turn, after, session_of, at_moment}
@@ -55,31 +58,39 @@ data AtMostOne {X : Type 0} : List X → Type 0 where
   Zero : AtMostOne []
   One : (x : X) → AtMostOne (x ∷ [])
 
-few-route : (request : List ℕ) (to : Route) → AtMostOne (requests_by_route request to)
-few-route request (Opens layout bytes) = Zero
-few-route request (Closes bytes) = Zero
-few-route request Executes = One _
+few-rights : (rights : Rights) (max_size : ℕ) (request : List ℕ)
+    → AtMostOne (requests_by_rights rights max_size request)
+few-rights rights max_size request = both AtMostOne (is_refused rights request) _ _ Zero (One _)
 
-few-rr : (body : Result (List ℕ) CpfFault) → AtMostOne (requests_in_rr body)
-few-rr (Err fault) = Zero
-few-rr (Ok request) = both AtMostOne (ltb (length request) 2) _ _ Zero (few-route request (route_of request))
+few-route : (rights : Rights) (request : List ℕ) (to : Route) → AtMostOne (requests_by_route rights request to)
+few-route rights request (Opens layout bytes) = Zero
+few-route rights request (Closes bytes) = Zero
+few-route rights request Executes = few-rights rights UNCONNECTED_LIMIT request
 
-few-connection : (item : List ℕ) (o : Option Connection) → AtMostOne (requests_by_connection item o)
-few-connection item None = Zero
-few-connection item (Some c) =
+few-rr : (rights : Rights) (body : Result (List ℕ) CpfFault) → AtMostOne (requests_in_rr rights body)
+few-rr rights (Err fault) = Zero
+few-rr rights (Ok request) =
+    both AtMostOne (ltb (length request) 2) _ _ Zero (few-route rights request (route_of request))
+
+few-connection : (rights : Rights) (item : List ℕ) (o : Option Connection)
+    → AtMostOne (requests_by_connection rights item o)
+few-connection rights item None = Zero
+few-connection rights item (Some c) =
     both AtMostOne (has_accepted_size c.target item) _ _
-    (both AtMostOne (is_held c.target.held (sequence_count_of item)) _ _ Zero (One _)) Zero
+    (both AtMostOne (is_held c.target.held (sequence_count_of item)) _ _ Zero
+    (few-rights rights (max_reply_size c.target) (message_of item))) Zero
 
 few-unit : (shared : Shared) (session : Session) (body : Result (ℕ × List ℕ) CpfFault)
     → AtMostOne (requests_in_unit shared session body)
 few-unit shared session (Err fault) = Zero
 few-unit shared session (Ok (id, item)) =
-    few-connection item (find (is_named session.handle id) shared.manager.connections)
+    few-connection session.rights item (find (is_named session.handle id) shared.manager.connections)
 
 few-command : (shared : Shared) (session : Session) (f : Frame) (command : Option Command)
     → AtMostOne (requests_by_command shared session f command)
 few-command shared session f (Some SendRRData) =
-    both AtMostOne (not (is_registered_as session f.header.session)) _ _ Zero (few-rr (rr_body_of f.body))
+    both AtMostOne (not (is_registered_as session f.header.session)) _ _ Zero
+    (few-rr session.rights (rr_body_of f.body))
 few-command shared session f (Some SendUnitData) =
     both AtMostOne (not (is_registered_as session f.header.session)) _ _ Zero
     (few-unit shared session (unit_body_of f.body))
@@ -293,11 +304,11 @@ repeat-requests : (a : AdapterState) (now peer : ℕ) (piece : List ℕ) → IsR
 repeat-requests a now peer piece r =
     let shared : Shared = at_moment a.state.shared now in
     let target : TargetState = r.connection.target in
-    let by_target : requests_by_target target r.item ≡ []
+    let by_target : requests_by_target r.session.rights target r.item ≡ []
     = held-nil (has_accepted_size target r.item) (is_held target.held (sequence_count_of r.item))
-    ((max_reply_size target, message_of r.item) ∷ []) r.held in
+    (requests_by_rights r.session.rights (max_reply_size target) (message_of r.item)) r.held in
     let in_unit : requests_in_unit shared r.session (unit_body_of r.frame.body) ≡ []
-    = ap (requests_in_unit shared r.session) r.body ∙ (ap (requests_by_connection r.item) r.found ∙ by_target) in
+    = ap (requests_in_unit shared r.session) r.body ∙ (ap (requests_by_connection r.session.rights r.item) r.found ∙ by_target) in
     let by_command : requests_by_command shared r.session r.frame (command_of r.frame.header.command) ≡ []
     = ap (requests_by_command shared r.session r.frame) r.command
     ∙ cond-nil (not (is_registered_as r.session r.frame.header.session)) _ in_unit in
@@ -467,7 +478,7 @@ steps-two s (event ∷ first) second =
     ∙ sym (append_assoc (steps_by_event s event) (device_steps (turn s event).state first)
     (device_steps (after (turn s event).state first) second))
 
-asks-two : (device : Device) (first second : List DeviceStep)
+pub asks-two : (device : Device) (first second : List DeviceStep)
     → asks_by_steps device (first ++ second) ≡ asks_by_steps device first ++ asks_by_steps (device_after device first) second
 asks-two device [] second = refl
 asks-two device (step ∷ first) second =

@@ -2,13 +2,15 @@
 use Rattle.std.proofs.Common.{◌≡◌, ℕ, ◌+◌, ltb, not, List, [], ◌∷◌, ◌++◌, Bool, true, false, cond, if◌then◌else◌, Option, Some, None, length, map, refl, sym, ap, ◌∙◌, rules, All, ◌≤◌}
 use Rattle.std.specs.Prelude.{is_some}
 use Rattle.std.proofs.lemmas.List.Elements.{All-head, All-tail}
-use Rattle.enip_adapter.specs.declared.adapter.Full.TheVariants.{Places, Handles}
+use Rattle.enip_adapter.specs.declared.adapter.Full.TheVariants.{Places, Handles, Share}
 use Rattle.enip_adapter.specs.declared.peer.PeerSlot.{PeerSlot}
+use Rattle.enip_adapter.specs.declared.peer.Rights.{Rights}
 use Rattle.enip_adapter.specs.declared.peer.Session.{Session}
 use Rattle.enip_adapter.specs.declared.shared.Shared.{Shared}
 use Rattle.enip_adapter.specs.Adapter.{adapter_in, state_in, session_in, held_in}
 use Rattle.enip_adapter.specs.Calls.{AdapterState, Held, after_call, held_at_beginning}
 use Rattle.enip_adapter.specs.Calls.Call.{Begins_peer, Ends_peer}
+use Rattle.enip_adapter.specs.Groups.{has_share}
 use Rattle.enip_adapter.specs.Lookup.{first_with, without_first}
 use Rattle.enip_adapter.specs.Turn.{State, TurnResult, turned, with_peer, new_session, session_of, end_found, without_connections}
 use Rattle.enip_adapter.specs.Turn.Output.{Begins, Refuses}
@@ -65,30 +67,37 @@ ended old new next_handle handle peer shared left held a is who found limit take
     ∙ ended_either old.limit next_handle shared old.taken handle (first_with handle_of handle old.taken) refl
     ∙ ap (λ x. after_call x (Ends_peer handle)) is ∙ ap (λ n. after_call a (Ends_peer n)) who
 
--- The result of begin, by its two checks.
-abbrev begun_by : State → Bool → Bool → TurnResult
-begun_by s full used =
-    cond full (turned s (Refuses Places) false)
-    (cond used (turned s (Refuses Handles) false) (turned (with_peer s) (Begins s.next_handle) false))
+-- The result of begin, by its three checks.
+abbrev begun_by : State → Rights → Option ℕ → Bool → Bool → Bool → TurnResult
+begun_by s rights group over full used =
+    cond over (turned s (Refuses Share) false)
+    (cond full (turned s (Refuses Places) false)
+    (cond used (turned s (Refuses Handles) false) (turned (with_peer s rights group) (Begins s.next_handle) false)))
 
 abbrev after_begun : List Held → TurnResult → AdapterState
 after_begun held t = record { state = t.state; held = held_at_beginning held t.answer.output }
 
-pub begun_one : (limit next_handle : ℕ) (shared : Shared) (places : List PeerSlot) (new : PeerSlot)
+pub begun_one : (limit next_handle : ℕ) (shared : Shared) (places : List PeerSlot) (new : PeerSlot) (rights : Rights)
+    (group : Option ℕ) → has_share shared.share (map session_in places) group ≡ true
     → ltb (length (map session_in places)) limit ≡ true → ltb 0xffffffff next_handle ≡ false
-    → new ≡ record { session = new_session next_handle; reader = [] }
+    → new ≡ record { session = new_session next_handle rights group; reader = [] }
     → adapter_in limit (next_handle + 1) shared (places ++ new ∷ [])
-    ≡ after_call (adapter_in limit next_handle shared places) Begins_peer
-begun_one limit next_handle shared places new room unused is =
+    ≡ after_call (adapter_in limit next_handle shared places) (Begins_peer rights group)
+begun_one limit next_handle shared places new rights group left room unused is =
+    let s : State = state_in limit next_handle shared places in
     ap (λ p. adapter_in limit (next_handle + 1) shared (places ++ p ∷ [])) is
     ∙ ap (λ ps. let r : AdapterState = record {
       state = record { places = limit; next_handle = next_handle + 1; shared = shared; peers = ps };
-      held = map held_in (places ++ record { session = new_session next_handle; reader = [] } ∷ []);
-    } in r) (map-append_one session_in places (record { session = new_session next_handle; reader = [] }))
-    ∙ ap (λ h. let r : AdapterState = record { state = with_peer (state_in limit next_handle shared places); held = h } in r)
-    (map-append_one held_in places (record { session = new_session next_handle; reader = [] }))
-    ∙ ap (λ b. after_begun (map held_in places) (begun_by (state_in limit next_handle shared places) (not b) false)) (sym room)
-    ∙ ap (λ b. after_begun (map held_in places) (begun_by (state_in limit next_handle shared places) (not (ltb (length (map session_in places)) limit)) b)) (sym unused)
+      held = map held_in (places ++ record { session = new_session next_handle rights group; reader = [] } ∷ []);
+    } in r) (map-append_one session_in places (record { session = new_session next_handle rights group; reader = [] }))
+    ∙ ap (λ h. let r : AdapterState = record { state = with_peer (state_in limit next_handle shared places) rights group; held = h } in r)
+    (map-append_one held_in places (record { session = new_session next_handle rights group; reader = [] }))
+    ∙ ap (λ b. after_begun (map held_in places) (begun_by s rights group false (not b) false)) (sym room)
+    ∙ ap (λ b. after_begun (map held_in places)
+    (begun_by s rights group false (not (ltb (length (map session_in places)) limit)) b)) (sym unused)
+    ∙ ap (λ b. after_begun (map held_in places)
+    (begun_by s rights group (not b) (not (ltb (length (map session_in places)) limit)) (ltb 0xffffffff next_handle)))
+    (sym left)
 
 pub finds_same : (h k : ℕ) (xs ys : List PeerSlot) → h ≡ k → xs ≡ ys → finds h xs ≡ finds k ys
 finds_same h k xs ys e f = ap (λ n. finds n xs) e ∙ ap (finds k) f

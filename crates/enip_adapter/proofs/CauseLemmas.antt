@@ -7,7 +7,7 @@ use Rattle.std.proofs.lemmas.Bool.{eqb-true, eqb-false, ne_eqb, eq-eqb, leb-fals
 use Rattle.cip_bytes.specs.Protocol.{command_of}
 use Rattle.cip_bytes.specs.declared.protocol.Command.{Command}
 use Rattle.cip_bytes.specs.declared.protocol.Command.TheVariants.{SendRRData, SendUnitData}
-use Rattle.cip_ledger.specs.Device.{Device, exec_device}
+use Rattle.cip_ledger.specs.Device.{Device}
 use Rattle.cip_message.specs.Close.{Close, close_of}
 use Rattle.cip_manager.specs.declared.connection.Connection.{Connection}
 use Rattle.cip_manager.specs.declared.connection.ConnectionInfo.{ConnectionInfo}
@@ -24,16 +24,18 @@ use Rattle.enip_wire.specs.Stream.{Parsed, held_and_taken, bytes_taken, parsed}
 use Rattle.enip_wire.specs.Stream.Parsed.{Incomplete, WholeFrame, TooLongHeader}
 use Rattle.enip_wire.specs.declared.item_list.CpfFault.{CpfFault}
 use Rattle.enip_adapter.specs.declared.adapter.Limits.{Limits}
+use Rattle.enip_adapter.specs.declared.adapter.Shares.{Shares}
 use Rattle.enip_adapter.specs.declared.endings.EndReason.TheVariants.{TimedOut, PeerEnded, SessionEnded, Closed}
 use Rattle.enip_adapter.specs.declared.endings.EndedConnection.{EndedConnection}
 use Rattle.enip_adapter.specs.declared.no_reply_reason.NoReplyReason.TheVariants.{NotServed}
+use Rattle.enip_adapter.specs.declared.peer.Rights.{Rights}
 use Rattle.enip_adapter.specs.declared.peer.Session.{Session}
 use Rattle.enip_adapter.specs.declared.shared.Listen.{Listen}
 use Rattle.enip_adapter.specs.declared.shared.Shared.{Shared}
-use Rattle.enip_adapter.specs.Adapter.{new_adapter}
+use Rattle.enip_adapter.specs.Adapter.{shared_adapter}
 use Rattle.enip_adapter.specs.Commands.{by_command, command_served, long_refused}
 use Rattle.enip_adapter.specs.Replies.{Served, leaving, is_registered_as}
-use Rattle.enip_adapter.specs.SendRRData.{Route, route_of, routed_to, reply_to_body}
+use Rattle.enip_adapter.specs.SendRRData.{Route, route_of, opener_of, routed_to, reply_to_body}
 use Rattle.enip_adapter.specs.SendRRData.Route.{Opens, Closes, Executes}
 use Rattle.enip_adapter.specs.SendUnitData.{item_of_body}
 use Rattle.enip_adapter.specs.Turn.{State, TurnResult, turned, without_connections, begun, after, session_of, serve_found}
@@ -56,7 +58,9 @@ use Rattle.enip_adapter.proofs.OwnLemmas.{served_turn, served-open}
 use Rattle.enip_adapter.proofs.PeerLemmas.{at_state, spares-piece}
 use Rattle.enip_adapter.proofs.RootLemmas.{HeldOpen, held-open, rooted-reached, each-weaker}
 use Rattle.enip_adapter.proofs.SessionEndLemmas.{reached, reason-open}
-use Rattle.enip_adapter.proofs.SoundLemmas.{IsSound, sound-calls, sound-new}
+use Rattle.enip_adapter.proofs.SoundLemmas.{IsSound, sound-calls, sound-shared}
+use Rattle.enip_adapter.specs.Rights.{after_for, answer_for}
+use Rattle.enip_adapter.proofs.BeginLemmas.{each-begun}
 
 -- ---- every reason
 
@@ -167,12 +171,6 @@ open-changed c old new test (x ∷ xs) found same e =
     go false rest f g =
         or-on (has_id c.o_to_t_id x) (is_open_among c xs) (is_open_among c (with_first_that test new xs)) (rest f) g
 
-abbrev exec_after : Device → ℕ → List ℕ → Device
-exec_after device max_size request = (exec_device device max_size request).after
-
-abbrev exec_answer : Device → ℕ → List ℕ → List ℕ
-exec_answer device max_size request = (exec_device device max_size request).answer
-
 -- The frame carries a Forward_Close of this connection.
 record Closing (f : Frame) (session : ℕ) (c : Connection) : Type 0 where
   close : Close
@@ -216,9 +214,9 @@ module _ (shared : Shared) (session : Session) (f : Frame) (c : Connection) (is 
       → (to : Route) → route_of request ≡ to → Explains (routed_to shared session request to).shared
   explains-routed command request body (Opens layout bytes) route =
       after_open (λ t. is_open_among c t.manager.connections ≡ false → Closing f session.handle c) layout
-      shared.manager shared.moment session.handle bytes (λ reply refused. explains-same)
+      shared.manager shared.moment (opener_of session) bytes (λ reply refused. explains-same)
       (λ asked check shut. absurd (false≢true (sym shut
-      ∙ open-append c (new_connection shared.manager.next_id shared.moment session.handle asked)
+      ∙ open-append c (new_connection shared.manager.next_id shared.moment (opener_of session) asked)
       shared.manager.connections (in-open is))))
   explains-routed command request body (Closes bytes) route = explains-closes command request body bytes route
   explains-routed command request body Executes route = explains-same
@@ -233,7 +231,7 @@ module _ (shared : Shared) (session : Session) (f : Frame) (c : Connection) (is 
   explains-item : (body : Result (ℕ × List ℕ) CpfFault) → Explains (item_of_body shared session f body).shared
   explains-item (Err fault) = explains-same
   explains-item (Ok (id, item)) =
-      after_item_turn exec_after exec_answer (λ cs. is_open_among c cs ≡ false → Closing f session.handle c)
+      after_item_turn (after_for session.rights) (answer_for session.rights) (λ cs. is_open_among c cs ≡ false → Closing f session.handle c)
       shared.manager.connections shared.moment session.handle id item shared.objects explains-same
       (λ old new found same shut. absurd (false≢true (sym shut
       ∙ open-changed c old new (is_named session.handle id) shared.manager.connections found same.id (in-open is))))
@@ -282,12 +280,11 @@ in-time c moment now e =
     (or-parts (leb c.deadline moment) (leb c.deadline (max moment now) || false) e).1).0)
 
 module _ (s : State) (c : Connection) (is : In c s.shared.manager.connections) where
-  begun-on : is_open_among c (begun s).state.shared.manager.connections ≡ true
-  begun-on =
-      both (λ (t : TurnResult). is_open_among c t.state.shared.manager.connections ≡ true)
-      (not (ltb (length s.peers) s.places)) _ _ (in-open is)
-      (both (λ (t : TurnResult). is_open_among c t.state.shared.manager.connections ≡ true)
-      (ltb 0xffffffff s.next_handle) _ _ (in-open is) (in-open is))
+  begun-on : (rights : Rights) (group : Option ℕ)
+      → is_open_among c (begun s rights group).state.shared.manager.connections ≡ true
+  begun-on rights group =
+      each-begun (λ (t : TurnResult). is_open_among c t.state.shared.manager.connections ≡ true) s rights group
+      (λ full. in-open is) (in-open is)
 
   ended-on : (peer : ℕ) (o : Option Session) → peer ≢ c.session
       → is_open_among c (end_found s peer o).shared.manager.connections ≡ true
@@ -398,7 +395,7 @@ closed-by : (a : AdapterState) (c : Connection) (call : Call) → IsOwned a c
     → IsNone (is_deadline_reached a (call ∷ []) (connection_info c)) (list_any (is_end_of c.session) (call ∷ []))
     (is_closed_in c.session a (call ∷ []))
     → is_open_among c (after_call a call).state.shared.manager.connections ≡ false → IsForwardClosed a call c
-closed-by a c Begins_peer own none shut = contradiction _ (begun-on a.state c own.is) shut
+closed-by a c (Begins_peer rights group) own none shut = contradiction _ (begun-on a.state c own.is rights group) shut
 closed-by a c (Feeds now peer piece) own none shut = go (eqb peer c.session) refl
   where
     timely : is_open_at (max a.state.shared.moment now) c ≡ true
@@ -452,18 +449,19 @@ each-closed a call (c ∷ cs) within held = (
 
 -- ---- the law
 
-module _ (device : Device) (listen : Listen) (limits : Limits) (earlier : List Call) where
+module _ (device : Device) (listen : Listen) (limits : Limits) (shares : Shares) (earlier : List Call) where
   abbrev start : AdapterState
-  start = after_calls (new_adapter device listen limits) earlier
+  start = after_calls (shared_adapter device listen limits shares) earlier
 
   sound : IsSound start
-  sound = sound-calls (new_adapter device listen limits) earlier (sound-new device listen limits)
+  sound =
+      sound-calls (shared_adapter device listen limits shares) earlier (sound-shared device listen limits shares)
 
   each-held : AllByRecursion (λ (c : Connection). HeldOpen start.state c.session) start.state.shared.manager.connections
   each-held =
       each-weaker (λ (c : Connection). is_open (session_of start.state c.session) ≡ true)
       (λ (c : Connection). HeldOpen start.state c.session) start.state.shared.manager.connections
-      (λ c e. held-open start.state c.session e) (rooted-reached device listen limits earlier)
+      (λ c e. held-open start.state c.session e) (rooted-reached device listen limits shares earlier)
 
   pub causes-reasons : (calls : List Call) (e : EndingsState)
       → (updated (updated e start) (after_calls start calls)).ended ≡ endings_in_calls start calls

@@ -3,6 +3,7 @@ use Rattle.std.proofs.Common.{◌≡◌, ℕ, ◌+◌, ◌≤◌, min, ◌-◌, 
 use Rattle.std.proofs.Common.{length, take, Option, Some, None, refl, sym, ap, subst, ◌∙◌, arith}
 use Rattle.std.proofs.Common.{append_assoc, append-nil, length-append, length-take}
 use Rattle.std.specs.List.{AllByRecursion}
+use Rattle.std.specs.Option.{option_map}
 use Rattle.std.proofs.Math.Seq.{take-append-add}
 use Rattle.std.proofs.lemmas.Bool.{eqb-true, false≢true}
 use Rattle.cip_bytes.specs.Numbers.{number_at}
@@ -14,26 +15,26 @@ use Rattle.enip_wire.proofs.StreamLemmas.{one_cut_lem}
 use Rattle.enip_adapter.specs.declared.peer.Session.{Session}
 use Rattle.enip_adapter.specs.declared.shared.Shared.{Shared}
 use Rattle.enip_adapter.specs.declared.no_reply_reason.NoReplyReason.TheVariants.{NotServed}
-use Rattle.enip_adapter.specs.Adapter.{new_adapter}
+use Rattle.enip_adapter.specs.Adapter.{shared_adapter}
 use Rattle.enip_adapter.specs.Commands.{command_served, long_refused}
 use Rattle.enip_adapter.specs.Replies.{Served, leaving}
-use Rattle.enip_adapter.specs.Turn.{State, turned, serve_found, session_of, new_session, after}
+use Rattle.enip_adapter.specs.Turn.{State, turned, serve_found, session_of, after}
 use Rattle.enip_adapter.specs.Turn.Output.{NoReply, Begins}
 use Rattle.enip_adapter.specs.Calls.{AdapterState, Call, Meaning, call_meaning, after_call, call_answer}
 use Rattle.enip_adapter.specs.Calls.{answer_of, bytes_found, bytes_held, piece_to, piece_meaning, dropped_piece}
 use Rattle.enip_adapter.specs.Calls.{at_a_moment, events_of_parsed}
 use Rattle.enip_adapter.specs.Calls.Call.{Begins_peer, Feeds, Ends_peer, Ticks, Writes}
 use Rattle.enip_adapter.specs.Runs.{after_calls, frames_of_peer, taken_by_call, taken_by_calls}
-use Rattle.enip_adapter.specs.Runs.{GoesOn, Run, at_beginning, at_end, taken_in, frames_in}
+use Rattle.enip_adapter.specs.Runs.{GoesOn, Run, at_beginning, at_end, taken_in, frames_in, progress_of}
 use Rattle.enip_adapter.specs.Serving.{is_open, is_peer_served}
 use Rattle.enip_wire.proofs.ParsedLemmas.{then-cut, none-running}
 use Rattle.enip_adapter.proofs.CutLemmas.{feed-open}
 use Rattle.enip_adapter.proofs.ListLemmas.{next-none, numbers-none}
 use Rattle.enip_adapter.proofs.OwnLemmas.{steps, steps-append, closing, Says, served_turn, served-open, says-call}
-use Rattle.enip_adapter.proofs.OwnLemmas.{says-beginning, says-run, same-session}
+use Rattle.enip_adapter.proofs.OwnLemmas.{says-beginning, says-run, same-session, session_at_beginning, same-as}
 use Rattle.enip_adapter.proofs.PeerLemmas.{at_state}
 use Rattle.enip_wire.proofs.RunningLemmas.{IsRunning, bytes_taken-long, bytes_taken-within, parsed-running}
-use Rattle.enip_adapter.proofs.SoundLemmas.{IsSound, sound-call, sound-calls, sound-new, no-entry}
+use Rattle.enip_adapter.proofs.SoundLemmas.{IsSound, sound-call, sound-calls, sound-shared, no-entry}
 use Rattle.enip_adapter.proofs.StreamLemmas.{IsAt, Advances, advances-call, at-beginning}
 use Rattle.enip_adapter.proofs.StreamLemmas.{cut-of-run}
 
@@ -118,7 +119,7 @@ live-call : (base : Shared) (peer : ℕ) (session : Session) (a : AdapterState) 
     → Says base peer session [] a
     → (front : List ℕ) (b : ℕ) (bs : List ℕ) → taken_by_call peer a c ≡ front ++ b ∷ bs
     → IsLive base session (bytes_held a.held peer ++ front)
-live-call base peer session a Begins_peer sound says front b bs e = absurd (no-byte front b bs e)
+live-call base peer session a (Begins_peer rights group) sound says front b bs e = absurd (no-byte front b bs e)
 live-call base peer session a (Feeds now other piece) sound says front b bs e = go (eqb other peer) refl e
   where
     go : (c : Bool) → eqb other peer ≡ c
@@ -189,22 +190,32 @@ live-calls base peer session bytes a (c ∷ cs) sound at goes says front b bs e 
         }
 
 live-run : (base : Shared) (peer : ℕ) (run : Run peer) (front : List ℕ) (b : ℕ) (bs : List ℕ)
-    → taken_in peer run ≡ front ++ b ∷ bs → IsLive base (new_session peer) front
+    → taken_in peer run ≡ front ++ b ∷ bs → IsLive base (session_at_beginning peer run) front
 live-run base peer run front b bs e =
-    from (after_calls (new_adapter run.device run.listen run.limits) run.earlier)
-    (sound-calls (new_adapter run.device run.listen run.limits) run.earlier
-    (sound-new run.device run.listen run.limits)) run.begins e
+    from (after_calls (shared_adapter run.device run.listen run.limits run.shares) run.earlier)
+    (sound-calls (shared_adapter run.device run.listen run.limits run.shares) run.earlier
+    (sound-shared run.device run.listen run.limits run.shares)) run.begins e
   where
-    from : (a : AdapterState) → IsSound a → (call_answer a Begins_peer).output ≡ Begins peer
-        → taken_by_calls peer (after_call a Begins_peer) run.calls ≡ front ++ b ∷ bs
-        → IsLive base (new_session peer) front
+    from : (a : AdapterState) → IsSound a → (call_answer a (Begins_peer run.rights run.group)).output ≡ Begins peer
+        → taken_by_calls peer (after_call a (Begins_peer run.rights run.group)) run.calls ≡ front ++ b ∷ bs
+        → IsLive base (session_at_beginning peer run) front
     from a sound output taken =
-        live-calls base peer (new_session peer) [] (after_call a Begins_peer) run.calls (sound-call a Begins_peer sound)
-        (at-beginning a.state a.held peer
+        live-calls base peer (session_at_beginning peer run) [] (after_call a (Begins_peer run.rights run.group)) run.calls
+        (sound-call a (Begins_peer run.rights run.group) sound)
+        (at-beginning a.state run.rights run.group a.held peer
         (no-entry a a.state.next_handle sound.same
         (numbers-none (λ (p : Session). p.handle) a.state.next_handle a.state.peers
         (next-none a.state.next_handle _ sound.drawn))) output)
-        run.goes_on (says-beginning base a peer sound output) front b bs taken
+        run.goes_on (says-beginning base a run.rights run.group peer sound output) front b bs taken
+
+-- Whether a peer is open depends on what it has become, and not on its rights and group.
+abbrev is_open_by : Option (Bool × Bool) → Bool
+is_open_by None = false
+is_open_by (Some progress) = not progress.1
+
+open-progress : (o : Option Session) → is_open o ≡ is_open_by (option_map progress_of o)
+open-progress None = refl
+open-progress (Some session) = refl
 
 -- If a run has closed the peer, no run takes a byte more.
 pub closed-last : (peer : ℕ) (r s : Run peer) (more : List ℕ) → is_peer_served (at_end peer r) peer ≡ false
@@ -212,11 +223,13 @@ pub closed-last : (peer : ℕ) (r s : Run peer) (more : List ℕ) → is_peer_se
     → (more ≡ []) × (is_peer_served (at_end peer s) peer ≡ false)
 closed-last peer r s [] shut e = (
   refl,
-  ap is_open (sym (same-session peer r s (sym (e ∙ append-nil (taken_in peer r))))) ∙ shut,
+  open-progress (session_of (at_end peer s).state peer)
+      ∙ (ap is_open_by (sym (same-session peer r s (sym (e ∙ append-nil (taken_in peer r)))))
+      ∙ (sym (open-progress (session_of (at_end peer r).state peer)) ∙ shut)),
 )
 closed-last peer r s (b ∷ bs) shut e =
     let base : Shared = (at_beginning peer r).state.shared in
-    let live : IsLive (at_beginning peer r).state.shared (new_session peer) (taken_in peer r)
+    let live : IsLive (at_beginning peer r).state.shared (session_at_beginning peer s) (taken_in peer r)
     = live-run (at_beginning peer r).state.shared peer s (taken_in peer r) b bs e in
     let one : (frames_in peer r ≡ live.frames) × (bytes_held (at_end peer r).held peer ≡ live.rest)
     = one_cut_lem (taken_in peer r) (frames_in peer r) live.frames (bytes_held (at_end peer r).held peer) live.rest
@@ -224,11 +237,13 @@ closed-last peer r s (b ∷ bs) shut e =
     let open_then : is_peer_served (at_end peer r) peer ≡ true
     = ap is_open (says-run (at_beginning peer r).state.shared peer r)
     ∙ (ap (λ fs. not
-    (closing (steps (at_beginning peer r).state.shared (new_session peer) fs)
+    (closing (steps (at_beginning peer r).state.shared (session_at_beginning peer r) fs)
     (parsed (bytes_held (at_end peer r).held peer))).closed) one.0
     ∙ (ap (λ h. not
-    (closing (steps (at_beginning peer r).state.shared (new_session peer) live.frames) (parsed h)).closed) one.1
-    ∙ ap not live.alive)) in
+    (closing (steps (at_beginning peer r).state.shared (session_at_beginning peer r) live.frames) (parsed h)).closed) one.1
+    ∙ (ap (λ x. not x.1)
+    (same-as (at_beginning peer r).state.shared peer r s live.frames (parsed live.rest))
+    ∙ ap not live.alive))) in
     absurd (false≢true (sym shut ∙ open_then))
 
 -- Of two fronts of one list, one is a front of the other.

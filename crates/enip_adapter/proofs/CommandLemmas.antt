@@ -7,7 +7,6 @@ use Rattle.cip_bytes.specs.declared.protocol.Command.TheVariants.{SendRRData, Se
 use Rattle.cip_message.specs.Open.{Layout}
 use Rattle.cip_manager.specs.Closing.{close_turn}
 use Rattle.cip_manager.specs.Opening.{open_turn_in}
-use Rattle.cip_ledger.specs.Device.{exec_device}
 use Rattle.enip_wire.specs.Bodies.{rr_body_of, unit_body_of}
 use Rattle.enip_wire.specs.Frames.{Frame}
 use Rattle.enip_wire.specs.declared.item_list.CpfFault.{CpfFault}
@@ -15,7 +14,8 @@ use Rattle.enip_adapter.specs.declared.peer.Session.{Session}
 use Rattle.enip_adapter.specs.declared.shared.Shared.{Shared}
 use Rattle.enip_adapter.specs.Commands.{by_command, command_served}
 use Rattle.enip_adapter.specs.Replies.{Served, is_registered_as}
-use Rattle.enip_adapter.specs.SendRRData.{Route, route_of, managed, routed_to, reply_to_body}
+use Rattle.enip_adapter.specs.Rights.{after_for}
+use Rattle.enip_adapter.specs.SendRRData.{Route, route_of, opener_of, managed, routed_to, reply_to_body}
 use Rattle.enip_adapter.specs.SendRRData.Route.{Opens, Closes, Executes}
 use Rattle.enip_adapter.specs.SendUnitData.{turn_of_item, item_of_body}
 use Rattle.enip_adapter.proofs.ListLemmas.{both}
@@ -24,10 +24,10 @@ use Rattle.enip_adapter.proofs.ListLemmas.{both}
 pub record Changes (P : Shared → Type 0) (shared : Shared) (session : Session) : Type 0 where
   pub same : P shared
   pub opens : (layout : Layout) (bytes : List ℕ) →
-      P (managed shared (open_turn_in layout shared.manager shared.moment session.handle bytes)).shared
+      P (managed shared (open_turn_in layout shared.manager shared.moment (opener_of session) bytes)).shared
   pub closes : (bytes : List ℕ) → P (managed shared (close_turn shared.manager session.handle bytes)).shared
   pub executes : (request : List ℕ) →
-      P (record shared { objects = (exec_device shared.objects UNCONNECTED_LIMIT request).after })
+      P (record shared { objects = after_for session.rights shared.objects UNCONNECTED_LIMIT request })
   pub receives : (id : ℕ) (item : List ℕ) → P (record shared {
     manager = record shared.manager { connections = (turn_of_item shared session id item).connections };
     objects = (turn_of_item shared session id item).router;

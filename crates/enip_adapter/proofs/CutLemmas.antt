@@ -16,9 +16,10 @@ use Rattle.enip_wire.specs.Stream.{Parsed, bytes_taken, held_and_taken, parsed, 
 use Rattle.enip_wire.specs.Stream.Parsed.{Incomplete, WholeFrame, TooLongHeader}
 use Rattle.enip_wire.proofs.FrameLemmas.{number_at-append, number_at-take, end_after-least}
 use Rattle.enip_adapter.specs.declared.adapter.Limits.{Limits}
+use Rattle.enip_adapter.specs.declared.adapter.Shares.{Shares}
 use Rattle.enip_adapter.specs.declared.peer.Session.{Session}
 use Rattle.enip_adapter.specs.declared.shared.Listen.{Listen}
-use Rattle.enip_adapter.specs.Adapter.{new_adapter}
+use Rattle.enip_adapter.specs.Adapter.{shared_adapter}
 use Rattle.enip_adapter.specs.Lookup.{first_with, with_first}
 use Rattle.enip_adapter.specs.Turn.{State, Event, Answer, answers, after, session_of}
 use Rattle.enip_adapter.specs.Turn.Event.{At}
@@ -34,7 +35,7 @@ use Rattle.enip_adapter.proofs.ListLemmas.{first_with-set, with_first-twice}
 use Rattle.enip_adapter.proofs.PeerLemmas.{at_state}
 use Rattle.enip_wire.proofs.RunningLemmas.{IsRunning, running-taken, bytes_taken-short, bytes_taken-long}
 use Rattle.enip_wire.proofs.RunningLemmas.{bytes_taken-within, end-past}
-use Rattle.enip_adapter.proofs.SoundLemmas.{IsSound, sound-call, sound-calls, sound-new, entry-of, taken-piece}
+use Rattle.enip_adapter.proofs.SoundLemmas.{IsSound, sound-call, sound-calls, sound-shared, entry-of, taken-piece}
 use Rattle.enip_wire.proofs.ParsedLemmas.{parsed_frame-size}
 
 -- A piece of bytes is fed again and again, until all of it is taken or the peer is closed.
@@ -551,26 +552,26 @@ alike now peer a l m pieces others xs ys sound e p q =
     let one : AreSame f.ys g.ys l m = one-flow f.flow (subst (λ s. Flows now peer a s g.ys m) (sym e) g.flow) in
     record { answers = f.same ∙ (ap visible_answers one.answers ∙ sym g.same); adapter = one.adapter }
 
-module _ (device : Device) (listen : Listen) (limits : Limits) (calls : List Call) where
-  reached : IsSound (after_calls (new_adapter device listen limits) calls)
-  reached = sound-calls (new_adapter device listen limits) calls (sound-new device listen limits)
+module _ (device : Device) (listen : Listen) (limits : Limits) (shares : Shares) (calls : List Call) where
+  reached : IsSound (after_calls (shared_adapter device listen limits shares) calls)
+  reached = sound-calls (shared_adapter device listen limits shares) calls (sound-shared device listen limits shares)
 
   pub cuts-answers : (now peer : ℕ) (pieces others : List (List ℕ)) (xs ys : List Answer) (l m : AdapterState)
       → concat pieces ≡ concat others
-      → FeedsPieces now peer (after_calls (new_adapter device listen limits) calls) pieces xs l
-      → FeedsPieces now peer (after_calls (new_adapter device listen limits) calls) others ys m
+      → FeedsPieces now peer (after_calls (shared_adapter device listen limits shares) calls) pieces xs l
+      → FeedsPieces now peer (after_calls (shared_adapter device listen limits shares) calls) others ys m
       → visible_answers xs ≡ visible_answers ys
   cuts-answers now peer pieces others xs ys l m e p q =
       (alike now peer (after_calls
-      (new_adapter device listen limits) calls) l m pieces others xs ys reached e p q).answers
+      (shared_adapter device listen limits shares) calls) l m pieces others xs ys reached e p q).answers
 
   pub cuts-adapter : (now peer : ℕ) (pieces others : List (List ℕ)) (xs ys : List Answer) (l m : AdapterState)
       → concat pieces ≡ concat others
-      → FeedsPieces now peer (after_calls (new_adapter device listen limits) calls) pieces xs l
-      → FeedsPieces now peer (after_calls (new_adapter device listen limits) calls) others ys m → l ≡ m
+      → FeedsPieces now peer (after_calls (shared_adapter device listen limits shares) calls) pieces xs l
+      → FeedsPieces now peer (after_calls (shared_adapter device listen limits shares) calls) others ys m → l ≡ m
   cuts-adapter now peer pieces others xs ys l m e p q =
       (alike now peer (after_calls
-      (new_adapter device listen limits) calls) l m pieces others xs ys reached e p q).adapter
+      (shared_adapter device listen limits shares) calls) l m pieces others xs ys reached e p q).adapter
 
 -- There is a way for every list of pieces.
 record HasPour (now peer : ℕ) (a : AdapterState) (pieces : List (List ℕ)) : Type 0 where
@@ -613,12 +614,12 @@ pour-pieces now peer [] a sound = record { answers = []; last = a; pours = Ended
 pour-pieces now peer (piece ∷ pieces) a sound =
     pour-piece (length piece) now peer piece pieces a (omega arith) sound (pour-pieces now peer pieces)
 
-pub some-pour : (device : Device) (listen : Listen) (limits : Limits) (calls : List Call) (now peer : ℕ)
+pub some-pour : (device : Device) (listen : Listen) (limits : Limits) (shares : Shares) (calls : List Call) (now peer : ℕ)
     (pieces : List (List ℕ))
     → (xs : List Answer) ×
-    ((l : AdapterState) × FeedsPieces now peer (after_calls (new_adapter device listen limits) calls) pieces xs l)
-some-pour device listen limits calls now peer pieces =
-    let p : HasPour now peer (after_calls (new_adapter device listen limits) calls) pieces
-    = pour-pieces now peer pieces (after_calls (new_adapter device listen limits) calls)
-    (sound-calls (new_adapter device listen limits) calls (sound-new device listen limits)) in
+    ((l : AdapterState) × FeedsPieces now peer (after_calls (shared_adapter device listen limits shares) calls) pieces xs l)
+some-pour device listen limits shares calls now peer pieces =
+    let p : HasPour now peer (after_calls (shared_adapter device listen limits shares) calls) pieces
+    = pour-pieces now peer pieces (after_calls (shared_adapter device listen limits shares) calls)
+    (sound-calls (shared_adapter device listen limits shares) calls (sound-shared device listen limits shares)) in
     (p.answers, (p.last, p.pours))

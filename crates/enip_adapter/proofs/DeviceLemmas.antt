@@ -6,11 +6,12 @@ use Rattle.std.proofs.lemmas.List.{map-append}
 use Rattle.cip_bytes.specs.Protocol.{command_of}
 use Rattle.cip_bytes.specs.declared.protocol.Command.{Command}
 use Rattle.cip_bytes.specs.declared.protocol.Command.TheVariants.{SendRRData, SendUnitData}
-use Rattle.cip_class3.specs.Item.{sequence_count_of}
+use Rattle.cip_class3.specs.Item.{sequence_count_of, message_of}
 use Rattle.cip_class3.specs.TargetRule.{TargetStep, has_accepted_size, is_held}
-use Rattle.cip_ledger.specs.Device.{Device, exec_device, run}
+use Rattle.cip_ledger.specs.Device.{Device, Executed, exec_device, run}
 use Rattle.cip_ledger.specs.Requests.{Command as LedgerCommand}
-use Rattle.cip_ledger.specs.Runs.{Request, slot_in, events_by, journal, reached, router_after, Executed, Freed}
+use Rattle.cip_ledger.specs.Runs.{Request, slot_in, events_by, journal, reached, router_after}
+use Rattle.cip_ledger.specs.Runs.Event.{Executed as ExecutedCommand, Freed}
 use Rattle.cip_ledger.specs.Runs.{Event as LedgerEvent}
 use Rattle.cip_ledger.specs.Laws.{HasNoDoubles, Rises, UntilFreed, IsNotFreed}
 use Rattle.cip_ledger.specs.Services.{Replies, Executes as ExecutesCommand, Frees}
@@ -27,6 +28,7 @@ use Rattle.enip_wire.specs.Frames.{Frame}
 use Rattle.enip_wire.specs.Stream.{Parsed, held_and_taken, parsed}
 use Rattle.enip_wire.specs.Stream.Parsed.{Incomplete, WholeFrame, TooLongHeader}
 use Rattle.enip_wire.specs.declared.item_list.CpfFault.{CpfFault}
+use Rattle.enip_adapter.specs.declared.peer.Rights.{Rights}
 use Rattle.enip_adapter.specs.declared.peer.Session.{Session}
 use Rattle.enip_adapter.specs.declared.shared.Shared.{Shared}
 use Rattle.enip_adapter.specs.Calls.{AdapterState, Call, Held, Meaning, call_meaning, after_call, bytes_held, piece_to}
@@ -40,6 +42,7 @@ use Rattle.enip_adapter.specs.DeviceRuns.{device_after_step, device_after, objec
 use Rattle.enip_adapter.specs.DeviceRuns.{reached_by_step, reached_by_steps, journal_by_steps}
 use Rattle.enip_adapter.specs.OwnWrites.{device_written}
 use Rattle.enip_adapter.specs.Replies.{Served, leaving, is_registered_as}
+use Rattle.enip_adapter.specs.Rights.{is_refused, after_for, answer_for}
 use Rattle.enip_adapter.specs.Runs.{after_calls, events_of_calls}
 use Rattle.enip_adapter.specs.SendRRData.{Route, Opens, Closes, Executes, route_of, routed_to, reply_to_body}
 use Rattle.enip_adapter.specs.SendUnitData.{item_of_body}
@@ -47,6 +50,7 @@ use Rattle.enip_adapter.specs.Turn.{State, Event, TurnResult, turn, begun, end_f
 use Rattle.enip_adapter.specs.Turn.Event.{Begin, End, At, Framed, Long, Written}
 use Rattle.enip_adapter.proofs.EventLemmas.{state-events}
 use Rattle.enip_adapter.proofs.ListLemmas.{both}
+use Rattle.enip_adapter.proofs.BeginLemmas.{each-begun}
 use Rattle.enip_adapter.proofs.SettleLemmas.{written-settled}
 
 -- The device after these requests.
@@ -59,26 +63,23 @@ choose P true x y u v p q = p
 choose P false x y u v p q = q
 
 routed-ends : (shared : Shared) (session : Session) (request : List ℕ) (to : Route) →
-    Ends shared.objects (routed_to shared session request to).shared.objects (requests_by_route request to)
+    Ends shared.objects (routed_to shared session request to).shared.objects
+    (requests_by_route session.rights request to)
 routed-ends shared session request (Opens layout bytes) = refl
 routed-ends shared session request (Closes bytes) = refl
-routed-ends shared session request Executes = refl
+routed-ends shared session request Executes =
+    choose (λ (x : Executed) requests. Ends shared.objects x.after requests) (is_refused session.rights request) _ _ _ _
+    refl refl
 
 abbrev ServedEnds : Shared → Served → List Request → Type 0
 ServedEnds shared served requests = Ends shared.objects served.shared.objects requests
 
 rr-ends : (shared : Shared) (session : Session) (f : Frame) (body : Result (List ℕ) CpfFault) →
-    ServedEnds shared (reply_to_body shared session f body) (requests_in_rr body)
+    ServedEnds shared (reply_to_body shared session f body) (requests_in_rr session.rights body)
 rr-ends shared session f (Err fault) = refl
 rr-ends shared session f (Ok request) =
     choose (ServedEnds shared) (ltb (length request) 2) _ _ _ _ refl
     (routed-ends shared session request (route_of request))
-
-abbrev exec_after : Device → ℕ → List ℕ → Device
-exec_after device max_size request = (exec_device device max_size request).after
-
-abbrev exec_answer : Device → ℕ → List ℕ → List ℕ
-exec_answer device max_size request = (exec_device device max_size request).answer
 
 abbrev StepEnds : Shared → TargetStep Device → List Request → Type 0
 StepEnds shared step requests = Ends shared.objects step.router requests
@@ -90,12 +91,15 @@ unit-ends shared session f (Ok (id, item)) = by-connection (find (is_named sessi
   where
     by-connection : (o : Option Connection) →
         Ends shared.objects
-        (turn_of_found exec_after exec_answer shared.manager.connections shared.moment session.handle id item shared.objects o).router
-        (requests_by_connection item o)
+        (turn_of_found (after_for session.rights) (answer_for session.rights) shared.manager.connections shared.moment
+        session.handle id item shared.objects o).router
+        (requests_by_connection session.rights item o)
     by-connection None = refl
     by-connection (Some connection) =
         choose (StepEnds shared) (has_accepted_size connection.target item) _ _ _ _
-        (choose (StepEnds shared) (is_held connection.target.held (sequence_count_of item)) _ _ _ _ refl refl) refl
+        (choose (StepEnds shared) (is_held connection.target.held (sequence_count_of item)) _ _ _ _ refl
+        (choose (λ (x : Executed) requests. Ends shared.objects x.after requests)
+        (is_refused session.rights (message_of item)) _ _ _ _ refl refl)) refl
 
 by-command-ends : (shared : Shared) (session : Session) (f : Frame) (command : Option Command) →
     ServedEnds shared (by_command shared session f command) (requests_by_command shared session f command)
@@ -136,10 +140,9 @@ same-ends s peer serve (Some session) same =
     both (λ (t : TurnResult). t.state.shared.objects ≡ s.shared.objects) session.closed _ _ refl
     (both (λ (t : Shared). t.objects ≡ s.shared.objects) (serve session).reaction.close _ _ (same session) (same session))
 
-begun-ends : (s : State) → (begun s).state.shared.objects ≡ s.shared.objects
-begun-ends s =
-    both (λ (t : TurnResult). t.state.shared.objects ≡ s.shared.objects) (not (ltb (length s.peers) s.places)) _ _ refl
-    (both (λ (t : TurnResult). t.state.shared.objects ≡ s.shared.objects) (ltb 0xffffffff s.next_handle) _ _ refl refl)
+begun-ends : (s : State) (rights : Rights) (group : Option ℕ) → (begun s rights group).state.shared.objects ≡ s.shared.objects
+begun-ends s rights group =
+    each-begun (λ (t : TurnResult). t.state.shared.objects ≡ s.shared.objects) s rights group (λ full. refl) refl
 
 ended-ends : (s : State) (peer : ℕ) (o : Option Session) → (end_found s peer o).shared.objects ≡ s.shared.objects
 ended-ends s peer None = refl
@@ -152,9 +155,9 @@ after-requests device [] = refl
 after-requests device (request ∷ requests) =
     after-requests (exec_device device request.0 request.1).after requests
 
-step-ends : (s : State) (event : Event)
+pub step-ends : (s : State) (event : Event)
     → (turn s event).state.shared.objects ≡ device_after s.shared.objects (steps_by_event s event)
-step-ends s Begin = begun-ends s
+step-ends s (Begin rights group) = begun-ends s rights group
 step-ends s (End peer) = ended-ends s peer (session_of s peer)
 step-ends s (At now) = refl
 step-ends s (Framed peer f) =
@@ -190,7 +193,7 @@ IsNotWritten other = ⊤
 
 requested-step : (s : State) (event : Event) → IsNotWritten event
     → steps_by_event s event ≡ map Requested (requests_by_event s event)
-requested-step s Begin is = refl
+requested-step s (Begin rights group) is = refl
 requested-step s (End peer) is = refl
 requested-step s (At now) is = refl
 requested-step s (Framed peer f) is = refl
@@ -220,7 +223,7 @@ free-piece peer piece held (Some session) =
 
 free-call : (a : AdapterState) (call : Call) → IsNoWrite call
     → AllByRecursion IsNotWritten (call_meaning a call).events
-free-call a Begins_peer is = (tt, tt)
+free-call a (Begins_peer rights group) is = (tt, tt)
 free-call a (Feeds now peer piece) is = (tt, free-piece peer piece a.held (session_of a.state peer))
 free-call a (Ends_peer peer) is = (tt, tt)
 free-call a (Ticks now) is = (tt, tt)
@@ -291,7 +294,7 @@ pub above-append : (originator : ℕ) (IsSo : LedgerCommand → Type 0) (events 
     → UntilFreed originator IsSo events → (IsNotFreed originator events → UntilFreed originator IsSo later)
     → UntilFreed originator IsSo (events ++ later)
 above-append originator IsSo [] later is more = more tt
-above-append originator IsSo (Executed command reply ∷ events) later is more =
+above-append originator IsSo (ExecutedCommand command reply ∷ events) later is more =
     (is.0, above-append originator IsSo events later is.1 more)
 above-append originator IsSo (Freed freed ∷ events) later is more = λ other.
     above-append originator IsSo events later (is other) (λ kept. more (other, kept))

@@ -10,6 +10,7 @@ use Rattle.enip_wire.specs.Frames.{Frame, end_after}
 use Rattle.enip_wire.specs.Headers.{header_at}
 use Rattle.enip_wire.specs.Stream.{Parsed, parsed, bytes_taken, held_and_taken, cleared}
 use Rattle.enip_wire.specs.Stream.Parsed.{Incomplete, WholeFrame, TooLongHeader}
+use Rattle.enip_adapter.specs.declared.peer.Rights.TheVariants.{Read}
 use Rattle.enip_adapter.specs.declared.peer.Session.{Session}
 use Rattle.enip_adapter.specs.declared.shared.Shared.{Shared}
 use Rattle.enip_adapter.specs.declared.no_reply_reason.NoReplyReason.TheVariants as no_reply_reason
@@ -44,7 +45,7 @@ module _ (shared : Shared) (now : ℕ) (session : Session) (f : Frame) (bytes : 
   abbrev told : Bool → Bool → Bool → Option Command → Option (List ℕ)
   told options status without_data command =
       cond (is_discovery command && without_data)
-      (bytes_of (held_after_next shared (new_session 0) options status command).reaction.answer) None
+      (bytes_of (held_after_next shared (new_session 0 Read None) options status command).reaction.answer) None
 
   answering : (text : List ℕ) → ◌≡◌ {A = Option (List ℕ)} (Some text) (Some bytes)
       → leaving (at_moment shared now) (answered session text) ≡ leaving (at_moment shared now) (answered session bytes)

@@ -66,7 +66,7 @@ told-parsed_frame s now peer (WholeFrame f) n left = record { output = refl; clo
 told-parsed_frame s now peer (TooLongHeader h) n left = record { output = refl; close = last-or _ }
 
 told-call : (a : AdapterState) (c : Call) → IsTold a.state (call_meaning a c)
-told-call a Begins_peer = record { output = refl; close = last-or _ }
+told-call a (Begins_peer rights group) = record { output = refl; close = last-or _ }
 told-call a (Feeds now peer piece) =
     of_piece (IsTold a.state) now peer piece a.held (session_of a.state peer) (record { output = refl; close = refl })
     (told-parsed_frame a.state now peer)

@@ -1,5 +1,5 @@
 -- The command that a piece would execute, by the slot of its peer.
-use Rattle.std.proofs.Common.{◌≡◌, ℕ, List, [], ◌∷◌, map, Bool, true, false, cond, length, Option, Some, None, get_or, refl, sym, ap, ◌∙◌}
+use Rattle.std.proofs.Common.{◌≡◌, ℕ, List, map, Bool, true, false, cond, length, Option, Some, None, get_or, sym, ap, ◌∙◌}
 use Rattle.cip_ledger.specs.declared.doubt.DoubtfulCommand.{DoubtfulCommand}
 use Rattle.enip_wire.specs.Stream.{held_and_taken, parsed}
 use Rattle.enip_adapter.specs.declared.peer.PeerSlot.{PeerSlot}

@@ -1,6 +1,7 @@
 pub mod CommandLemmas
 pub mod EventLemmas
 pub mod ListLemmas
+pub mod BeginLemmas
 pub mod NumberLemmas
 pub mod PeerLemmas
 pub mod SoundLemmas
@@ -30,4 +31,9 @@ pub mod AskedLemmas
 pub mod WrittenLemmas
 pub mod SettleLemmas
 pub mod RouteLemmas
+pub mod RightsLemmas
+pub mod ReadingLemmas
+pub mod ReaderLemmas
+pub mod ShareLemmas
+pub mod ConnectionShareLemmas
 pub mod NothingAskedLemmas

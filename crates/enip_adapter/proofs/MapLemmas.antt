@@ -1,6 +1,11 @@
 -- Look-ups by a number, of what is mapped.
-use Rattle.std.proofs.Common.{◌≡◌, ℕ, List, [], ◌∷◌, ◌++◌, true, false, cond, eqb, Some, map, refl, ap}
+use Rattle.std.proofs.Common.{◌≡◌, ℕ, List, [], ◌∷◌, ◌++◌, length, ◌≤◌, not, Bool, true, false, cond, eqb, Some, map, refl, ap, arith}
+use Rattle.std.specs.Prelude.{filter}
+use Rattle.std.proofs.lemmas.List.Filters.{length-filter_both}
 use Rattle.std.specs.Option.{option_map}
+use Rattle.enip_adapter.specs.declared.peer.PeerSlot.{PeerSlot}
+use Rattle.enip_adapter.specs.Adapter.{session_in}
+use Rattle.enip_adapter.specs.Groups.{is_of_group, peers_of_group}
 use Rattle.enip_adapter.specs.Lookup.{first_with, with_first, without_first}
 
 -- look-ups of what is mapped
@@ -36,3 +41,23 @@ map-without_first {X} {Y} f number n (x ∷ xs) =
 pub map-append_one : {X Y : Type 0} → (f : X → Y) (xs : List X) (y : X) → map f (xs ++ y ∷ []) ≡ map f xs ++ f y ∷ []
 map-append_one f [] y = refl
 map-append_one f (x ∷ xs) y = ap (λ ys. f x ∷ ys) (map-append_one f xs y)
+
+-- ---- the slots of a group
+
+abbrev pub is_at_group : ℕ → PeerSlot → Bool
+is_at_group group place = is_of_group group place.session
+
+pub slots_of_group : (group : ℕ) (places : List PeerSlot)
+    → peers_of_group group (map session_in places) ≡ length (filter (is_at_group group) places)
+slots_of_group group [] = refl
+slots_of_group group (p ∷ places) =
+    let rest : peers_of_group group (map session_in places) ≡ length (filter (is_at_group group) places)
+    = slots_of_group group places in
+    elim (is_at_group group p) as (
+    λ b. length (cond b (session_in p ∷ filter (is_of_group group) (map session_in places))
+    (filter (is_of_group group) (map session_in places)))
+    ≡ length (cond b (p ∷ filter (is_at_group group) places) (filter (is_at_group group) places))
+    ) [ true ↦ omega (arith, rest) | false ↦ rest ]
+
+pub at_most : (p : PeerSlot → Bool) (xs : List PeerSlot) → length (filter p xs) ≤ length xs
+at_most p xs = omega (arith, length-filter_both p (λ x. not (p x)) (λ x. refl) xs)

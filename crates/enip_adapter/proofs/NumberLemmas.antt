@@ -1,6 +1,6 @@
 -- Session handles and O->T IDs rise.
 use Rattle.std.proofs.Common.{◌≡◌, ℕ, ◌+◌, ◌<◌, ◌≤◌, List, [], ◌∷◌, ◌++◌, map, Bool, true, false, cond, not, ◌||◌}
-use Rattle.std.proofs.Common.{eqb, ltb, length, Option, Some, None, refl, sym, ap, subst, ◌∙◌, arith}
+use Rattle.std.proofs.Common.{eqb, Option, Some, None, refl, sym, ap, subst, ◌∙◌, arith}
 use Rattle.std.specs.Prelude.{filter, max, All}
 use Rattle.std.specs.List.{list_any}
 use Rattle.std.proofs.lemmas.Bool.{eq-eqb, ne_eqb}
@@ -12,18 +12,22 @@ use Rattle.cip_manager.specs.Manager.{ManagerState}
 use Rattle.cip_manager.specs.Opening.{new_connection}
 use Rattle.cip_manager.proofs.CallLemmas.{after_open, after_close, after_item_turn}
 use Rattle.cip_manager.proofs.ListLemmas.{All-with_first, filter-swap}
-use Rattle.cip_ledger.specs.Device.{Device, exec_device}
+use Rattle.cip_ledger.specs.Device.{Device}
 use Rattle.enip_wire.specs.Stream.{Parsed}
 use Rattle.enip_wire.specs.Stream.Parsed.{Incomplete, WholeFrame, TooLongHeader}
 use Rattle.enip_wire.specs.Frames.{Frame}
 use Rattle.enip_adapter.specs.declared.adapter.Limits.{Limits}
+use Rattle.enip_adapter.specs.declared.adapter.Shares.{Shares}
+use Rattle.enip_adapter.specs.declared.peer.Rights.{Rights}
 use Rattle.enip_adapter.specs.declared.peer.Session.{Session}
 use Rattle.enip_adapter.specs.declared.shared.Listen.{Listen}
 use Rattle.enip_adapter.specs.declared.shared.Shared.{Shared}
-use Rattle.enip_adapter.specs.Adapter.{new_adapter}
+use Rattle.enip_adapter.specs.Adapter.{shared_adapter}
 use Rattle.enip_adapter.specs.Commands.{command_served, long_refused}
 use Rattle.enip_adapter.specs.declared.no_reply_reason.NoReplyReason.TheVariants.{NoFrame}
+use Rattle.enip_adapter.specs.Rights.{after_for, answer_for}
 use Rattle.enip_adapter.specs.Replies.{Reply, Reply as replies, Served, leaving}
+use Rattle.enip_adapter.specs.SendRRData.{opener_of}
 use Rattle.enip_adapter.specs.Turn.{State, Event, Output, TurnResult, turn, begun, after, session_of, serve_found}
 use Rattle.enip_adapter.specs.Turn.{end_found, sent}
 use Rattle.enip_adapter.specs.Turn.Event.{Begin, End, At, Framed, Long, Written}
@@ -36,6 +40,7 @@ use Rattle.enip_adapter.specs.Runs.{ids_of_events}
 use Rattle.enip_adapter.proofs.CommandLemmas.{after_command}
 use Rattle.enip_adapter.proofs.EventLemmas.{of_piece}
 use Rattle.enip_adapter.proofs.ListLemmas.{both}
+use Rattle.enip_adapter.proofs.BeginLemmas.{each-begun}
 use Rattle.enip_adapter.proofs.PeerLemmas.{at_state}
 
 -- Serving a frame leaves the next handle unchanged.
@@ -103,20 +108,20 @@ rises-plain : (n m : ℕ) (output : Output) (more : List ℕ) → IsQuiet output
 rises-plain n m output more quiet same rises = subst (RisesFrom n) (sym (quiet more))
     (subst (λ k. RisesFrom k more) same rises)
 
-rises-begun : (s : State) (more : List ℕ) → RisesFrom (begun s).state.next_handle more
-    → RisesFrom s.next_handle (handle_before (begun s).answer.output more)
-rises-begun s more =
+rises-begun : (s : State) (rights : Rights) (group : Option ℕ) (more : List ℕ)
+    → RisesFrom (begun s rights group).state.next_handle more
+    → RisesFrom s.next_handle (handle_before (begun s rights group).answer.output more)
+rises-begun s rights group more =
     let P : TurnResult → Type 0 = λ t. RisesFrom t.state.next_handle more
     → RisesFrom s.next_handle (handle_before t.answer.output more) in
-    both P (not (ltb (length s.peers) s.places)) _ _ (λ r. r)
-    (both P (ltb 0xffffffff s.next_handle) _ _ (λ r. r) (λ r. (omega arith, r)))
+    each-begun P s rights group (λ full r. r) (λ r. (omega arith, r))
 
 pub handles-rise : (a : AdapterState) (calls : List Call)
     → RisesFrom a.state.next_handle (handles_in (call_answers a calls))
 handles-rise a [] = tt
-handles-rise a (Begins_peer ∷ cs) =
-    rises-begun a.state (handles_in (call_answers (after_call a Begins_peer) cs))
-    (handles-rise (after_call a Begins_peer) cs)
+handles-rise a (Begins_peer rights group ∷ cs) =
+    rises-begun a.state rights group (handles_in (call_answers (after_call a (Begins_peer rights group)) cs))
+    (handles-rise (after_call a (Begins_peer rights group)) cs)
 handles-rise a (Feeds now peer piece ∷ cs) =
     let p : IsPlain a.state (call_meaning a (Feeds now peer piece)) = plain-feed a.state now peer piece a.held
     (session_of a.state peer) in
@@ -227,12 +232,6 @@ rises-opening m c id drawn =
           id refl;
     }
 
-abbrev exec_after : Device → ℕ → List ℕ → Device
-exec_after device max_size request = (exec_device device max_size request).after
-
-abbrev exec_answer : Device → ℕ → List ℕ → List ℕ
-exec_answer device max_size request = (exec_device device max_size request).answer
-
 rises-command : (shared : Shared) (session : Session) (f : Frame) → AreDrawn shared.manager
     → Rises shared.manager (command_served shared session f).shared.manager
 rises-command shared session f drawn =
@@ -240,13 +239,13 @@ rises-command shared session f drawn =
     after_command (λ t. Rises m t.manager) shared session
     (record {
       same = rises-same m drawn;
-      opens = λ layout bytes. after_open (λ t. Rises m t.manager) layout m shared.moment session.handle bytes
+      opens = λ layout bytes. after_open (λ t. Rises m t.manager) layout m shared.moment (opener_of session) bytes
           (λ reply refused. rises-same m drawn)
-          (λ asked check. rises-opening m (new_connection m.next_id shared.moment session.handle asked) refl drawn);
+          (λ asked check. rises-opening m (new_connection m.next_id shared.moment (opener_of session) asked) refl drawn);
       closes = λ bytes. after_close (Rises m) m session.handle bytes (rises-same m drawn)
           (λ request e. rises-filter _ m drawn);
       executes = λ request. rises-same m drawn;
-      receives = λ id item. after_item_turn exec_after exec_answer
+      receives = λ id item. after_item_turn (after_for session.rights) (answer_for session.rights)
           (λ ds. Rises m (record m { connections = ds })) m.connections shared.moment
           session.handle id item shared.objects (rises-same m drawn)
           (λ old new found same. record {
@@ -277,11 +276,9 @@ rises-ended s peer (Some session) drawn = rises-filter (λ c. not (is_of_session
 
 rises-event : (s : State) (e : Event) → AreDrawn s.shared.manager
     → Rises s.shared.manager (turn s e).state.shared.manager
-rises-event s Begin drawn =
-    both (λ (t : TurnResult). Rises s.shared.manager t.state.shared.manager) (not (ltb (length s.peers) s.places)) _ _
-    (rises-same s.shared.manager drawn)
-    (both (λ (t : TurnResult). Rises s.shared.manager t.state.shared.manager) (ltb 0xffffffff s.next_handle) _ _
-    (rises-same s.shared.manager drawn) (rises-same s.shared.manager drawn))
+rises-event s (Begin rights group) drawn =
+    each-begun (λ (t : TurnResult). Rises s.shared.manager t.state.shared.manager) s rights group
+    (λ full. rises-same s.shared.manager drawn) (rises-same s.shared.manager drawn)
 rises-event s (End peer) drawn = rises-ended s peer (session_of s peer) drawn
 rises-event s (At now) drawn = rises-filter (is_open_at (max s.shared.moment now)) s.shared.manager drawn
 rises-event s (Written write) drawn = rises-same s.shared.manager drawn
@@ -315,8 +312,8 @@ ids-rise-from s (e ∷ es) drawn =
     let r : Rises s.shared.manager (turn s e).state.shared.manager = rises-event s e drawn in
     rises-draws s.shared.manager (turn s e).state.shared.manager _ r.draws (ids-rise-from (turn s e).state es r.drawn)
 
-pub ids-rise : (device : Device) (listen : Listen) (limits : Limits) (es : List Event)
-    → RisesFrom limits.first_id (ids_of_events (new_adapter device listen limits).state es)
-ids-rise device listen limits es =
-    ids-rise-from (new_adapter device listen limits).state es
+pub ids-rise : (device : Device) (listen : Listen) (limits : Limits) (shares : Shares) (es : List Event)
+    → RisesFrom limits.first_id (ids_of_events (shared_adapter device listen limits shares).state es)
+ids-rise device listen limits shares es =
+    ids-rise-from (shared_adapter device listen limits shares).state es
     (All-nil (λ (c : Connection). c.o_to_t_id < limits.first_id))

@@ -1,5 +1,5 @@
 -- Calls do not change the peers and connections that they are not for.
-use Rattle.std.proofs.Common.{◌≡◌, ◌≢◌, ℕ, List, [], ◌∷◌, ◌++◌, Bool, true, false, cond, not, eqb, ltb, length}
+use Rattle.std.proofs.Common.{◌≡◌, ◌≢◌, ℕ, List, [], ◌∷◌, ◌++◌, Bool, true, false, cond, eqb}
 use Rattle.std.proofs.Common.{Option, Some, None, refl, sym, ap, ◌∙◌}
 use Rattle.std.specs.Prelude.{filter, max}
 use Rattle.std.specs.List.{AllByRecursion}
@@ -9,15 +9,17 @@ use Rattle.cip_manager.specs.Runs.{ManagerCall, Opens, Closes, Receives, Ends, I
 use Rattle.cip_manager.specs.Runs.{state_after, is_open_after_all}
 use Rattle.cip_manager.proofs.SessionLemmas.{calls-of_other}
 use Rattle.cip_manager.proofs.ListLemmas.{filter-true, filter-filter, filter-swap}
-use Rattle.cip_ledger.specs.Device.{Device, exec_device}
 use Rattle.enip_wire.specs.Frames.{Frame}
 use Rattle.enip_wire.specs.Stream.{Parsed, held_and_taken, parsed}
 use Rattle.enip_wire.specs.Stream.Parsed.{Incomplete, WholeFrame, TooLongHeader}
+use Rattle.enip_adapter.specs.declared.peer.Rights.{Rights}
+use Rattle.enip_adapter.specs.declared.peer.Rights.TheVariants.{Write}
 use Rattle.enip_adapter.specs.declared.peer.Session.{Session}
 use Rattle.enip_adapter.specs.declared.shared.Shared.{Shared}
 use Rattle.enip_adapter.specs.Commands.{command_served, long_refused}
 use Rattle.enip_adapter.specs.Lookup.{first_with}
 use Rattle.enip_adapter.specs.Replies.{Served, leaving}
+use Rattle.enip_adapter.specs.SendRRData.{opener_of}
 use Rattle.enip_adapter.specs.Turn.{State, TurnResult, begun, after, session_of, serve_found, end_found, session_after}
 use Rattle.enip_adapter.specs.Turn.{shared_after, without_connections, at_moment}
 use Rattle.enip_adapter.specs.Calls.{AdapterState, Held, Call, Meaning, after_call, bytes_found, bytes_held}
@@ -27,6 +29,8 @@ use Rattle.enip_adapter.specs.Runs.{after_calls, IsForOther, moments_of_calls, i
 use Rattle.enip_adapter.proofs.CommandLemmas.{after_command}
 use Rattle.enip_adapter.proofs.ListLemmas.{both, first_with-number, first_with-changed, first_with-removed}
 use Rattle.enip_adapter.proofs.ListLemmas.{first_with-append, first_with-behind}
+use Rattle.enip_adapter.specs.Rights.{after_for, answer_for}
+use Rattle.enip_adapter.proofs.BeginLemmas.{each-begun}
 
 abbrev connections_of : ℕ → Shared → List Connection
 connections_of peer shared = of_session peer shared.manager.connections
@@ -39,19 +43,13 @@ pub record Leaves (peer : ℕ) (old new : Shared) : Type 0 where
 leaves-same : (peer : ℕ) (shared : Shared) → Leaves peer shared shared
 leaves-same peer shared = record { connections = refl; moment = refl }
 
-abbrev exec_after : Device → ℕ → List ℕ → Device
-exec_after device max_size request = (exec_device device max_size request).after
-
-abbrev exec_answer : Device → ℕ → List ℕ → List ℕ
-exec_answer device max_size request = (exec_device device max_size request).answer
-
 -- One call of the manager for another session.
-leaves-manager : (peer : ℕ) (shared : Shared) (call : ManagerCall) → IsOfOther peer call
-    → of_session peer (state_after exec_after exec_answer
+leaves-manager : (peer : ℕ) (shared : Shared) (rights : Rights) (call : ManagerCall) → IsOfOther peer call
+    → of_session peer (state_after (after_for rights) (answer_for rights)
     (record { manager = shared.manager; router = shared.objects }) (call ∷ [])).manager.connections
     ≡ filter (is_open_after_all (call ∷ [])) (connections_of peer shared)
-leaves-manager peer shared call other =
-    calls-of_other exec_after exec_answer peer (record { manager = shared.manager; router = shared.objects })
+leaves-manager peer shared rights call other =
+    calls-of_other (after_for rights) (answer_for rights) peer (record { manager = shared.manager; router = shared.objects })
     (call ∷ []) (other, tt)
 
 leaves-command : (peer : ℕ) (shared : Shared) (session : Session) (f : Frame) → session.handle ≢ peer
@@ -61,18 +59,18 @@ leaves-command peer shared session f differ =
     (record {
       same = leaves-same peer shared;
       opens = λ layout bytes. record {
-        connections = leaves-manager peer shared (Opens layout shared.moment session.handle bytes) differ
+        connections = leaves-manager peer shared session.rights (Opens layout shared.moment (opener_of session) bytes) differ
             ∙ filter-true (connections_of peer shared);
         moment = refl;
       };
       closes = λ bytes. record {
-        connections = leaves-manager peer shared (Closes session.handle bytes) differ
+        connections = leaves-manager peer shared session.rights (Closes session.handle bytes) differ
             ∙ filter-true (connections_of peer shared);
         moment = refl;
       };
       executes = λ request. record { connections = refl; moment = refl };
       receives = λ id item. record {
-        connections = leaves-manager peer shared (Receives shared.moment session.handle id item) differ
+        connections = leaves-manager peer shared session.rights (Receives shared.moment session.handle id item) differ
             ∙ filter-true (connections_of peer shared);
         moment = refl;
       };
@@ -81,7 +79,7 @@ leaves-command peer shared session f differ =
 leaves-ended : (peer : ℕ) (shared : Shared) (session : ℕ) → session ≢ peer
     → Leaves peer shared (without_connections shared session)
 leaves-ended peer shared session differ = record {
-  connections = leaves-manager peer shared (Ends session) differ ∙ filter-true (connections_of peer shared);
+  connections = leaves-manager peer shared Write (Ends session) differ ∙ filter-true (connections_of peer shared);
   moment = refl;
 }
 
@@ -129,11 +127,10 @@ spares-ended s peer other (Some session) differ = record {
   session = λ mine e. first_with-removed (λ p. p.handle) peer other s.peers differ ∙ e;
 }
 
-spares-begun : (s : State) (peer : ℕ) → Spares peer s (begun s).state
-spares-begun s peer =
-    both (λ (t : TurnResult). Spares peer s t.state) (not (ltb (length s.peers) s.places)) _ _ (spares-same peer s)
-    (both (λ (t : TurnResult). Spares peer s t.state) (ltb 0xffffffff s.next_handle) _ _ (spares-same peer s)
-    (record { connections = refl; moment = refl; session = λ mine e. first_with-append (λ p. p.handle) peer mine s.peers _ e }))
+spares-begun : (s : State) (rights : Rights) (group : Option ℕ) (peer : ℕ) → Spares peer s (begun s rights group).state
+spares-begun s rights group peer =
+    each-begun (λ (t : TurnResult). Spares peer s t.state) s rights group (λ full. spares-same peer s)
+    (record { connections = refl; moment = refl; session = λ mine e. first_with-append (λ p. p.handle) peer mine s.peers _ e })
 
 spares-parsed_frame : (s : State) (peer other : ℕ) (x : Parsed) → other ≢ peer
     → Spares peer s (after s (events_of_parsed other x))
@@ -175,14 +172,11 @@ held-behind peer handle held = go (first_with (λ h. h.peer) peer held) refl
         ∙ sym (ap bytes_found e)
     go (Some h) e = ap bytes_found (first_with-append (λ h. h.peer) peer h held _ e) ∙ sym (ap bytes_found e)
 
-pub held-begun : (s : State) (peer : ℕ) (held : List Held)
-    → bytes_held (held_at_beginning held (begun s).answer.output) peer ≡ bytes_held held peer
-held-begun s peer held =
-    both (λ (t : TurnResult). bytes_held (held_at_beginning held t.answer.output) peer ≡ bytes_held held peer)
-    (not (ltb (length s.peers) s.places)) _ _ refl
-    (both (λ (t : TurnResult). bytes_held (held_at_beginning held t.answer.output) peer ≡ bytes_held held peer)
-    (ltb 0xffffffff s.next_handle) _ _ refl
-    (held-behind peer s.next_handle held))
+pub held-begun : (s : State) (rights : Rights) (group : Option ℕ) (peer : ℕ) (held : List Held)
+    → bytes_held (held_at_beginning held (begun s rights group).answer.output) peer ≡ bytes_held held peer
+held-begun s rights group peer held =
+    each-begun (λ (t : TurnResult). bytes_held (held_at_beginning held t.answer.output) peer ≡ bytes_held held peer)
+    s rights group (λ full. refl) (held-behind peer s.next_handle held)
 
 -- The state after a time was given.
 abbrev pub at_state : State → ℕ → State
@@ -197,7 +191,7 @@ at-connections s peer now = filter-swap (is_of_session peer)
 -- One call for another peer, or a tick.
 pub held-call : (peer : ℕ) (a : AdapterState) (c : Call) → IsForOther peer c → bytes_held (after_call a c).held peer
     ≡ bytes_held a.held peer
-held-call peer a Begins_peer other = held-begun a.state peer a.held
+held-call peer a (Begins_peer rights group) other = held-begun a.state rights group peer a.held
 held-call peer a (Feeds now q piece) other = held-piece peer q piece a.held (session_of a.state q) other
 held-call peer a (Ends_peer q) other = ap bytes_found (first_with-removed (λ h. h.peer) peer q a.held other)
 held-call peer a (Ticks now) other = refl
@@ -206,7 +200,7 @@ held-call peer a (Writes write) other = refl
 pub session-call : (peer : ℕ) (session : Session) (a : AdapterState) (c : Call) → IsForOther peer c
     → session_of a.state peer ≡ Some session
     → session_of (after_call a c).state peer ≡ Some session
-session-call peer session a Begins_peer other e = (spares-begun a.state peer).session session e
+session-call peer session a (Begins_peer rights group) other e = (spares-begun a.state rights group peer).session session e
 session-call peer session a (Feeds now q piece) other e =
     (spares-piece (at_state a.state now) peer q piece a.held (session_of a.state q) other).session session e
 session-call peer session a (Ends_peer q) other e =
@@ -249,9 +243,9 @@ pub connections-calls : (peer : ℕ) (a : AdapterState) (calls : List Call) → 
     ≡ filter (is_open_at_all (moments_of_calls a.state.shared.moment calls))
     (of_session peer a.state.shared.manager.connections)
 connections-calls peer a [] others = sym (filter-true (connections_of peer a.state.shared))
-connections-calls peer a (Begins_peer ∷ cs) others =
-    still peer a.state (begun a.state).state cs _ (spares-begun a.state peer)
-    (connections-calls peer (after_call a Begins_peer) cs others.1)
+connections-calls peer a (Begins_peer rights group ∷ cs) others =
+    still peer a.state (begun a.state rights group).state cs _ (spares-begun a.state rights group peer)
+    (connections-calls peer (after_call a (Begins_peer rights group)) cs others.1)
 connections-calls peer a (Feeds now q piece ∷ cs) others =
     moved peer a.state now cs _
     (still peer (at_state a.state now) (after_call a (Feeds now q piece)).state cs _

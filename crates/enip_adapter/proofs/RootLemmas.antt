@@ -1,10 +1,10 @@
 -- Each open connection was opened by a peer that is held and not closed.
-use Rattle.std.proofs.Common.{◌≡◌, ◌≢◌, ℕ, List, [], ◌∷◌, ◌++◌, Bool, true, false, cond, not, eqb, ltb, length}
+use Rattle.std.proofs.Common.{◌≡◌, ◌≢◌, ℕ, List, [], ◌∷◌, ◌++◌, Bool, true, false, cond, not, eqb}
 use Rattle.std.proofs.Common.{Option, Some, None, refl, sym, ap, subst, ◌∙◌}
 use Rattle.std.specs.Prelude.{filter, find, max}
 use Rattle.std.specs.List.{AllByRecursion}
 use Rattle.std.proofs.lemmas.Bool.{eqb-true, eqb-false, eq-eqb}
-use Rattle.cip_ledger.specs.Device.{Device, exec_device}
+use Rattle.cip_ledger.specs.Device.{Device}
 use Rattle.cip_manager.specs.declared.connection.Connection.{Connection}
 use Rattle.cip_manager.specs.Closing.{triad_of}
 use Rattle.cip_manager.specs.Connection.{is_of_session, is_of_session_with, is_named, is_open_at}
@@ -14,14 +14,17 @@ use Rattle.cip_manager.specs.Opening.{new_connection}
 use Rattle.cip_manager.proofs.CallLemmas.{after_open, after_close, after_item_turn}
 use Rattle.enip_wire.specs.Frames.{Frame}
 use Rattle.enip_adapter.specs.declared.adapter.Limits.{Limits}
+use Rattle.enip_adapter.specs.declared.adapter.Shares.{Shares}
+use Rattle.enip_adapter.specs.declared.peer.Rights.{Rights}
 use Rattle.enip_adapter.specs.declared.peer.Session.{Session}
 use Rattle.enip_adapter.specs.declared.shared.Listen.{Listen}
 use Rattle.enip_adapter.specs.declared.shared.Shared.{Shared}
 use Rattle.enip_adapter.specs.declared.no_reply_reason.NoReplyReason.TheVariants.{NotServed}
-use Rattle.enip_adapter.specs.Adapter.{new_adapter}
+use Rattle.enip_adapter.specs.Adapter.{shared_adapter}
 use Rattle.enip_adapter.specs.Commands.{command_served, long_refused}
 use Rattle.enip_adapter.specs.Lookup.{with_first}
 use Rattle.enip_adapter.specs.Replies.{Served, leaving}
+use Rattle.enip_adapter.specs.SendRRData.{opener_of}
 use Rattle.enip_adapter.specs.Turn.{State, Event, TurnResult, turn, begun, after, session_of, serve_found, end_found}
 use Rattle.enip_adapter.specs.Turn.{session_after, without_connections, with_peer, turned}
 use Rattle.enip_adapter.specs.Turn.Event.{Begin, End, At, Framed, Long, Written}
@@ -33,6 +36,8 @@ use Rattle.enip_adapter.proofs.CommandLemmas.{after_command}
 use Rattle.enip_adapter.proofs.ListLemmas.{both, first_with-number, first_with-changed, first_with-set}
 use Rattle.enip_adapter.proofs.ListLemmas.{first_with-append, first_with-removed}
 use Rattle.enip_adapter.proofs.OwnLemmas.{served_turn}
+use Rattle.enip_adapter.specs.Rights.{after_for, answer_for}
+use Rattle.enip_adapter.proofs.BeginLemmas.{each-begun}
 
 -- ---- what holds of each element of a list
 
@@ -76,12 +81,6 @@ module _ {X : Type 0} where
 abbrev AreOf : (ℕ → Type 0) → List Connection → Type 0
 AreOf R connections = AllByRecursion (λ (c : Connection). R c.session) connections
 
-abbrev exec_after : Device → ℕ → List ℕ → Device
-exec_after device max_size request = (exec_device device max_size request).after
-
-abbrev exec_answer : Device → ℕ → List ℕ → List ℕ
-exec_answer device max_size request = (exec_device device max_size request).answer
-
 -- A frame opens connections of its own session only.
 of-command : (R : ℕ → Type 0) (shared : Shared) (session : Session) (f : Frame) → R session.handle
     → AreOf R shared.manager.connections → AreOf R (command_served shared session f).shared.manager.connections
@@ -91,15 +90,15 @@ of-command R shared session f own all =
     (record {
       same = all;
       opens = λ layout bytes. after_open (λ t. AreOf R t.manager.connections) layout shared.manager shared.moment
-          session.handle bytes (λ reply refused. all)
+          (opener_of session) bytes (λ reply refused. all)
           (λ asked check. each-append (λ (c : Connection). R c.session) shared.manager.connections
-          (new_connection shared.manager.next_id shared.moment session.handle asked) all own);
+          (new_connection shared.manager.next_id shared.moment (opener_of session) asked) all own);
       closes = λ bytes. after_close (λ t. AreOf R t.connections) shared.manager session.handle bytes all
           (λ request e. each-filter (λ c. not (is_of_session_with session.handle (triad_of request) c))
           (λ (c : Connection). R c.session) (λ (c : Connection). R c.session) shared.manager.connections
           (λ c t r. r) all);
       executes = λ request. all;
-      receives = λ id item. after_item_turn exec_after exec_answer (λ cs. AreOf R cs) shared.manager.connections
+      receives = λ id item. after_item_turn (after_for session.rights) (answer_for session.rights) (λ cs. AreOf R cs) shared.manager.connections
           shared.moment session.handle id item shared.objects all
           (λ old new found same. each-changed (λ (c : Connection). R c.session) (is_named session.handle id) new
           shared.manager.connections
@@ -213,14 +212,13 @@ rooted-served s peer serve serves rooted = go (session_of s peer) refl
     go None e = rooted
     go (Some session) e = by_close session e session.closed refl
 
-rooted-begun : (s : State) → IsRooted s → IsRooted (begun s).state
-rooted-begun s rooted =
-    both (λ (t : TurnResult). IsRooted t.state) (not (ltb (length s.peers) s.places)) _ _ rooted
-    (both (λ (t : TurnResult). IsRooted t.state) (ltb 0xffffffff s.next_handle) _ _ rooted
-    (each-weaker (λ (c : Connection). IsHeldOpen s c.session) (λ (c : Connection). IsHeldOpen (with_peer s) c.session)
-    s.shared.manager.connections
-    (λ c e. kept-open s (with_peer s) c.session
-    (λ mine f. first_with-append (λ (p : Session). p.handle) c.session mine s.peers _ f) e) rooted))
+rooted-begun : (s : State) (rights : Rights) (group : Option ℕ) → IsRooted s → IsRooted (begun s rights group).state
+rooted-begun s rights group rooted =
+    each-begun (λ (t : TurnResult). IsRooted t.state) s rights group (λ full. rooted)
+    (each-weaker (λ (c : Connection). IsHeldOpen s c.session)
+    (λ (c : Connection). IsHeldOpen (with_peer s rights group) c.session) s.shared.manager.connections
+    (λ c e. kept-open s (with_peer s rights group) c.session
+    (λ mine f. first_with-append (λ (p : Session). p.handle) c.session mine s.peers _ f) e) rooted)
 
 rooted-ended : (s : State) (peer : ℕ) (o : Option Session) → IsRooted s → IsRooted (end_found s peer o)
 rooted-ended s peer None rooted = rooted
@@ -238,7 +236,7 @@ rooted-ended s peer (Some session) rooted =
         wrong false e f = cc
 
 rooted-event : (s : State) (e : Event) → IsRooted s → IsRooted (turn s e).state
-rooted-event s Begin rooted = rooted-begun s rooted
+rooted-event s (Begin rights group) rooted = rooted-begun s rights group rooted
 rooted-event s (End peer) rooted = rooted-ended s peer (session_of s peer) rooted
 rooted-event s (At now) rooted =
     each-filter (is_open_at (max s.shared.moment now)) (λ (c : Connection). IsHeldOpen s c.session)
@@ -259,6 +257,7 @@ rooted-calls a [] rooted = rooted
 rooted-calls a (c ∷ cs) rooted =
     rooted-calls (after_call a c) cs (rooted-events a.state (call_meaning a c).events rooted)
 
-pub rooted-reached : (device : Device) (listen : Listen) (limits : Limits) (calls : List Call)
-    → IsRooted (after_calls (new_adapter device listen limits) calls).state
-rooted-reached device listen limits calls = rooted-calls (new_adapter device listen limits) calls tt
+pub rooted-reached : (device : Device) (listen : Listen) (limits : Limits) (shares : Shares) (calls : List Call)
+    → IsRooted (after_calls (shared_adapter device listen limits shares) calls).state
+rooted-reached device listen limits shares calls =
+    rooted-calls (shared_adapter device listen limits shares) calls tt

@@ -1,6 +1,6 @@
 -- The state of a session after calls: open, closed, or ended with its peer.
 use Rattle.std.proofs.Common.{◌≡◌, ℕ, ◌<◌, max, List, [], ◌∷◌, Bool, true, false, cond, not, ◌&&◌, ◌||◌}
-use Rattle.std.proofs.Common.{eqb, ltb, leb, length, Option, Some, None, refl, sym, ap, subst, ◌∙◌, arith}
+use Rattle.std.proofs.Common.{eqb, leb, Option, Some, None, refl, sym, ap, subst, ◌∙◌, arith}
 use Rattle.std.specs.List.{list_any, AllByRecursion}
 use Rattle.std.proofs.lemmas.Bool.{eqb-true, eqb-false, ne_eqb, eq-eqb, leb-true, le-leb}
 use Rattle.enip_wire.specs.Frames.{Frame}
@@ -8,6 +8,7 @@ use Rattle.enip_wire.specs.Stream.{Parsed, held_and_taken, parsed}
 use Rattle.enip_wire.specs.Stream.Parsed.{Incomplete, WholeFrame, TooLongHeader}
 use Rattle.enip_adapter.specs.declared.endings.EndReason.{EndReason}
 use Rattle.enip_adapter.specs.declared.endings.EndReason.TheVariants.{PeerEnded, SessionEnded, Closed}
+use Rattle.enip_adapter.specs.declared.peer.Rights.{Rights}
 use Rattle.enip_adapter.specs.declared.peer.Session.{Session}
 use Rattle.enip_adapter.specs.declared.shared.Shared.{Shared}
 use Rattle.enip_adapter.specs.Commands.{command_served, long_refused}
@@ -30,6 +31,7 @@ use Rattle.enip_adapter.proofs.NumberLemmas.{next-ended}
 use Rattle.enip_adapter.proofs.OwnLemmas.{served-open}
 use Rattle.enip_adapter.proofs.PeerLemmas.{at_state, session-call}
 use Rattle.enip_adapter.proofs.SoundLemmas.{IsSound, IsFed, fed-piece, handles, handles-ended, sound-call}
+use Rattle.enip_adapter.proofs.BeginLemmas.{each-begun}
 
 -- ---- the current time
 
@@ -69,10 +71,10 @@ moment-piece s peer piece held (Some session) =
     both (λ (m : Meaning). (after s m.events).shared.moment ≡ s.shared.moment) session.closed _ _ refl
     (moment-parsed s peer (parsed (held_and_taken (bytes_held held peer) piece)))
 
-moment-begun : (s : State) → (begun s).state.shared.moment ≡ s.shared.moment
-moment-begun s =
-    both (λ (t : TurnResult). t.state.shared.moment ≡ s.shared.moment) (not (ltb (length s.peers) s.places)) _ _ refl
-    (both (λ (t : TurnResult). t.state.shared.moment ≡ s.shared.moment) (ltb 0xffffffff s.next_handle) _ _ refl refl)
+moment-begun : (s : State) (rights : Rights) (group : Option ℕ)
+    → (begun s rights group).state.shared.moment ≡ s.shared.moment
+moment-begun s rights group =
+    each-begun (λ (t : TurnResult). t.state.shared.moment ≡ s.shared.moment) s rights group (λ full. refl) refl
 
 moment-ended : (s : State) (peer : ℕ) (o : Option Session) → (end_found s peer o).shared.moment ≡ s.shared.moment
 moment-ended s peer None = refl
@@ -97,8 +99,8 @@ later deadline moment now e =
 pub reached : (deadline : ℕ) (a : AdapterState) (calls : List Call)
     → leb deadline (after_calls a calls).state.shared.moment ≡ reaches deadline a.state.shared.moment calls
 reached deadline a [] = sym (or-none (leb deadline a.state.shared.moment))
-reached deadline a (Begins_peer ∷ cs) =
-    reached deadline (after_call a Begins_peer) cs ∙ ap (λ m. reaches deadline m cs) (moment-begun a.state)
+reached deadline a (Begins_peer rights group ∷ cs) =
+    reached deadline (after_call a (Begins_peer rights group)) cs ∙ ap (λ m. reaches deadline m cs) (moment-begun a.state rights group)
 reached deadline a (Feeds now peer piece ∷ cs) =
     reached deadline (after_call a (Feeds now peer piece)) cs
     ∙ (ap (λ m. reaches deadline m cs)
@@ -121,16 +123,17 @@ record IsGone (peer : ℕ) (a : AdapterState) : Type 0 where
   none : session_of a.state peer ≡ None
   assigned : peer < a.state.next_handle
 
-begun-gone : (s : State) (peer : ℕ) → session_of s peer ≡ None → peer < s.next_handle
-    → (session_of (begun s).state peer ≡ None) × (peer < (begun s).state.next_handle)
-begun-gone s peer none assigned =
+begun-gone : (s : State) (rights : Rights) (group : Option ℕ) (peer : ℕ) → session_of s peer ≡ None
+    → peer < s.next_handle
+    → (session_of (begun s rights group).state peer ≡ None) × (peer < (begun s rights group).state.next_handle)
+begun-gone s rights group peer none assigned =
     let P : TurnResult → Type 0 = λ t. (session_of t.state peer ≡ None) × (peer < t.state.next_handle) in
-    both P (not (ltb (length s.peers) s.places)) _ _ (none, assigned)
-    (both P (ltb 0xffffffff s.next_handle) _ _ (none, assigned) (
+    each-begun P s rights group (λ full. (none, assigned)) (
       first_with-behind (λ (p : Session). p.handle) peer s.peers _ none
-          ∙ ap (λ b. cond b (Some (new_session s.next_handle)) None) (ne_eqb s.next_handle peer (λ e. omega arith)),
+          ∙ ap (λ b. cond b (Some (new_session s.next_handle rights group)) None)
+          (ne_eqb s.next_handle peer (λ e. omega arith)),
       omega arith,
-    ))
+    )
 
 ended-gone : (s : State) (peer other : ℕ) (o : Option Session) → session_of s peer ≡ None
     → session_of (end_found s other o) peer ≡ None
@@ -141,8 +144,8 @@ ended-gone s peer other (Some session) none =
     ∙ none-without peer other (handles s) (none-numbers (λ (p : Session). p.handle) peer s.peers none))
 
 gone-call : (peer : ℕ) (a : AdapterState) (c : Call) → IsGone peer a → IsGone peer (after_call a c)
-gone-call peer a Begins_peer is =
-    let both_hold = begun-gone a.state peer is.none is.assigned in
+gone-call peer a (Begins_peer rights group) is =
+    let both_hold = begun-gone a.state rights group peer is.none is.assigned in
     record { none = both_hold.0; assigned = both_hold.1 }
 gone-call peer a (Feeds now other piece) is =
     let fed : IsFed (at_state a.state now) a.held (piece_to a.held other piece (session_of a.state other))
@@ -180,7 +183,7 @@ below-found next peer session (x ∷ xs) e below =
 
 gone-end : (peer : ℕ) (session : Session) (a : AdapterState) (c : Call) → IsSound a
     → session_of a.state peer ≡ Some session → is_end_of peer c ≡ true → IsGone peer (after_call a c)
-gone-end peer session a Begins_peer sound found e = cc
+gone-end peer session a (Begins_peer rights group) sound found e = cc
 gone-end peer session a (Feeds now other piece) sound found e = cc
 gone-end peer session a (Ends_peer other) sound found e =
     subst (λ q. IsGone peer (after_call a (Ends_peer q))) (sym (eqb-true other peer e)) (record {
@@ -275,7 +278,7 @@ other-close a now other peer piece t = ap (λ b. b && (call_answer a (Feeds now 
 
 stays-call : (peer : ℕ) (old : Session) (a : AdapterState) (c : Call) → session_of a.state peer ≡ Some old
     → is_end_of peer c ≡ false → Stays peer a c old
-stays-call peer old a Begins_peer found e = stays-other peer old a Begins_peer tt found refl
+stays-call peer old a (Begins_peer rights group) found e = stays-other peer old a (Begins_peer rights group) tt found refl
 stays-call peer old a (Feeds now other piece) found e = go (eqb other peer) refl
   where
     go : (b : Bool) → eqb other peer ≡ b → Stays peer a (Feeds now other piece) old

@@ -1,5 +1,5 @@
 -- What holds of every adapter to which calls lead from a new one.
-use Rattle.std.proofs.Common.{◌≡◌, ℕ, ◌+◌, ◌≤◌, List, [], ◌∷◌, ◌++◌, Bool, true, false, cond, not, eqb, ltb, length}
+use Rattle.std.proofs.Common.{◌≡◌, ℕ, ◌+◌, ◌≤◌, List, [], ◌∷◌, ◌++◌, Bool, true, false, cond, eqb}
 use Rattle.std.proofs.Common.{Option, Some, None, refl, sym, ap, subst, ◌∙◌}
 use Rattle.std.proofs.lemmas.Bool.{eqb-true, eqb-false}
 use Rattle.std.proofs.lemmas.List.{map-append}
@@ -7,10 +7,12 @@ use Rattle.cip_ledger.specs.Device.{Device}
 use Rattle.enip_wire.specs.Stream.{Parsed, held_and_taken, parsed, cleared}
 use Rattle.enip_wire.specs.Stream.Parsed.{Incomplete, WholeFrame, TooLongHeader}
 use Rattle.enip_adapter.specs.declared.adapter.Limits.{Limits}
+use Rattle.enip_adapter.specs.declared.adapter.Shares.{Shares}
+use Rattle.enip_adapter.specs.declared.peer.Rights.{Rights}
 use Rattle.enip_adapter.specs.declared.peer.Session.{Session}
 use Rattle.enip_adapter.specs.declared.shared.Listen.{Listen}
 use Rattle.enip_adapter.specs.declared.no_reply_reason.NoReplyReason.TheVariants.{NotServed}
-use Rattle.enip_adapter.specs.Adapter.{new_adapter}
+use Rattle.enip_adapter.specs.Adapter.{new_adapter, shared_adapter}
 use Rattle.enip_adapter.specs.Commands.{command_served, long_refused}
 use Rattle.enip_adapter.specs.Lookup.{first_with, with_first, without_first}
 use Rattle.enip_adapter.specs.Replies.{Served, leaving}
@@ -27,6 +29,8 @@ use Rattle.enip_adapter.proofs.ListLemmas.{AreDrawn, drawn-more, drawn-without, 
 use Rattle.enip_adapter.proofs.NumberLemmas.{next-parsed_frame, next-ended}
 use Rattle.enip_adapter.proofs.PeerLemmas.{at_state, held-call, session-call}
 use Rattle.enip_wire.proofs.RunningLemmas.{IsRunning, running-empty, running-taken, bytes_taken-some}
+use Rattle.enip_adapter.specs.Groups.{no_shares}
+use Rattle.enip_adapter.proofs.BeginLemmas.{each-begun}
 
 -- The handles of the peers, and the numbers of the held bytes.
 abbrev pub handles : State → List ℕ
@@ -86,21 +90,24 @@ record AreSound (a : AdapterState) : Type 0 where
   same : entries a.held ≡ handles a.state
   drawn : AreDrawn a.state.next_handle (handles a.state)
 
-numbers-begun : (s : State) (held : List Held) → entries held ≡ handles s → AreDrawn s.next_handle (handles s)
-    → AreSound (record { state = (begun s).state; held = held_at_beginning held (begun s).answer.output })
-numbers-begun s held same drawn =
+numbers-begun : (s : State) (rights : Rights) (group : Option ℕ) (held : List Held) → entries held ≡ handles s
+    → AreDrawn s.next_handle (handles s)
+    → AreSound (record {
+      state = (begun s rights group).state;
+      held = held_at_beginning held (begun s rights group).answer.output;
+    })
+numbers-begun s rights group held same drawn =
     let P : TurnResult → Type 0 = λ t. AreSound (record { state = t.state; held = held_at_beginning held t.answer.output }) in
-    both P (not (ltb (length s.peers) s.places)) _ _ (record { same = same; drawn = drawn })
-    (both P (ltb 0xffffffff s.next_handle) _ _ (record { same = same; drawn = drawn })
+    each-begun P s rights group (λ full. record { same = same; drawn = drawn })
     (record {
       same = map-append (λ (h : Held). h.peer) held _
           ∙ (ap (λ ns. ns ++ s.next_handle ∷ []) same ∙ sym (map-append (λ (p : Session). p.handle) s.peers _));
       drawn = subst (AreDrawn (s.next_handle + 1)) (sym (map-append (λ (p : Session). p.handle) s.peers _))
           (drawn-more s.next_handle (handles s) drawn);
-    }))
+    })
 
 numbers-call : (a : AdapterState) (c : Call) → IsSound a → AreSound (after_call a c)
-numbers-call a Begins_peer sound = numbers-begun a.state a.held sound.same sound.drawn
+numbers-call a (Begins_peer rights group) sound = numbers-begun a.state rights group a.held sound.same sound.drawn
 numbers-call a (Feeds now peer piece) sound =
     let fed : IsFed (at_state a.state now) a.held (piece_to a.held peer piece (session_of a.state peer))
     = fed-piece (at_state a.state now) peer piece a.held (session_of a.state peer) in
@@ -254,7 +261,7 @@ ready-ended a peer sound session e alive =
     cc
 
 ready-call : (a : AdapterState) (c : Call) (peer : ℕ) → IsSound a → IsReady peer (after_call a c)
-ready-call a Begins_peer peer sound = ready-other a Begins_peer peer sound tt
+ready-call a (Begins_peer rights group) peer sound = ready-other a (Begins_peer rights group) peer sound tt
 ready-call a (Feeds now other piece) peer sound = go (eqb other peer) refl
   where
     go : (b : Bool) → eqb other peer ≡ b → IsReady peer (after_call a (Feeds now other piece))
@@ -279,12 +286,16 @@ pub sound-calls : (a : AdapterState) (calls : List Call) → IsSound a → IsSou
 sound-calls a [] sound = sound
 sound-calls a (c ∷ cs) sound = sound-calls (after_call a c) cs (sound-call a c sound)
 
-pub sound-new : (device : Device) (listen : Listen) (limits : Limits) → IsSound (new_adapter device listen limits)
-sound-new device listen limits = record {
+pub sound-shared : (device : Device) (listen : Listen) (limits : Limits) (shares : Shares)
+    → IsSound (shared_adapter device listen limits shares)
+sound-shared device listen limits shares = record {
   same = refl;
   drawn = record { once = tt; below = tt };
   ready = λ peer session e alive. cc;
 }
+
+pub sound-new : (device : Device) (listen : Listen) (limits : Limits) → IsSound (new_adapter device listen limits)
+sound-new device listen limits = sound-shared device listen limits no_shares
 
 -- A piece is taken in part at least, or dropped.
 pub taken-piece : (a : AdapterState) (now peer b : ℕ) (bs : List ℕ) → IsSound a → (o : Option Session)
@@ -302,12 +313,12 @@ taken-piece a now peer b bs sound (Some session) e alive = go session.closed ref
     go true shut k = cc
     go false lives k = bytes_taken-some (bytes_held a.held peer) b bs (sound.ready peer session e lives)
 
-pub some-taken : (device : Device) (listen : Listen) (limits : Limits) (calls : List Call) (now peer b : ℕ)
-    (bs : List ℕ)
-    → (call_answer (after_calls (new_adapter device listen limits) calls) (Feeds now peer (b ∷ bs))).close ≡ false
-    → 1 ≤ (call_meaning (after_calls (new_adapter device listen limits) calls) (Feeds now peer (b ∷ bs))).taken
-some-taken device listen limits calls now peer b bs alive =
-    let a : AdapterState = after_calls (new_adapter device listen limits) calls in
-    taken-piece (after_calls (new_adapter device listen limits) calls) now peer b bs
-    (sound-calls (new_adapter device listen limits) calls (sound-new device listen limits))
-    (session_of (after_calls (new_adapter device listen limits) calls).state peer) refl alive
+pub some-taken : (device : Device) (listen : Listen) (limits : Limits) (shares : Shares) (calls : List Call)
+    (now peer b : ℕ) (bs : List ℕ)
+    → (call_answer (after_calls (shared_adapter device listen limits shares) calls) (Feeds now peer (b ∷ bs))).close
+    ≡ false
+    → 1 ≤ (call_meaning (after_calls (shared_adapter device listen limits shares) calls) (Feeds now peer (b ∷ bs))).taken
+some-taken device listen limits shares calls now peer b bs alive =
+    taken-piece (after_calls (shared_adapter device listen limits shares) calls) now peer b bs
+    (sound-calls (shared_adapter device listen limits shares) calls (sound-shared device listen limits shares))
+    (session_of (after_calls (shared_adapter device listen limits shares) calls).state peer) refl alive

@@ -1,6 +1,6 @@
 -- What is taken of a peer's stream are its frames, followed by the bytes held.
-use Rattle.std.proofs.Common.{◌≡◌, ℕ, List, [], ◌∷◌, ◌++◌, Bool, true, false, cond, not, eqb}
-use Rattle.std.proofs.Common.{ltb, length, take, Option, Some, None, refl, sym, ap, subst, ◌∙◌}
+use Rattle.std.proofs.Common.{◌≡◌, ℕ, List, [], ◌∷◌, ◌++◌, Bool, true, false, cond, eqb}
+use Rattle.std.proofs.Common.{take, Option, Some, None, refl, sym, ap, subst, ◌∙◌}
 use Rattle.std.proofs.Common.{append-nil, lit<}
 use Rattle.std.specs.List.{flat_map, AllByRecursion}
 use Rattle.std.proofs.lemmas.Bool.{eqb-true, eqb-false, eq-eqb}
@@ -13,9 +13,11 @@ use Rattle.enip_wire.specs.Stream.Parsed.{Incomplete, WholeFrame, TooLongHeader}
 use Rattle.enip_wire.proofs.StreamLemmas.{one_cut_lem}
 use Rattle.enip_wire.proofs.ParsedLemmas.{HasNone, then-cut, none-running, none-long, seen-frame, seen-long}
 use Rattle.enip_adapter.specs.declared.adapter.Limits.{Limits}
+use Rattle.enip_adapter.specs.declared.adapter.Shares.{Shares}
+use Rattle.enip_adapter.specs.declared.peer.Rights.{Rights}
 use Rattle.enip_adapter.specs.declared.peer.Session.{Session}
 use Rattle.enip_adapter.specs.declared.shared.Listen.{Listen}
-use Rattle.enip_adapter.specs.Adapter.{new_adapter}
+use Rattle.enip_adapter.specs.Adapter.{shared_adapter}
 use Rattle.enip_adapter.specs.Lookup.{first_with, with_first}
 use Rattle.enip_adapter.specs.Turn.{State, Event, TurnResult, begun, session_of}
 use Rattle.enip_adapter.specs.Turn.Event.{Begin, End, At, Framed, Long, Written}
@@ -29,7 +31,8 @@ use Rattle.enip_adapter.specs.Runs.{GoesOn, Run, at_end, taken_in, frames_in}
 use Rattle.enip_adapter.proofs.ListLemmas.{both, first_with-changed, first_with-removed, first_with-append}
 use Rattle.enip_adapter.proofs.ListLemmas.{first_with-behind, first_with-set, next-none, numbers-none}
 use Rattle.enip_wire.proofs.RunningLemmas.{IsRunning, running-empty, running-taken}
-use Rattle.enip_adapter.proofs.SoundLemmas.{IsSound, sound-call, sound-calls, sound-new, no-entry}
+use Rattle.enip_adapter.proofs.SoundLemmas.{IsSound, sound-call, sound-calls, sound-shared, no-entry}
+use Rattle.enip_adapter.proofs.BeginLemmas.{each-begun}
 
 AreBytes-none : AreBytes []
 AreBytes-none i = lit< tt
@@ -150,19 +153,17 @@ advances-other peer other now bytes piece held (Some session) at differ =
     })
     (no-frames peer other now (parsed (held_and_taken (bytes_held held other) piece)) differ))
 
-at-begun : (s : State) (peer : ℕ) (bytes : List ℕ) (held : List Held) → IsAt peer bytes held
-    → IsAt peer bytes (held_at_beginning held (begun s).answer.output)
-at-begun s peer bytes held at =
-    let P : TurnResult → Type 0 = λ t. IsAt peer bytes (held_at_beginning held t.answer.output) in
-    both P (not (ltb (length s.peers) s.places)) _ _ at
-    (both P (ltb 0xffffffff s.next_handle) _ _ at
-    (record { found = first_with-append (λ (h : Held). h.peer) peer _ held _ at.found; fits = at.fits; none = at.none }))
+at-begun : (s : State) (rights : Rights) (group : Option ℕ) (peer : ℕ) (bytes : List ℕ) (held : List Held)
+    → IsAt peer bytes held → IsAt peer bytes (held_at_beginning held (begun s rights group).answer.output)
+at-begun s rights group peer bytes held at =
+    each-begun (λ t. IsAt peer bytes (held_at_beginning held t.answer.output)) s rights group (λ full. at)
+    (record { found = first_with-append (λ (h : Held). h.peer) peer _ held _ at.found; fits = at.fits; none = at.none })
 
 pub advances-call : (peer : ℕ) (bytes : List ℕ) (a : AdapterState) (c : Call) → IsSound a → IsAt peer bytes a.held
     → GoesOn peer c
     → Advances peer bytes (taken_by_call peer a c) (call_meaning a c)
-advances-call peer bytes a Begins_peer sound at goes =
-    stays peer bytes (call_meaning a Begins_peer) (at-begun a.state peer bytes a.held at) refl
+advances-call peer bytes a (Begins_peer rights group) sound at goes =
+    stays peer bytes (call_meaning a (Begins_peer rights group)) (at-begun a.state rights group peer bytes a.held at) refl
 advances-call peer bytes a (Feeds now other piece) sound at goes = go (eqb other peer) refl
   where
     go : (b : Bool) → eqb other peer ≡ b
@@ -185,7 +186,7 @@ advances-call peer bytes a (Writes write) sound at goes = stays peer bytes (call
 pub frames-append : (peer : ℕ) (es fs : List Event) → frames_of_peer peer (es ++ fs)
     ≡ frames_of_peer peer es ++ frames_of_peer peer fs
 frames-append peer [] fs = refl
-frames-append peer (Begin ∷ es) fs = frames-append peer es fs
+frames-append peer (Begin rights group ∷ es) fs = frames-append peer es fs
 frames-append peer (End other ∷ es) fs = frames-append peer es fs
 frames-append peer (At now ∷ es) fs = frames-append peer es fs
 frames-append peer (Framed other f ∷ es) fs = go (eqb other peer) (frames-append peer es fs)
@@ -216,13 +217,12 @@ cut-calls peer bytes a (c ∷ cs) sound at goes =
     (cut-calls peer step.left (after_call a c) cs (sound-call a c sound) step.at goes.1))
 
 -- A peer that begins holds nothing.
-pub at-beginning : (s : State) (held : List Held) (peer : ℕ)
-    → first_with (λ (h : Held). h.peer) s.next_handle held ≡ None
-    → (begun s).answer.output ≡ Begins peer → IsAt peer [] (held_at_beginning held (begun s).answer.output)
-at-beginning s held peer none =
+pub at-beginning : (s : State) (rights : Rights) (group : Option ℕ) (held : List Held) (peer : ℕ)
+    → first_with (λ (h : Held). h.peer) s.next_handle held ≡ None → (begun s rights group).answer.output ≡ Begins peer
+    → IsAt peer [] (held_at_beginning held (begun s rights group).answer.output)
+at-beginning s rights group held peer none =
     let P : TurnResult → Type 0 = λ t. t.answer.output ≡ Begins peer → IsAt peer [] (held_at_beginning held t.answer.output) in
-    both P (not (ltb (length s.peers) s.places)) _ _ (λ e. cc)
-    (both P (ltb 0xffffffff s.next_handle) _ _ (λ e. cc)
+    each-begun P s rights group (λ full e. cc)
     (λ e.
     let same : s.next_handle ≡ peer = (let f : Begins s.next_handle ≡ Begins peer = e in cc) in
     record {
@@ -233,35 +233,38 @@ at-beginning s held peer none =
           ∙ ap (λ n. Some (let h : Held = record { peer = n; bytes = [] } in h)) same);
       fits = AreBytes-none;
       none = none-running [] running-empty;
-    }))
+    })
 
-pub cut-from-beginning : (device : Device) (listen : Listen) (limits : Limits) (earlier calls : List Call) (peer : ℕ)
-    → (call_answer (after_calls (new_adapter device listen limits) earlier) Begins_peer).output ≡ Begins peer
+pub cut-from-beginning : (device : Device) (listen : Listen) (limits : Limits) (shares : Shares) (rights : Rights)
+    (group : Option ℕ) (earlier calls : List Call) (peer : ℕ)
+    → (call_answer (after_calls (shared_adapter device listen limits shares) earlier) (Begins_peer rights group)).output ≡ Begins peer
     → AllByRecursion (GoesOn peer) calls
-    → Cut (taken_by_calls peer (after_call (after_calls (new_adapter device listen limits) earlier) Begins_peer) calls)
+    → Cut (taken_by_calls peer (after_call (after_calls (shared_adapter device listen limits shares) earlier) (Begins_peer rights group)) calls)
     (frames_of_peer peer (events_of_calls
-    (after_call (after_calls (new_adapter device listen limits) earlier) Begins_peer) calls))
+    (after_call (after_calls (shared_adapter device listen limits shares) earlier) (Begins_peer rights group)) calls))
     (bytes_held (after_calls
-    (after_call (after_calls (new_adapter device listen limits) earlier) Begins_peer) calls).held peer)
-cut-from-beginning device listen limits earlier calls peer begins goes =
-    from (after_calls (new_adapter device listen limits) earlier)
-    (sound-calls (new_adapter device listen limits) earlier (sound-new device listen limits)) begins
+    (after_call (after_calls (shared_adapter device listen limits shares) earlier) (Begins_peer rights group)) calls).held peer)
+cut-from-beginning device listen limits shares rights group earlier calls peer begins goes =
+    from (after_calls (shared_adapter device listen limits shares) earlier)
+    (sound-calls (shared_adapter device listen limits shares) earlier (sound-shared device listen limits shares)) begins
   where
-    from : (a : AdapterState) → IsSound a → (begun a.state).answer.output ≡ Begins peer
-        → Cut (taken_by_calls peer (after_call a Begins_peer) calls)
-        (frames_of_peer peer (events_of_calls (after_call a Begins_peer) calls))
-        (bytes_held (after_calls (after_call a Begins_peer) calls).held peer)
+    from : (a : AdapterState) → IsSound a → (begun a.state rights group).answer.output ≡ Begins peer
+        → Cut (taken_by_calls peer (after_call a (Begins_peer rights group)) calls)
+        (frames_of_peer peer (events_of_calls (after_call a (Begins_peer rights group)) calls))
+        (bytes_held (after_calls (after_call a (Begins_peer rights group)) calls).held peer)
     from a sound e =
         let none : first_with (λ (h : Held). h.peer) a.state.next_handle a.held ≡ None
         = no-entry a a.state.next_handle sound.same
         (numbers-none (λ (p : Session). p.handle) a.state.next_handle a.state.peers
         (next-none a.state.next_handle _ sound.drawn)) in
-        cut-calls peer [] (after_call a Begins_peer) calls (sound-call a Begins_peer sound)
-        (at-beginning a.state a.held peer none e) goes
+        cut-calls peer [] (after_call a (Begins_peer rights group)) calls (sound-call a (Begins_peer rights group) sound)
+        (at-beginning a.state rights group a.held peer none e) goes
 
 pub cut-of-run : (peer : ℕ) (run : Run peer)
     → Cut (taken_in peer run) (frames_in peer run) (bytes_held (at_end peer run).held peer)
-cut-of-run peer run = cut-from-beginning run.device run.listen run.limits run.earlier run.calls peer run.begins run.goes_on
+cut-of-run peer run =
+    cut-from-beginning run.device run.listen run.limits run.shares run.rights run.group run.earlier run.calls peer
+    run.begins run.goes_on
 
 pub same-runs : (p q : ℕ) (r : Run p) (s : Run q) → taken_in p r ≡ taken_in q s
     → (frames_in p r ≡ frames_in q s) × (bytes_held (at_end p r).held p ≡ bytes_held (at_end q s).held q)

@@ -11,10 +11,11 @@ use Rattle.cip_ledger.specs.Device.{Device}
 use Rattle.enip_wire.specs.Stream.{Parsed, held_and_taken, parsed}
 use Rattle.enip_wire.specs.Stream.Parsed.{Incomplete, WholeFrame, TooLongHeader}
 use Rattle.enip_adapter.specs.declared.adapter.Limits.{Limits}
+use Rattle.enip_adapter.specs.declared.adapter.Shares.{Shares}
 use Rattle.enip_adapter.specs.declared.peer.Session.{Session}
 use Rattle.enip_adapter.specs.declared.shared.Listen.{Listen}
 use Rattle.enip_adapter.specs.declared.no_reply_reason.NoReplyReason.TheVariants.{NotServed}
-use Rattle.enip_adapter.specs.Adapter.{new_adapter}
+use Rattle.enip_adapter.specs.Adapter.{shared_adapter}
 use Rattle.enip_adapter.specs.Turn.{State, Answer, after, answers, session_of}
 use Rattle.enip_adapter.specs.Turn.Output.{NoReply}
 use Rattle.enip_adapter.specs.Calls.{AdapterState, Call, Meaning, call_meaning, after_call, after_meaning, call_answer}
@@ -29,7 +30,7 @@ use Rattle.enip_adapter.proofs.CutLemmas.{HasWaited, has-waited, IsJoined, is-jo
 use Rattle.enip_adapter.proofs.CutLemmas.{drop-front, drop-whole}
 use Rattle.enip_adapter.proofs.PeerLemmas.{at_state}
 use Rattle.enip_adapter.proofs.SessionEndLemmas.{moment-piece}
-use Rattle.enip_adapter.proofs.SoundLemmas.{IsSound, sound-call, sound-calls, sound-new, taken-piece}
+use Rattle.enip_adapter.proofs.SoundLemmas.{IsSound, sound-call, sound-calls, sound-shared, taken-piece}
 
 -- ---- times
 
@@ -372,12 +373,12 @@ alike peer a l k pieces others moments xs ys sound e p q =
       adapter_same = one.adapter_same;
     }
 
-module _ (device : Device) (listen : Listen) (limits : Limits) (calls : List Call) (peer : ℕ) where
+module _ (device : Device) (listen : Listen) (limits : Limits) (shares : Shares) (calls : List Call) (peer : ℕ) where
   abbrev start : AdapterState
-  start = after_calls (new_adapter device listen limits) calls
+  start = after_calls (shared_adapter device listen limits shares) calls
 
   start-sound : IsSound start
-  start-sound = sound-calls (new_adapter device listen limits) calls (sound-new device listen limits)
+  start-sound = sound-calls (shared_adapter device listen limits shares) calls (sound-shared device listen limits shares)
 
   pub timed-answers : (pieces others : List TimedPiece) (moments : List ℕ) (xs ys : List Answer) (l k : AdapterState)
       → joined pieces ≡ joined others
@@ -436,12 +437,12 @@ pour-pieces peer [] a sound = record { moments = []; answers_then = []; last = a
 pour-pieces peer (piece ∷ pieces) a sound =
     pour-piece (length piece.bytes) piece.now peer piece.bytes pieces a (omega arith) sound (pour-pieces peer pieces)
 
-pub some-timed : (device : Device) (listen : Listen) (limits : Limits) (calls : List Call) (peer : ℕ)
+pub some-timed : (device : Device) (listen : Listen) (limits : Limits) (shares : Shares) (calls : List Call) (peer : ℕ)
     (pieces : List TimedPiece)
     → (moments : List ℕ) × ((xs : List Answer) × ((l : AdapterState)
-    × FeedsTimedPieces peer (after_calls (new_adapter device listen limits) calls) pieces moments xs l))
-some-timed device listen limits calls peer pieces =
-    let p : HasPour peer (after_calls (new_adapter device listen limits) calls) pieces
-    = pour-pieces peer pieces (after_calls (new_adapter device listen limits) calls)
-    (sound-calls (new_adapter device listen limits) calls (sound-new device listen limits)) in
+    × FeedsTimedPieces peer (after_calls (shared_adapter device listen limits shares) calls) pieces moments xs l))
+some-timed device listen limits shares calls peer pieces =
+    let p : HasPour peer (after_calls (shared_adapter device listen limits shares) calls) pieces
+    = pour-pieces peer pieces (after_calls (shared_adapter device listen limits shares) calls)
+    (sound-calls (shared_adapter device listen limits shares) calls (sound-shared device listen limits shares)) in
     (p.moments, (p.answers_then, (p.last, p.pours)))

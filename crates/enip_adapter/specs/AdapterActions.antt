@@ -7,7 +7,7 @@ use Rattle.enip_adapter.specs.Runs.{after_calls, IsForOther}
 
 -- The call is a feed of this peer at this time.
 abbrev pub IsFeedOf : ℕ → ℕ → Call → Type 0
-IsFeedOf now peer Begins_peer = ⊥
+IsFeedOf now peer (Begins_peer rights group) = ⊥
 IsFeedOf now peer (Feeds at to piece) = (at ≡ now) × (to ≡ peer)
 IsFeedOf now peer (Ends_peer to) = ⊥
 IsFeedOf now peer (Ticks at) = ⊥

@@ -2,6 +2,7 @@
 use Rattle.std.specs.Prelude.{ℕ, List, [], ◌∷◌, ◌++◌, if◌then◌else◌, Bool, true, false, Option, Some, None}
 use Rattle.enip_wire.specs.Stream.{Parsed, bytes_taken, held_and_taken, parsed, cleared}
 use Rattle.enip_wire.specs.Stream.Parsed.{Incomplete, WholeFrame, TooLongHeader}
+use Rattle.enip_adapter.specs.declared.peer.Rights.{Rights}
 use Rattle.enip_adapter.specs.declared.peer.Session.{Session}
 use Rattle.enip_adapter.specs.declared.no_reply_reason.NoReplyReason.TheVariants.{NoFrame, NotServed}
 use Rattle.enip_adapter.specs.Lookup.{first_with, with_first, without_first}
@@ -21,7 +22,7 @@ pub record AdapterState : Type 0 where
   pub held : List Held
 
 pub data Call : Type 0 where
-  Begins_peer : Call
+  Begins_peer : (rights : Rights) (group : Option ℕ) → Call
   Feeds : (now peer : ℕ) → (piece : List ℕ) → Call
   Ends_peer : (peer : ℕ) → Call
   Ticks : (now : ℕ) → Call
@@ -80,7 +81,8 @@ abbrev pub at_a_moment : ℕ → Meaning → Meaning
 at_a_moment now m = record m { events = At now ∷ m.events }
 
 abbrev pub call_meaning : AdapterState → Call → Meaning
-call_meaning a Begins_peer = meaning (Begin ∷ []) (held_at_beginning a.held (turn a.state Begin).answer.output)
+call_meaning a (Begins_peer rights group) =
+    meaning (Begin rights group ∷ []) (held_at_beginning a.held (turn a.state (Begin rights group)).answer.output)
 call_meaning a (Feeds now peer piece) = at_a_moment now (piece_to a.held peer piece (session_of a.state peer))
 call_meaning a (Ends_peer peer) = meaning (End peer ∷ []) (without_first (λ h. h.peer) peer a.held)
 call_meaning a (Ticks now) = at_a_moment now (meaning [] a.held)

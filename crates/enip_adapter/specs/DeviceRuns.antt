@@ -1,4 +1,5 @@
--- The requests that reach the device, its objects and its ledger, and the laws of its runs.
+-- The requests that reach the device, its objects and its ledger, and the laws of its runs. What a reader is refused does
+-- not reach it.
 use Rattle.std.specs.Prelude.{◌≡◌, ⊤, ℕ, ◌==◌, nat_lt, not, if◌then◌else◌, find, map, length, Option, Some, None, List, [], ◌∷◌, ◌++◌, Result, Ok, Err}
 use Rattle.std.specs.List.{AllByRecursion}
 use Rattle.cip_bytes.specs.Protocol.{command_of}
@@ -17,12 +18,14 @@ use Rattle.cip_owner.specs.Owned.{OwnedState, exec_owned}
 use Rattle.enip_wire.specs.Bodies.{rr_body_of, unit_body_of}
 use Rattle.enip_wire.specs.Frames.{Frame}
 use Rattle.enip_wire.specs.declared.item_list.CpfFault.{CpfFault}
+use Rattle.enip_adapter.specs.declared.peer.Rights.{Rights}
 use Rattle.enip_adapter.specs.declared.peer.Session.{Session}
 use Rattle.enip_adapter.specs.declared.shared.Shared.{Shared}
 use Rattle.enip_adapter.specs.Calls.{AdapterState, Call}
 use Rattle.enip_adapter.specs.Calls.Call.{Writes}
 use Rattle.enip_adapter.specs.OwnWrites.{OwnWrite, objects_written, device_written}
 use Rattle.enip_adapter.specs.Replies.{is_registered_as}
+use Rattle.enip_adapter.specs.Rights.{is_refused}
 use Rattle.enip_adapter.specs.Runs.{after_calls, events_of_calls}
 use Rattle.enip_adapter.specs.SendRRData.{Route, Opens, Closes, Executes, route_of}
 use Rattle.enip_adapter.specs.Turn.{State, Event, turn, session_of}
@@ -30,35 +33,42 @@ use Rattle.enip_adapter.specs.Turn.Event.{Begin, End, At, Framed, Long, Written}
 
 -- ---- the requests
 
--- An unconnected request that is not the Connection Manager's.
-abbrev pub requests_by_route : List ℕ → Route → List Request
-requests_by_route request (Opens layout bytes) = []
-requests_by_route request (Closes bytes) = []
-requests_by_route request Executes = (UNCONNECTED_LIMIT, request) ∷ []
+-- A request of a peer with these rights, unless it is refused.
+abbrev pub requests_by_rights : Rights → ℕ → List ℕ → List Request
+requests_by_rights rights max_size request =
+    if is_refused rights request then [] else (max_size, request) ∷ []
 
-abbrev pub requests_in_rr : Result (List ℕ) CpfFault → List Request
-requests_in_rr (Err fault) = []
-requests_in_rr (Ok request) = if nat_lt (length request) 2 then [] else requests_by_route request (route_of request)
+-- An unconnected request that is not the Connection Manager's.
+abbrev pub requests_by_route : Rights → List ℕ → Route → List Request
+requests_by_route rights request (Opens layout bytes) = []
+requests_by_route rights request (Closes bytes) = []
+requests_by_route rights request Executes = requests_by_rights rights UNCONNECTED_LIMIT request
+
+abbrev pub requests_in_rr : Rights → Result (List ℕ) CpfFault → List Request
+requests_in_rr rights (Err fault) = []
+requests_in_rr rights (Ok request) =
+    if nat_lt (length request) 2 then [] else requests_by_route rights request (route_of request)
 
 -- An item's request, if the target accepts the item and its count is not held.
-abbrev pub requests_by_target : TargetState → List ℕ → List Request
-requests_by_target target item =
+abbrev pub requests_by_target : Rights → TargetState → List ℕ → List Request
+requests_by_target rights target item =
     if has_accepted_size target item then
-    (if is_held target.held (sequence_count_of item) then [] else (max_reply_size target, message_of item) ∷ [])
+    (if is_held target.held (sequence_count_of item) then []
+    else requests_by_rights rights (max_reply_size target) (message_of item))
     else []
 
-abbrev pub requests_by_connection : List ℕ → Option Connection → List Request
-requests_by_connection item None = []
-requests_by_connection item (Some connection) = requests_by_target connection.target item
+abbrev pub requests_by_connection : Rights → List ℕ → Option Connection → List Request
+requests_by_connection rights item None = []
+requests_by_connection rights item (Some connection) = requests_by_target rights connection.target item
 
 abbrev pub requests_in_unit : Shared → Session → Result (ℕ × List ℕ) CpfFault → List Request
 requests_in_unit shared session (Err fault) = []
 requests_in_unit shared session (Ok (id, item)) =
-    requests_by_connection item (find (is_named session.handle id) shared.manager.connections)
+    requests_by_connection session.rights item (find (is_named session.handle id) shared.manager.connections)
 
 abbrev pub requests_by_command : Shared → Session → Frame → Option Command → List Request
 requests_by_command shared session f (Some SendRRData) =
-    if not (is_registered_as session f.header.session) then [] else requests_in_rr (rr_body_of f.body)
+    if not (is_registered_as session f.header.session) then [] else requests_in_rr session.rights (rr_body_of f.body)
 requests_by_command shared session f (Some SendUnitData) =
     if not (is_registered_as session f.header.session) then []
     else requests_in_unit shared session (unit_body_of f.body)
@@ -76,7 +86,7 @@ requests_by_session shared f None = []
 requests_by_session shared f (Some session) = if session.closed then [] else requests_in_frame shared session f
 
 abbrev pub requests_by_event : State → Event → List Request
-requests_by_event s Begin = []
+requests_by_event s (Begin rights group) = []
 requests_by_event s (End peer) = []
 requests_by_event s (At now) = []
 requests_by_event s (Framed peer f) = requests_by_session s.shared f (session_of s peer)

@@ -6,6 +6,7 @@ use Rattle.cip_bytes.specs.declared.protocol.Command.TheVariants.{ListServices, 
 use Rattle.enip_wire.specs.Frames.{Frame}
 use Rattle.enip_wire.specs.Stream.{Parsed, parsed}
 use Rattle.enip_wire.specs.Stream.Parsed.{WholeFrame}
+use Rattle.enip_adapter.specs.declared.peer.Rights.TheVariants.{Read}
 use Rattle.enip_adapter.specs.declared.shared.Shared.{Shared}
 use Rattle.enip_adapter.specs.Commands.{command_served}
 use Rattle.enip_adapter.specs.Replies.{Reply}
@@ -24,12 +25,12 @@ abbrev pub bytes_of : Reply → Option (List ℕ)
 bytes_of (NoReply why) = None
 bytes_of (Sends bytes) = Some bytes
 
--- A frame with such a command is answered as over TCP to a peer that has just begun, whatever its handle. A frame with
+-- A frame with such a command is answered as over TCP to a reader that has just begun, whatever its handle. A frame with
 -- data is not a request: an answer has data, so two devices never answer each other (ours).
 abbrev pub frame_discovered : Shared → Frame → Option (List ℕ)
 frame_discovered shared f =
     if is_discovery (command_of f.header.command) && (f.header.length == 0)
-    then bytes_of (command_served shared (new_session 0) f).reaction.answer
+    then bytes_of (command_served shared (new_session 0 Read None) f).reaction.answer
     else None
 
 -- Bytes that are not exactly one whole frame have no answer.

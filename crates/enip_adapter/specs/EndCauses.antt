@@ -29,7 +29,7 @@ is_deadline_reached a calls connection =
 
 -- The call ends this peer.
 abbrev pub is_end_of : ℕ → Call → Bool
-is_end_of peer Begins_peer = false
+is_end_of peer (Begins_peer rights group) = false
 is_end_of peer (Feeds now other piece) = false
 is_end_of peer (Ends_peer other) = other == peer
 is_end_of peer (Ticks now) = false
@@ -37,7 +37,7 @@ is_end_of peer (Writes write) = false
 
 -- The call feeds this peer, and the answer closes it: its session has been unregistered, or a length is over the limit.
 abbrev pub is_close_of : ℕ → AdapterState → Call → Bool
-is_close_of peer a Begins_peer = false
+is_close_of peer a (Begins_peer rights group) = false
 is_close_of peer a (Feeds now other piece) = (other == peer) && (call_answer a (Feeds now other piece)).close
 is_close_of peer a (Ends_peer other) = false
 is_close_of peer a (Ticks now) = false

@@ -1,4 +1,6 @@
 pub mod Lookup
+pub mod Rights
+pub mod Groups
 pub mod Replies
 pub mod RegisterSession
 pub mod UnRegisterSession
@@ -27,3 +29,6 @@ pub mod DeviceRuns
 pub mod Asks
 pub mod Executing
 pub mod OwnerLaws
+pub mod RightsLaws
+pub mod ShareLaws
+pub mod RightsRows

@@ -1,8 +1,9 @@
 -- The peer slots, and a piece for one of them, which is the piece for the adapter.
-use Rattle.std.specs.Prelude.{ℕ, List, [], ◌∷◌, ◌++◌, ◌≡◌, ◌≤◌, ◌+◌, map, vec_len, All}
+use Rattle.std.specs.Prelude.{ℕ, Option, List, [], ◌∷◌, ◌++◌, ◌≡◌, ◌≤◌, ◌+◌, map, vec_len, All}
 use Rattle.std.specs.Global.{Vec}
 use Rattle.std.specs.Vec.{vec_capacity}
 use Rattle.enip_adapter.specs.declared.peer.PeerSlot.{PeerSlot}
+use Rattle.enip_adapter.specs.declared.peer.Rights.{Rights}
 use Rattle.enip_adapter.specs.declared.reply.Reaction.{Reaction}
 use Rattle.enip_adapter.specs.declared.shared.Shared.{Shared}
 use Rattle.enip_adapter.specs.Adapter.{adapter_in, state_in, held_in, IsWaiting}
@@ -26,8 +27,9 @@ abbrev pub handle_of : PeerSlot → ℕ
 handle_of place = place.session.handle
 
 -- A peer that begins takes a slot. No byte of it has arrived.
-abbrev pub with_slot : PeerSlotsState → ℕ → PeerSlotsState
-with_slot p handle = peer_slots_in p.limit (p.taken ++ record { session = new_session handle; reader = [] } ∷ [])
+abbrev pub with_slot : PeerSlotsState → ℕ → Rights → Option ℕ → PeerSlotsState
+with_slot p handle rights group =
+    peer_slots_in p.limit (p.taken ++ record { session = new_session handle rights group; reader = [] } ∷ [])
 
 -- Each slot is taken or free, a free reader holds no byte, and both lists have capacity for all slots.
 pub record HasFreeReaders (places : ℕ) (peers : Vec PeerSlot) (free : Vec (List ℕ)) : Type 0 where

@@ -1,6 +1,6 @@
 -- Lists of calls of the adapter.
 use Rattle.std.specs.Prelude.{ℕ, ◌+◌, max, ◌≡◌, ◌≢◌, ◌≤◌, ◌==◌, List, [], ◌∷◌, ◌++◌, map, filter, take, drop}
-use Rattle.std.specs.Prelude.{length, nat_lt, if◌then◌else◌, Bool, true, false, not, ◌||◌, ⊤}
+use Rattle.std.specs.Prelude.{length, nat_lt, if◌then◌else◌, Bool, true, false, not, ◌||◌, ⊤, Option}
 use Rattle.std.specs.List.{concat, flat_map, list_all, list_any, AllByRecursion}
 use Rattle.cip_bytes.specs.Numbers.{AreBytes}
 use Rattle.cip_manager.specs.declared.connection.Connection.{Connection}
@@ -8,8 +8,11 @@ use Rattle.cip_manager.specs.Connection.{is_open_at}
 use Rattle.cip_ledger.specs.Device.{Device}
 use Rattle.enip_wire.specs.Frames.{Frame}
 use Rattle.enip_adapter.specs.declared.adapter.Limits.{Limits}
+use Rattle.enip_adapter.specs.declared.adapter.Shares.{Shares}
+use Rattle.enip_adapter.specs.declared.peer.Rights.{Rights}
+use Rattle.enip_adapter.specs.declared.peer.Session.{Session}
 use Rattle.enip_adapter.specs.declared.shared.Listen.{Listen}
-use Rattle.enip_adapter.specs.Adapter.{new_adapter}
+use Rattle.enip_adapter.specs.Adapter.{shared_adapter}
 use Rattle.enip_adapter.specs.Calls.{AdapterState, Call, Meaning, call_meaning, after_call, call_answer}
 use Rattle.enip_adapter.specs.Calls.Call.{Begins_peer, Feeds, Ends_peer, Ticks, Writes}
 use Rattle.enip_adapter.specs.Turn.{State, Event, Output, Answer, turn, answers}
@@ -55,7 +58,7 @@ outputs_in (answer ∷ answers) = outputs_before answer.output (outputs_in answe
 
 -- The call is for another peer than this one, or for none.
 abbrev pub IsForOther : ℕ → Call → Type 0
-IsForOther peer Begins_peer = ⊤
+IsForOther peer (Begins_peer rights group) = ⊤
 IsForOther peer (Feeds now other piece) = other ≢ peer
 IsForOther peer (Ends_peer other) = other ≢ peer
 IsForOther peer (Ticks now) = ⊤
@@ -64,7 +67,7 @@ IsForOther peer (Writes write) = ⊤
 -- The current times at the feeds and ticks of calls. Each is the greatest time so far.
 abbrev pub moments_of_calls : ℕ → List Call → List ℕ
 moments_of_calls moment [] = []
-moments_of_calls moment (Begins_peer ∷ calls) = moments_of_calls moment calls
+moments_of_calls moment (Begins_peer rights group ∷ calls) = moments_of_calls moment calls
 moments_of_calls moment (Feeds now peer piece ∷ calls) = max moment now ∷ moments_of_calls (max moment now) calls
 moments_of_calls moment (Ends_peer peer ∷ calls) = moments_of_calls moment calls
 moments_of_calls moment (Ticks now ∷ calls) = max moment now ∷ moments_of_calls (max moment now) calls
@@ -109,7 +112,7 @@ ids_of_events s (e ∷ es) =
 
 -- The bytes that a call takes of a peer's stream.
 abbrev pub taken_by_call : ℕ → AdapterState → Call → List ℕ
-taken_by_call peer a Begins_peer = []
+taken_by_call peer a (Begins_peer rights group) = []
 taken_by_call peer a (Feeds now other piece) =
     if other == peer then take (call_meaning a (Feeds now other piece)).taken piece else []
 taken_by_call peer a (Ends_peer other) = []
@@ -124,7 +127,7 @@ taken_by_calls peer a (call ∷ calls) = taken_by_call peer a call ++ taken_by_c
 -- The whole frames of a peer among events.
 abbrev pub frames_of_peer : ℕ → List Event → List Frame
 frames_of_peer peer [] = []
-frames_of_peer peer (Begin ∷ events) = frames_of_peer peer events
+frames_of_peer peer (Begin rights group ∷ events) = frames_of_peer peer events
 frames_of_peer peer (End other ∷ events) = frames_of_peer peer events
 frames_of_peer peer (At now ∷ events) = frames_of_peer peer events
 frames_of_peer peer (Framed other f ∷ events) =
@@ -134,7 +137,7 @@ frames_of_peer peer (Written write ∷ events) = frames_of_peer peer events
 
 -- A piece consists of bytes, and the call does not end this peer.
 abbrev pub GoesOn : ℕ → Call → Type 0
-GoesOn peer Begins_peer = ⊤
+GoesOn peer (Begins_peer rights group) = ⊤
 GoesOn peer (Feeds now other piece) = AreBytes piece
 GoesOn peer (Ends_peer other) = other ≢ peer
 GoesOn peer (Ticks now) = ⊤
@@ -215,15 +218,20 @@ pub record Run (peer : ℕ) : Type 0 where
   pub device : Device
   pub listen : Listen
   pub limits : Limits
+  pub shares : Shares
   pub earlier : List Call
+  pub rights : Rights
+  pub group : Option ℕ
   pub calls : List Call
-  pub begins : (call_answer (after_calls (new_adapter device listen limits) earlier) Begins_peer).output ≡ Begins peer
+  pub begins : (call_answer (after_calls (shared_adapter device listen limits shares) earlier)
+      (Begins_peer rights group)).output ≡ Begins peer
   pub goes_on : AllByRecursion (GoesOn peer) calls
 
 -- The adapter when the peer begins, and after the run.
 abbrev pub at_beginning : (peer : ℕ) → Run peer → AdapterState
 at_beginning peer run =
-    after_call (after_calls (new_adapter run.device run.listen run.limits) run.earlier) Begins_peer
+    after_call (after_calls (shared_adapter run.device run.listen run.limits run.shares) run.earlier)
+    (Begins_peer run.rights run.group)
 
 abbrev pub at_end : (peer : ℕ) → Run peer → AdapterState
 at_end peer run = after_calls (at_beginning peer run) run.calls
@@ -234,3 +242,7 @@ taken_in peer run = taken_by_calls peer (at_beginning peer run) run.calls
 
 abbrev pub frames_in : (peer : ℕ) → Run peer → List Frame
 frames_in peer run = frames_of_peer peer (events_of_calls (at_beginning peer run) run.calls)
+
+-- What a peer has become: whether it has registered, and whether it is closed.
+abbrev pub progress_of : Session → Bool × Bool
+progress_of session = (session.registered, session.closed)

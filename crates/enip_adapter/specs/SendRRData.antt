@@ -12,16 +12,17 @@ use Rattle.cip_message.specs.declared.request.RequestFault.{RequestFault}
 use Rattle.cip_message.specs.Open.{Layout, small, large}
 use Rattle.cip_message.specs.PathReading.{path_of}
 use Rattle.cip_message.specs.Request.{Request, request_of}
+use Rattle.cip_manager.specs.declared.connection.Opener.{Opener}
 use Rattle.cip_manager.specs.Manager.{Turn}
 use Rattle.cip_manager.specs.Opening.{open_turn_in}
 use Rattle.cip_manager.specs.Closing.{close_turn}
-use Rattle.cip_ledger.specs.Device.{exec_device}
 use Rattle.enip_wire.specs.Bodies.{rr_body_bytes, rr_body_of}
 use Rattle.enip_wire.specs.Frames.{Frame}
 use Rattle.enip_wire.specs.declared.item_list.CpfFault.{CpfFault}
 use Rattle.enip_adapter.specs.declared.peer.Session.{Session}
 use Rattle.enip_adapter.specs.declared.shared.Shared.{Shared}
 use Rattle.enip_adapter.specs.Replies.{Served, leaving, replied, refused, is_registered_as}
+use Rattle.enip_adapter.specs.Rights.{after_for, answer_for}
 
 -- The route of a request: to the Connection Manager, with its data, as a Forward_Open or Large_Forward_Open (each with
 -- its layout) or as a Forward_Close; or to the objects.
@@ -55,6 +56,10 @@ route_by_request (Ok request) = route_by_path request (path_of request.path)
 abbrev pub route_of : List ℕ → Route
 route_of request = route_by_request (request_of request)
 
+-- Who opens a connection: the session, and the group that its peer counts for.
+abbrev pub opener_of : Session → Opener
+opener_of session = record { session = session.handle; group = session.group }
+
 -- What a request leaves, and the reply to it.
 pub record Routed : Type 0 where
   pub shared : Shared
@@ -66,11 +71,11 @@ managed shared turn = record { shared = record shared { manager = turn.manager }
 
 abbrev pub routed_to : Shared → Session → List ℕ → Route → Routed
 routed_to shared session request (Opens layout bytes) =
-    managed shared (open_turn_in layout shared.manager shared.moment session.handle bytes)
+    managed shared (open_turn_in layout shared.manager shared.moment (opener_of session) bytes)
 routed_to shared session request (Closes bytes) = managed shared (close_turn shared.manager session.handle bytes)
 routed_to shared session request Executes = record {
-  shared = record shared { objects = (exec_device shared.objects UNCONNECTED_LIMIT request).after };
-  reply = (exec_device shared.objects UNCONNECTED_LIMIT request).answer;
+  shared = record shared { objects = after_for session.rights shared.objects UNCONNECTED_LIMIT request };
+  reply = answer_for session.rights shared.objects UNCONNECTED_LIMIT request;
 }
 
 -- A request of a session, and its reply as the data of a SendRRData.

@@ -2,7 +2,7 @@
 use Rattle.std.specs.Prelude.{ℕ, List, if◌then◌else◌, not, Option, Some, None, Result, Ok, Err}
 use Rattle.cip_bytes.specs.declared.protocol.EncapsulationStatus.TheVariants.{Success}
 use Rattle.cip_manager.specs.Items.{Reply as HeldReply, ItemTurn, item_turn}
-use Rattle.cip_ledger.specs.Device.{Device, exec_device}
+use Rattle.cip_ledger.specs.Device.{Device}
 use Rattle.enip_wire.specs.Bodies.{unit_body_bytes, unit_body_of}
 use Rattle.enip_wire.specs.Frames.{Frame}
 use Rattle.enip_wire.specs.declared.header.Header.{Header}
@@ -10,14 +10,15 @@ use Rattle.enip_wire.specs.declared.item_list.CpfFault.{CpfFault}
 use Rattle.enip_adapter.specs.declared.peer.Session.{Session}
 use Rattle.enip_adapter.specs.declared.shared.Shared.{Shared}
 use Rattle.enip_adapter.specs.declared.no_reply_reason.NoReplyReason.TheVariants.{AnotherSession, NotAPacket, NotTaken}
+use Rattle.enip_adapter.specs.Rights.{after_for, answer_for}
 use Rattle.enip_adapter.specs.Replies.{Reply, NoReply, Sends, Served, leaving, replying, no_reply, reply, is_registered_as}
 
--- What an item does. The objects, with the ledger before them, are the router behind the connections.
+-- What an item does. The objects, with the ledger before them, are the router behind the connections. What a reader is
+-- refused is held and repeated as any reply.
 abbrev pub turn_of_item : Shared → Session → ℕ → List ℕ → ItemTurn Device
 turn_of_item shared session id item =
-    item_turn (λ device max_size request. (exec_device device max_size request).after)
-    (λ device max_size request. (exec_device device max_size request).answer)
-    shared.manager.connections shared.moment session.handle id item shared.objects
+    item_turn (after_for session.rights) (answer_for session.rights) shared.manager.connections shared.moment
+    session.handle id item shared.objects
 
 -- A SendUnitData with the T->O ID, and the count and reply that the target holds.
 abbrev pub unit_reply : Header → HeldReply → List ℕ

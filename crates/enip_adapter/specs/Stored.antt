@@ -1,5 +1,5 @@
 -- How the adapter's value is stored: each record as pairs of its fields, and rebuilt from them.
-use Rattle.std.specs.Prelude.{ℕ, List, Bool, Option, refl}
+use Rattle.std.specs.Prelude.{◌≡◌, ℕ, List, Bool, true, false, Option, refl}
 use Rattle.std.specs.Coded.{Coded, code_by, coded×, coded_ℕ, coded_bool, coded_list, coded_option}
 use Rattle.cip_message.specs.declared.key.Device.{Device as DeviceKey}
 use Rattle.cip_objects.specs.Contents.{Contents, contents_code, device_code}
@@ -11,19 +11,38 @@ use Rattle.cip_manager.specs.declared.connection.Triad.{Triad}
 use Rattle.cip_manager.specs.Manager.{ManagerState}
 use Rattle.cip_owner.specs.Owned.{OwnedState}
 use Rattle.cip_owner.specs.Replies.{Reply}
+use Rattle.enip_adapter.specs.declared.peer.Rights.{Rights}
+use Rattle.enip_adapter.specs.declared.peer.Rights.TheVariants.{Read, Write}
 use Rattle.enip_adapter.specs.declared.peer.Session.{Session}
 use Rattle.enip_adapter.specs.declared.shared.Listen.{Listen}
 use Rattle.enip_adapter.specs.declared.shared.Shared.{Shared}
 use Rattle.enip_adapter.specs.Calls.{AdapterState, Held}
 use Rattle.enip_adapter.specs.Turn.{State}
 
-abbrev pub session_from : ℕ × (Bool × Bool) → Session
-session_from (handle, (registered, closed)) = record { handle = handle; registered = registered; closed = closed }
+abbrev pub is_writer : Rights → Bool
+is_writer Write = true
+is_writer Read = false
+
+abbrev pub rights_from : Bool → Rights
+rights_from true = Write
+rights_from false = Read
+
+pub same_rights : (rights : Rights) → rights_from (is_writer rights) ≡ rights
+same_rights Write = refl
+same_rights Read = refl
+
+abbrev pub rights_code : Coded Rights
+rights_code = code_by Bool coded_bool is_writer rights_from same_rights
+
+abbrev pub session_from : ℕ × (Bool × (Bool × (Rights × Option ℕ))) → Session
+session_from (handle, (registered, (closed, (rights, group)))) =
+    record { handle = handle; registered = registered; closed = closed; rights = rights; group = group }
 
 abbrev pub session_code : Coded Session
 session_code =
-    code_by (ℕ × (Bool × Bool)) (coded× coded_ℕ (coded× coded_bool coded_bool))
-    (λ s. (s.handle, (s.registered, s.closed)))
+    code_by (ℕ × (Bool × (Bool × (Rights × Option ℕ))))
+    (coded× coded_ℕ (coded× coded_bool (coded× coded_bool (coded× rights_code (coded_option coded_ℕ)))))
+    (λ s. (s.handle, (s.registered, (s.closed, (s.rights, s.group)))))
     session_from (λ _. refl)
 
 abbrev pub kept_code : Coded KeptReply
@@ -54,9 +73,10 @@ triad_code =
     (λ t. (t.connection_serial, (t.originator_vendor, t.originator_serial)))
     triad_from (λ _. refl)
 
-abbrev pub connection_from : ℕ × (ℕ × (ℕ × (Triad × (ℕ × (ℕ × TargetState))))) → Connection
-connection_from (session, (o_to_t_id, (t_to_o_id, (triad, (timeout, (deadline, target)))))) = record {
+abbrev pub connection_from : ℕ × (Option ℕ × (ℕ × (ℕ × (Triad × (ℕ × (ℕ × TargetState)))))) → Connection
+connection_from (session, (group, (o_to_t_id, (t_to_o_id, (triad, (timeout, (deadline, target))))))) = record {
   session = session;
+  group = group;
   o_to_t_id = o_to_t_id;
   t_to_o_id = t_to_o_id;
   triad = triad;
@@ -67,20 +87,21 @@ connection_from (session, (o_to_t_id, (t_to_o_id, (triad, (timeout, (deadline, t
 
 abbrev pub connection_code : Coded Connection
 connection_code =
-    code_by (ℕ × (ℕ × (ℕ × (Triad × (ℕ × (ℕ × TargetState))))))
-    (coded× coded_ℕ (coded× coded_ℕ (coded× coded_ℕ (coded× triad_code (coded× coded_ℕ (coded× coded_ℕ target_code))))))
-    (λ c. (c.session, (c.o_to_t_id, (c.t_to_o_id, (c.triad, (c.timeout, (c.deadline, c.target)))))))
+    code_by (ℕ × (Option ℕ × (ℕ × (ℕ × (Triad × (ℕ × (ℕ × TargetState)))))))
+    (coded× coded_ℕ (coded× (coded_option coded_ℕ) (coded× coded_ℕ (coded× coded_ℕ (coded× triad_code
+    (coded× coded_ℕ (coded× coded_ℕ target_code)))))))
+    (λ c. (c.session, (c.group, (c.o_to_t_id, (c.t_to_o_id, (c.triad, (c.timeout, (c.deadline, c.target))))))))
     connection_from (λ _. refl)
 
-abbrev pub manager_from : ℕ × (ℕ × (DeviceKey × List Connection)) → ManagerState
-manager_from (places, (next_id, (device, connections))) =
-    record { places = places; next_id = next_id; device = device; connections = connections }
+abbrev pub manager_from : ℕ × (ℕ × (ℕ × (DeviceKey × List Connection))) → ManagerState
+manager_from (places, (share, (next_id, (device, connections)))) =
+    record { places = places; share = share; next_id = next_id; device = device; connections = connections }
 
 abbrev pub manager_code : Coded ManagerState
 manager_code =
-    code_by (ℕ × (ℕ × (DeviceKey × List Connection)))
-    (coded× coded_ℕ (coded× coded_ℕ (coded× device_code (coded_list connection_code))))
-    (λ m. (m.places, (m.next_id, (m.device, m.connections))))
+    code_by (ℕ × (ℕ × (ℕ × (DeviceKey × List Connection))))
+    (coded× coded_ℕ (coded× coded_ℕ (coded× coded_ℕ (coded× device_code (coded_list connection_code)))))
+    (λ m. (m.places, (m.share, (m.next_id, (m.device, m.connections)))))
     manager_from (λ _. refl)
 
 abbrev pub listen_code : Coded Listen
@@ -122,15 +143,15 @@ served_code =
     (λ d. (d.ledger, d.router))
     (λ p. record { ledger = p.0; router = p.1 }) (λ _. refl)
 
-abbrev pub shared_from : Listen × (ℕ × (ManagerState × Device)) → Shared
-shared_from (listen, (moment, (manager, objects))) =
-    record { listen = listen; moment = moment; manager = manager; objects = objects }
+abbrev pub shared_from : Listen × (ℕ × (ℕ × (ManagerState × Device))) → Shared
+shared_from (listen, (share, (moment, (manager, objects)))) =
+    record { listen = listen; share = share; moment = moment; manager = manager; objects = objects }
 
 abbrev pub shared_code : Coded Shared
 shared_code =
-    code_by (Listen × (ℕ × (ManagerState × Device)))
-    (coded× listen_code (coded× coded_ℕ (coded× manager_code served_code)))
-    (λ s. (s.listen, (s.moment, (s.manager, s.objects))))
+    code_by (Listen × (ℕ × (ℕ × (ManagerState × Device))))
+    (coded× listen_code (coded× coded_ℕ (coded× coded_ℕ (coded× manager_code served_code))))
+    (λ s. (s.listen, (s.share, (s.moment, (s.manager, s.objects)))))
     shared_from (λ _. refl)
 
 abbrev pub state_from : ℕ × (ℕ × (Shared × List Session)) → State

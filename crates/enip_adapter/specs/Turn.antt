@@ -5,12 +5,14 @@ use Rattle.cip_manager.specs.Closing.{without_overdue, without_session}
 use Rattle.enip_wire.specs.Frames.{Frame}
 use Rattle.enip_wire.specs.declared.header.Header.{Header}
 use Rattle.enip_adapter.specs.declared.adapter.Full.{Full}
-use Rattle.enip_adapter.specs.declared.adapter.Full.TheVariants.{Places, Handles}
+use Rattle.enip_adapter.specs.declared.adapter.Full.TheVariants.{Places, Handles, Share}
+use Rattle.enip_adapter.specs.declared.peer.Rights.{Rights}
 use Rattle.enip_adapter.specs.declared.peer.Session.{Session}
 use Rattle.enip_adapter.specs.declared.shared.Shared.{Shared}
 use Rattle.enip_adapter.specs.declared.no_reply_reason.NoReplyReason.{NoReplyReason}
 use Rattle.enip_adapter.specs.declared.no_reply_reason.NoReplyReason.TheVariants.{NoFrame, NotServed}
 use Rattle.enip_adapter.specs.Commands.{command_served, long_refused}
+use Rattle.enip_adapter.specs.Groups.{has_share}
 use Rattle.enip_adapter.specs.OwnWrites.{OwnWrite, device_written}
 use Rattle.enip_adapter.specs.Lookup.{first_with, with_first, without_first}
 use Rattle.enip_adapter.specs.Replies.{Reply, Reply as replies, Served, leaving}
@@ -23,10 +25,10 @@ pub record State : Type 0 where
   pub shared : Shared
   pub peers : List Session
 
--- A TCP connection begins or ends; a time is given; a peer's stream is at the end of a frame, or of a header whose
+-- A TCP connection begins, with rights and for a group or for none, or ends; a time is given; a peer's stream is at the end of a frame, or of a header whose
 -- length is over the limit; or the device itself writes.
 pub data Event : Type 0 where
-  Begin : Event
+  Begin : (rights : Rights) (group : Option ℕ) → Event
   End : (peer : ℕ) → Event
   At : (now : ℕ) → Event
   Framed : (peer : ℕ) → (frame : Frame) → Event
@@ -58,22 +60,25 @@ sent (replies.NoReply why) = NoReply why
 sent (replies.Sends bytes) = Sends bytes
 
 -- A peer that has just begun.
-abbrev pub new_session : ℕ → Session
-new_session handle = record { handle = handle; registered = false; closed = false }
+abbrev pub new_session : ℕ → Rights → Option ℕ → Session
+new_session handle rights group =
+    record { handle = handle; registered = false; closed = false; rights = rights; group = group }
 
 -- The next session handle is assigned.
-abbrev pub with_peer : State → State
-with_peer s = record s {
+abbrev pub with_peer : State → Rights → Option ℕ → State
+with_peer s rights group = record s {
   next_handle = s.next_handle + 1;
-  peers = s.peers ++ new_session s.next_handle ∷ [];
+  peers = s.peers ++ new_session s.next_handle rights group ∷ [];
 }
 
--- A TCP connection begins. Slots are checked before handles (ours). A handle is never used again.
-abbrev pub begun : State → TurnResult
-begun s =
-    if not (nat_lt (length s.peers) s.places) then turned s (Refuses Places) false
+-- A TCP connection begins. The group's share is checked before slots, and slots before handles (ours). A handle is
+-- never used again.
+abbrev pub begun : State → Rights → Option ℕ → TurnResult
+begun s rights group =
+    if not (has_share s.shared.share s.peers group) then turned s (Refuses Share) false
+    else if not (nat_lt (length s.peers) s.places) then turned s (Refuses Places) false
     else if nat_lt 0xffffffff s.next_handle then turned s (Refuses Handles) false
-    else turned (with_peer s) (Begins s.next_handle) false
+    else turned (with_peer s rights group) (Begins s.next_handle) false
 
 -- The connections that a session opened end with it.
 abbrev pub without_connections : Shared → ℕ → Shared
@@ -121,7 +126,7 @@ abbrev pub shared_written : Shared → OwnWrite → Shared
 shared_written shared write = record shared { objects = device_written write shared.objects }
 
 abbrev pub turn : State → Event → TurnResult
-turn s Begin = begun s
+turn s (Begin rights group) = begun s rights group
 turn s (End peer) = turned (end_found s peer (session_of s peer)) (NoReply NoFrame) false
 turn s (At now) = turned (record s { shared = at_moment s.shared now }) (NoReply NoFrame) false
 turn s (Framed peer f) = serve_found s peer (λ session. command_served s.shared session f) (session_of s peer)

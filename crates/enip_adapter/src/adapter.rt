@@ -1,8 +1,8 @@
 //! The adapter: its peers, and the calls that change it.
 //! Text: docs/PROTOCOL.md, "A peer".
 
-ghost use Rattle.std.specs.Prelude.{◌≡◌, ◌<◌, ◌≤◌, ◌-◌, length, slice_index_or, false};
-ghost use Rattle.std.specs.Prelude.{IfOk, IfSome, Some, None, is_some, is_none, unwrap_or};
+ghost use Rattle.std.specs.Prelude.{◌≡◌, ◌<◌, ◌≤◌, ◌-◌, length, slice_index_or, false, not};
+ghost use Rattle.std.specs.Prelude.{IfOk, OnErr, IfSome, Some, None, is_some, is_none, unwrap_or};
 ghost use Rattle.std.specs.Borrow.{sem};
 ghost use Rattle.std.specs.Io.BufRead.{Rests};
 ghost use Rattle.std.specs.Option.{option_map};
@@ -17,6 +17,7 @@ ghost use Rattle.cip_objects.specs.Changes.{changes_of, changes_at};
 ghost use Rattle.cip_objects.specs.DeviceWrites.{device_write, with_device_status, with_device_state};
 ghost use Rattle.cip_objects.specs.ObjectMap.{key};
 ghost use Rattle.enip_adapter.specs.Adapter.{full_number, feed_output};
+ghost use Rattle.enip_adapter.specs.Groups.{has_share};
 ghost use Rattle.enip_adapter.specs.Device.{with_objects, with_prepared, with_ledger};
 ghost use Rattle.enip_adapter.specs.OwnWrites.{OwnWrite, attribute_write, can_settle_in};
 ghost use Rattle.enip_adapter.specs.Replies.{written};
@@ -26,7 +27,7 @@ mod asking;
 
 use crate::commands::DiscoveryBuffer;
 use crate::no_reply_reason::NoReplyReason;
-use crate::peer::{Peer, Session};
+use crate::peer::{Peer, Rights, Session};
 use crate::peer_slots::PeerSlots;
 use crate::reply::{AnswerFrame, LONGEST_ANSWER, Reaction, Reply};
 use crate::shared::{Listen, Shared};
@@ -56,6 +57,27 @@ pub struct Limits {
     pub first_id: u32,
 }
 
+/// How much of an adapter one group of peers may hold at a time. A group is any number, such as the address of a client.
+///
+/// ```
+/// Shares { peers: 4, connections: 8 }
+/// ```
+#[derive(Clone, Copy, Debug)]
+pub struct Shares {
+    /// The number of peers, 1 to 16.
+    pub peers: u16,
+    /// The number of connections, 1 to 64.
+    pub connections: u16,
+}
+
+impl Shares {
+    /// No limit: an adapter has no more peer slots and connection slots.
+    pub const NONE: Shares = Shares {
+        peers: 16,
+        connections: 64,
+    };
+}
+
 /// Why no peer can begin.
 #[derive(Clone, Copy, Debug, PartialEq, Eq, Error)]
 pub enum Full {
@@ -65,6 +87,9 @@ pub enum Full {
     /// The last session handle, 0xffffffff, was assigned.
     #[error("no session handle is left")]
     Handles = 2,
+    /// The group of the peer holds its share. Only `begin_as` refuses with this.
+    #[error("all peer slots of this group are taken")]
+    Share = 3,
 }
 
 impl Full {
@@ -135,7 +160,8 @@ impl Model for Adapter {
 }
 
 impl Adapter {
-    ghost use Rattle.enip_adapter.specs.Adapter.{new_adapter, begin_output};
+    ghost use Rattle.enip_adapter.specs.Adapter.{new_adapter, shared_adapter, begin_output};
+    ghost use Rattle.enip_adapter.specs.declared.peer.Rights.TheVariants.{Write};
     ghost use Rattle.enip_adapter.specs.Calls.{Call, call_meaning, call_answer, after_call};
     ghost use Rattle.enip_adapter.specs.Serving.{is_peer_served};
     ghost use Rattle.enip_adapter.specs.contracts.adapter.Adapter.{the_row};
@@ -164,7 +190,7 @@ impl Adapter {
             ledger: None,
             router: OwnedObjects::new(objects),
         };
-        Adapter::of_device(alloc, device, listen, limits)
+        Adapter::of_device(alloc, device, listen, limits, Shares::NONE)
     }
 
     /// Makes an adapter as `new` does, with a command ledger before its objects: a command that is sent again is
@@ -192,7 +218,45 @@ impl Adapter {
             ledger: Some(ledger),
             router: OwnedObjects::new(objects),
         };
-        Adapter::of_device(alloc, device, listen, limits)
+        Adapter::of_device(alloc, device, listen, limits, Shares::NONE)
+    }
+
+    /// Makes an adapter as `new` and `with_ledger` do, in which one group of peers may hold no more than its share. See
+    /// `begin_as` for what a group is.
+    ///
+    /// ```
+    /// let shares = Shares { peers: 4, connections: 8 };
+    /// let mut adapter = Adapter::shared(alloc, objects, None, listen, limits, shares)?;
+    /// ```
+    ///
+    /// # Errors
+    ///
+    /// `AllocError` if memory is refused.
+    pub fn shared(
+        alloc: Global,
+        objects: Objects,
+        ledger: Option<Ledger>,
+        listen: Listen,
+        limits: Limits,
+        shares: Shares,
+    ) -> Result<Adapter, AllocError>
+        requires peers_from { 1 ≤ limits.peers }
+        requires peers_to { limits.peers ≤ 16 }
+        requires connections_from { 1 ≤ limits.connections }
+        requires connections_to { limits.connections ≤ 64 }
+        requires handle { 1 ≤ limits.first_handle }
+        requires id { 1 ≤ limits.first_id }
+        requires share_from { 1 ≤ shares.peers }
+        requires share_to { shares.peers ≤ 16 }
+        requires connection_share_from { 1 ≤ shares.connections }
+        requires connection_share_to { shares.connections ≤ 64 }
+        ensures { IfOk result (λ a. a ≡ shared_adapter (device_of ledger objects) listen limits shares) }
+    {
+        let device = LedgerRouter {
+            ledger,
+            router: OwnedObjects::new(objects),
+        };
+        Adapter::of_device(alloc, device, listen, limits, shares)
     }
 
     /// Makes an adapter of the objects, with the ledger before them if there is one.
@@ -201,6 +265,7 @@ impl Adapter {
         device: LedgerRouter<OwnedObjects>,
         listen: Listen,
         limits: Limits,
+        shares: Shares,
     ) -> Result<Adapter, AllocError>
         requires peers_from { 1 ≤ limits.peers }
         requires peers_to { limits.peers ≤ 16 }
@@ -208,15 +273,22 @@ impl Adapter {
         requires connections_to { limits.connections ≤ 64 }
         requires handle { 1 ≤ limits.first_handle }
         requires id { 1 ≤ limits.first_id }
-        ensures { IfOk result (λ a. a ≡ new_adapter device listen limits) }
+        ensures { IfOk result (λ a. a ≡ shared_adapter device listen limits shares) }
     {
         let places = PeerSlots::new(alloc, limits.peers)?;
         let key = device.router.objects.device();
-        let manager = Manager::new(alloc, limits.connections, limits.first_id, key)?;
+        let manager = Manager::with_share(
+            alloc,
+            limits.connections,
+            shares.connections,
+            limits.first_id,
+            key,
+        )?;
         Ok(Adapter {
             next_handle: u64::from(limits.first_handle),
             shared: Shared {
                 listen,
+                share: shares.peers,
                 moment: 0,
                 manager,
                 objects: device,
@@ -227,16 +299,40 @@ impl Adapter {
         })
     }
 
-    /// Begins a peer and assigns it the next session handle.
+    /// Begins a peer that may do everything and is in no group, and assigns it the next session handle.
     ///
     /// # Errors
     ///
     /// `Full::Places` if all peer slots are taken, otherwise `Full::Handles` if the last handle was assigned.
     pub fn begin(&mut self) -> Result<Peer, Full>
-        ensures state { self.new ≡ after_call self.old Call.Begins_peer }
-        ensures output { begin_output result ≡ (call_answer self.old Call.Begins_peer).output }
+        ensures state { self.new ≡ after_call self.old (Call.Begins_peer Write None) }
+        ensures output { begin_output result ≡ (call_answer self.old (Call.Begins_peer Write None)).output }
     {
-        // A free slot is checked before a free handle (ours).
+        self.begin_as(Rights::Write, None)
+    }
+
+    /// Begins a peer with these rights, and assigns it the next session handle. The peer counts for the share of its
+    /// group, if it has one. A group is any number; a program that serves sockets may take the client's address.
+    ///
+    /// ```
+    /// let Ok(peer) = adapter.begin_as(Rights::Read, Some(address)) else {
+    ///     return Ok(()); // its address holds its share, or no slot is free
+    /// };
+    /// ```
+    ///
+    /// # Errors
+    ///
+    /// `Full::Share` if the group holds as many peers as its share, otherwise `Full::Places` if all peer slots are
+    /// taken, otherwise `Full::Handles` if the last handle was assigned. Then nothing changes.
+    pub fn begin_as(&mut self, rights: Rights, group: Option<u128>) -> Result<Peer, Full>
+        ensures state { self.new ≡ after_call self.old (Call.Begins_peer rights group) }
+        ensures output { begin_output result ≡ (call_answer self.old (Call.Begins_peer rights group)).output }
+        ensures refused { OnErr result (self.new ≡ self.old) }
+    {
+        // The share of a group is checked before a free slot, and a free slot before a free handle (ours).
+        if !self.places.has_share(self.shared.share, group) {
+            return Err(Full::Share);
+        }
         if self.places.free() == 0 {
             return Err(Full::Places);
         }
@@ -245,7 +341,7 @@ impl Adapter {
             return Err(Full::Handles);
         };
         self.next_handle += 1;
-        self.places.take(handle);
+        self.places.take(handle, rights, group);
         Ok(Peer { handle })
     }
 
@@ -506,6 +602,36 @@ impl Adapter {
         ensures { result ≡ session_of self.now.state handle }
     {
         self.places.session(handle)
+    }
+
+    /// Whether a peer has registered a session. `None` if it is not held.
+    ///
+    /// ```
+    /// if adapter.is_registered(&peer) == Some(false) {
+    ///     // it holds a slot, and has no session
+    /// }
+    /// ```
+    pub fn is_registered(&self, peer: &Peer) -> Option<bool>
+        ensures { result ≡ option_map (λ session. session.registered) (session_of self.now.state peer.now) }
+    {
+        match self.session(peer.handle) {
+            Some(session) => Some(session.registered),
+            None => None,
+        }
+    }
+
+    /// Whether a group holds its share of the peer slots, so that `begin_as` refuses another peer of it with
+    /// `Full::Share`. `false` for `None`.
+    ///
+    /// ```
+    /// if adapter.holds_share(Some(address)) {
+    ///     // no further peer of this address begins until one of them ends
+    /// }
+    /// ```
+    pub fn holds_share(&self, group: Option<u128>) -> bool
+        ensures { result ≡ not (has_share self.now.state.shared.share self.now.state.peers group) }
+    {
+        !self.places.has_share(self.shared.share, group)
     }
 
     /// Whether a peer is held and not closed.

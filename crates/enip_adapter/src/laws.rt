@@ -2,19 +2,24 @@
 //! is stated over the same definitions as the contracts of the calls.
 
 ghost use Rattle.std.specs.Prelude.{ℕ, List, [], ◌∷◌, ◌++◌, ◌≡◌, ◌≤◌, ◌||◌, not, true, false, Some, filter};
+ghost use Rattle.std.specs.Option.{option_map};
 ghost use Rattle.std.specs.List.{flat_map, concat, list_any, AllByRecursion};
 ghost use Rattle.cip_manager.specs.declared.connection.Connection.{Connection};
 ghost use Rattle.cip_manager.specs.Runs.{of_session};
 ghost use Rattle.enip_wire.specs.Stream.{Cut};
 ghost use Rattle.cip_ledger.specs.Device.{Device};
 ghost use Rattle.enip_adapter.specs.declared.adapter.Limits.{Limits};
+ghost use Rattle.enip_adapter.specs.declared.adapter.Shares.{Shares};
 ghost use Rattle.enip_adapter.specs.declared.peer.Session.{Session};
 ghost use Rattle.enip_adapter.specs.declared.shared.Listen.{Listen};
-ghost use Rattle.enip_adapter.specs.Adapter.{new_adapter};
+ghost use Rattle.enip_adapter.specs.Adapter.{shared_adapter};
 ghost use Rattle.enip_adapter.specs.DeviceRuns.{device_law, run_law, objects_law, commands_once_law, numbers_rise_law};
 ghost use Rattle.enip_adapter.specs.Discovery.{discovered};
 ghost use Rattle.enip_adapter.specs.OwnerLaws.{one_asked_law, asked_alike_law, repeat_law, given_law, unasked_law};
 ghost use Rattle.enip_adapter.specs.OwnerLaws.{answered_law, nobody_law, calls_law, asked_once_law};
+ghost use Rattle.enip_adapter.specs.RightsLaws.{unchanged_law, unasked_by_reading_law, readers_law, readers_ask_nothing_law};
+ghost use Rattle.enip_adapter.specs.ShareLaws.{peers_share_law, connections_share_law, refused_begin_law};
+ghost use Rattle.enip_adapter.specs.ShareLaws.{under_share_law, slot_for_each_share_law};
 ghost use Rattle.enip_adapter.specs.EndCauses.{endings_in_calls, IsReportedClosed, IsForwardClosed};
 ghost use Rattle.enip_adapter.specs.Endings.{EndingsState, updated};
 ghost use Rattle.enip_adapter.specs.Turn.{Event, Answer, answers, after, session_of};
@@ -24,7 +29,7 @@ ghost use Rattle.enip_adapter.specs.Calls.{AdapterState, Call, call_meaning, aft
 ghost use Rattle.enip_adapter.specs.Runs.{after_calls, call_answers, events_of_calls, answers_by_call, outputs_in};
 ghost use Rattle.enip_adapter.specs.Runs.{IsForOther, moments_of_calls, is_open_at_all};
 ghost use Rattle.enip_adapter.specs.Runs.{RisesFrom, handles_in, ids_of_events};
-ghost use Rattle.enip_adapter.specs.Runs.{Run, at_end, taken_in, frames_in, FeedsPieces, visible_answers};
+ghost use Rattle.enip_adapter.specs.Runs.{Run, at_end, taken_in, frames_in, FeedsPieces, visible_answers, progress_of};
 ghost use Rattle.enip_adapter.specs.Runs.{TimedPiece, joined, FeedsTimedPieces};
 ghost use Rattle.enip_adapter.specs.Serving.{is_peer_served};
 ghost use Rattle.enip_adapter.specs.AdapterActions.{AdapterAction, LeadTo, AmountTo, IsActionForOther};
@@ -78,8 +83,8 @@ pub fn handles_rise()
 /// O->T IDs are never used again: whatever happens to a new adapter, the IDs of the connections that open rise from its
 /// first ID.
 pub fn ids_rise()
-    ensures { (device : Device) (listen : Listen) (limits : Limits) (events : List Event) →
-        RisesFrom limits.first_id (ids_of_events (new_adapter device listen limits).state events) }
+    ensures { (device : Device) (listen : Listen) (limits : Limits) (shares : Shares) (events : List Event) →
+        RisesFrom limits.first_id (ids_of_events (shared_adapter device listen limits shares).state events) }
 {}
 
 /// Whatever calls are made, the objects and the command ledger change only by requests and by the device's own writes:
@@ -105,14 +110,16 @@ pub fn frames_of_the_stream()
 
 /// So the bytes alone decide which frames they are. In any two runs, each with its own pieces, times and calls for
 /// other peers: if the same bytes are taken, the same frames are served and the same bytes are held. If the peer also
-/// has the same handle in both runs, its session is the same: whether it is registered, and whether it is closed.
+/// has the same handle in both runs, its session has become the same, whatever its rights and its group: whether it is
+/// registered, and whether it is closed.
 pub fn frames_by_bytes_alone()
     ensures frames { (peer other : ℕ) (run : Run peer) (second : Run other) →
         taken_in peer run ≡ taken_in other second →
         (frames_in peer run ≡ frames_in other second)
         × (bytes_held (at_end peer run).held peer ≡ bytes_held (at_end other second).held other) }
     ensures session { (peer : ℕ) (run second : Run peer) → taken_in peer run ≡ taken_in peer second →
-        session_of (at_end peer run).state peer ≡ session_of (at_end peer second).state peer }
+        option_map progress_of (session_of (at_end peer run).state peer)
+        ≡ option_map progress_of (session_of (at_end peer second).state peer) }
 {}
 
 /// A stream closes its peer at one byte, whatever its pieces, the times and the calls for other peers. If one run has
@@ -133,8 +140,8 @@ pub fn closes_at_one_byte()
 
 /// A piece that is not empty is taken in part at least, or the answer is that the peer's connection is closed.
 pub fn progress()
-    ensures { (device : Device) (listen : Listen) (limits : Limits) (calls : List Call) (now peer b : ℕ)
-        (bs : List ℕ) → let a = after_calls (new_adapter device listen limits) calls in
+    ensures { (device : Device) (listen : Listen) (limits : Limits) (shares : Shares) (calls : List Call)
+        (now peer b : ℕ) (bs : List ℕ) → let a = after_calls (shared_adapter device listen limits shares) calls in
         (call_answer a (Feeds now peer (b ∷ bs))).close ≡ false →
         1 ≤ (call_meaning a (Feeds now peer (b ∷ bs))).taken }
 {}
@@ -143,21 +150,21 @@ pub fn progress()
 /// same bytes and feed both at the same time, each piece until all of it is taken or the peer is closed: both have the
 /// same answers and leave the same adapter. Every list of pieces can be fed this way.
 pub fn cuts_change_nothing()
-    ensures answers { (device : Device) (listen : Listen) (limits : Limits) (calls : List Call) (now peer : ℕ)
-        (pieces others : List (List ℕ)) (answers replies : List Answer) (last end : AdapterState) →
+    ensures answers { (device : Device) (listen : Listen) (limits : Limits) (shares : Shares) (calls : List Call)
+        (now peer : ℕ) (pieces others : List (List ℕ)) (answers replies : List Answer) (last end : AdapterState) →
         concat pieces ≡ concat others →
-        FeedsPieces now peer (after_calls (new_adapter device listen limits) calls) pieces answers last →
-        FeedsPieces now peer (after_calls (new_adapter device listen limits) calls) others replies end →
+        FeedsPieces now peer (after_calls (shared_adapter device listen limits shares) calls) pieces answers last →
+        FeedsPieces now peer (after_calls (shared_adapter device listen limits shares) calls) others replies end →
         visible_answers answers ≡ visible_answers replies }
-    ensures adapter { (device : Device) (listen : Listen) (limits : Limits) (calls : List Call) (now peer : ℕ)
-        (pieces others : List (List ℕ)) (answers replies : List Answer) (last end : AdapterState) →
+    ensures adapter { (device : Device) (listen : Listen) (limits : Limits) (shares : Shares) (calls : List Call)
+        (now peer : ℕ) (pieces others : List (List ℕ)) (answers replies : List Answer) (last end : AdapterState) →
         concat pieces ≡ concat others →
-        FeedsPieces now peer (after_calls (new_adapter device listen limits) calls) pieces answers last →
-        FeedsPieces now peer (after_calls (new_adapter device listen limits) calls) others replies end →
+        FeedsPieces now peer (after_calls (shared_adapter device listen limits shares) calls) pieces answers last →
+        FeedsPieces now peer (after_calls (shared_adapter device listen limits shares) calls) others replies end →
         last ≡ end }
-    ensures some { (device : Device) (listen : Listen) (limits : Limits) (calls : List Call) (now peer : ℕ)
-        (pieces : List (List ℕ)) → (answers : List Answer) × ((last : AdapterState) ×
-        FeedsPieces now peer (after_calls (new_adapter device listen limits) calls) pieces answers last) }
+    ensures some { (device : Device) (listen : Listen) (limits : Limits) (shares : Shares) (calls : List Call)
+        (now peer : ℕ) (pieces : List (List ℕ)) → (answers : List Answer) × ((last : AdapterState) ×
+        FeedsPieces now peer (after_calls (shared_adapter device listen limits shares) calls) pieces answers last) }
 {}
 
 /// Nor do the times of the pieces matter, as long as the same bytes complete something at the same times. After any
@@ -166,21 +173,21 @@ pub fn cuts_change_nothing()
 /// limit, or that find the peer closed), both have the same answers. If the last current times are also the same, both
 /// leave the same adapter. Every list of pieces can be fed this way.
 pub fn times_between_change_nothing()
-    ensures answers { (device : Device) (listen : Listen) (limits : Limits) (calls : List Call) (peer : ℕ)
-        (pieces others : List TimedPiece) (moments : List ℕ) (answers replies : List Answer)
+    ensures answers { (device : Device) (listen : Listen) (limits : Limits) (shares : Shares) (calls : List Call)
+        (peer : ℕ) (pieces others : List TimedPiece) (moments : List ℕ) (answers replies : List Answer)
         (last end : AdapterState) → joined pieces ≡ joined others →
-        FeedsTimedPieces peer (after_calls (new_adapter device listen limits) calls) pieces moments answers last →
-        FeedsTimedPieces peer (after_calls (new_adapter device listen limits) calls) others moments replies end →
+        FeedsTimedPieces peer (after_calls (shared_adapter device listen limits shares) calls) pieces moments answers last →
+        FeedsTimedPieces peer (after_calls (shared_adapter device listen limits shares) calls) others moments replies end →
         visible_answers answers ≡ visible_answers replies }
-    ensures adapter { (device : Device) (listen : Listen) (limits : Limits) (calls : List Call) (peer : ℕ)
-        (pieces others : List TimedPiece) (moments : List ℕ) (answers replies : List Answer)
+    ensures adapter { (device : Device) (listen : Listen) (limits : Limits) (shares : Shares) (calls : List Call)
+        (peer : ℕ) (pieces others : List TimedPiece) (moments : List ℕ) (answers replies : List Answer)
         (last end : AdapterState) → joined pieces ≡ joined others →
-        FeedsTimedPieces peer (after_calls (new_adapter device listen limits) calls) pieces moments answers last →
-        FeedsTimedPieces peer (after_calls (new_adapter device listen limits) calls) others moments replies end →
+        FeedsTimedPieces peer (after_calls (shared_adapter device listen limits shares) calls) pieces moments answers last →
+        FeedsTimedPieces peer (after_calls (shared_adapter device listen limits shares) calls) others moments replies end →
         last.state.shared.moment ≡ end.state.shared.moment → last ≡ end }
-    ensures some { (device : Device) (listen : Listen) (limits : Limits) (calls : List Call) (peer : ℕ)
-        (pieces : List TimedPiece) → (moments : List ℕ) × ((answers : List Answer) × ((last : AdapterState) ×
-        FeedsTimedPieces peer (after_calls (new_adapter device listen limits) calls) pieces moments answers last)) }
+    ensures some { (device : Device) (listen : Listen) (limits : Limits) (shares : Shares) (calls : List Call)
+        (peer : ℕ) (pieces : List TimedPiece) → (moments : List ℕ) × ((answers : List Answer) × ((last : AdapterState) ×
+        FeedsTimedPieces peer (after_calls (shared_adapter device listen limits shares) calls) pieces moments answers last)) }
 {}
 
 /// Why connections ended. Of the connections that were open at an update, the next one reports those that the calls in
@@ -189,11 +196,12 @@ pub fn times_between_change_nothing()
 /// of these. A connection that is reported as closed, by an update after each call, was closed by its own session: the
 /// call completed a frame with a Forward_Close of its triad.
 pub fn endings_have_causes()
-    ensures reasons { (device : Device) (listen : Listen) (limits : Limits) (earlier calls : List Call)
-        (e : EndingsState) → let a = after_calls (new_adapter device listen limits) earlier in
+    ensures reasons { (device : Device) (listen : Listen) (limits : Limits) (shares : Shares)
+        (earlier calls : List Call) (e : EndingsState) → let a = after_calls (shared_adapter device listen limits shares) earlier in
         (updated (updated e a) (after_calls a calls)).ended ≡ endings_in_calls a calls }
-    ensures closed { (device : Device) (listen : Listen) (limits : Limits) (earlier : List Call) (call : Call) →
-        let a = after_calls (new_adapter device listen limits) earlier in
+    ensures closed { (device : Device) (listen : Listen) (limits : Limits) (shares : Shares) (earlier : List Call)
+        (call : Call) →
+        let a = after_calls (shared_adapter device listen limits shares) earlier in
         AllByRecursion (λ (c : Connection). IsReportedClosed a call c → IsForwardClosed a call c)
         a.state.shared.manager.connections }
 {}
@@ -226,4 +234,32 @@ pub fn owner_is_asked()
     ensures nobody { nobody_law }
     ensures calls { calls_law }
     ensures once { asked_once_law }
+{}
+
+/// A request that is not a change, by its service and class alone, leaves the device as it was: the objects, the command
+/// ledger and the reply that is prepared. It asks the owner of the device nothing.
+pub fn unchanged_by_reading()
+    ensures device { unchanged_law }
+    ensures owner { unasked_by_reading_law }
+{}
+
+/// Readers change nothing. Whatever calls are made, with any peers, frames and connections: the objects and the command
+/// ledger are those after the requests in the frames of writers that reach the device and the device's own writes, in
+/// their order, and the owner of the device is asked what these ask. No frame of a reader is among them, whatever it
+/// holds.
+pub fn readers_change_nothing()
+    ensures device { readers_law }
+    ensures owner { readers_ask_nothing_law }
+{}
+
+/// Groups keep to their shares. Whatever calls are made, no group has more peers than its share, nor more connections. A
+/// begin that is refused changes nothing, and one of a group under its share is not refused for its share. If the shares
+/// of some groups together are at most all peer slots, and each peer is of one of these groups, one of them that is under
+/// its share is not refused for want of a slot either: so with `shares.peers * n` slots, n groups always get in.
+pub fn groups_keep_to_their_share()
+    ensures peers { peers_share_law }
+    ensures connections { connections_share_law }
+    ensures refused { refused_begin_law }
+    ensures under { under_share_law }
+    ensures slot { slot_for_each_share_law }
 {}

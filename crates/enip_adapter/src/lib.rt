@@ -2,7 +2,8 @@
 //!
 //! An `Adapter` has no socket and no clock. Its caller owns both:
 //!
-//! - `begin` and `end` report that a TCP connection begins or ends.
+//! - `begin` and `end` report that a TCP connection begins or ends. `begin_as` gives its peer rights, and a group for
+//!   whose share it counts.
 //! - `feed` takes bytes of a peer's stream and the time at which they arrived, in microseconds. It lends the answer to
 //!   send, or gives the reason why there is none.
 //! - `tick` reports the time alone. `deadline` is the next time at which a connection ends.
@@ -52,14 +53,15 @@ mod no_reply_reason;
 mod peer;
 mod peer_slots;
 mod reply;
+mod rights;
 mod serving;
 mod shared;
 
-pub use adapter::{Adapter, Fed, Full, Limits};
+pub use adapter::{Adapter, Fed, Full, Limits, Shares};
 pub use commands::DiscoveryBuffer;
 pub use endings::{EndReason, EndedConnection, Endings};
 pub use no_reply_reason::NoReplyReason;
-pub use peer::Peer;
+pub use peer::{Peer, Rights};
 pub use reply::LONGEST_ANSWER;
 pub use serving::{LONGEST_READ, ServeFault, Served, serve};
 pub use shared::Listen;

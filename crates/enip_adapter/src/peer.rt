@@ -53,6 +53,22 @@ impl Peer {
     }
 }
 
+/// What a peer may do.
+///
+/// ```
+/// let Ok(panel) = adapter.begin_as(Rights::Read, None) else {
+///     return Ok(());
+/// };
+/// ```
+#[derive(Clone, Copy, Debug, PartialEq, Eq)]
+pub enum Rights {
+    /// Everything.
+    Write,
+    /// Whatever changes nothing: a request that could change the objects or the command ledger, or that only the owner
+    /// of the device could execute, is refused with general status 0x0f, privilege violation.
+    Read,
+}
+
 /// The encapsulation state of a peer.
 #[derive(Clone, Copy)]
 pub(crate) struct Session {
@@ -62,6 +78,10 @@ pub(crate) struct Session {
     pub(crate) registered: bool,
     /// Whether its TCP connection is closed.
     pub(crate) closed: bool,
+    /// What it may do.
+    pub(crate) rights: Rights,
+    /// The group that it counts for, if any.
+    pub(crate) group: Option<u128>,
 }
 
 /// A slot that a peer holds.

@@ -1,6 +1,6 @@
 //! The peer slots: those that are taken, and the readers of those that are free. No call adds a slot.
 
-ghost use Rattle.std.specs.Prelude.{ℕ, ◌≡◌, ◌==◌, ◌<◌, ◌≤◌, ◌-◌, length, false, is_some, All, IfOk};
+ghost use Rattle.std.specs.Prelude.{ℕ, map, ◌≡◌, ◌==◌, ◌<◌, ◌≤◌, ◌-◌, length, false, is_some, All, IfOk};
 ghost use Rattle.std.specs.Borrow.{sem};
 ghost use Rattle.std.specs.Io.BufRead.{Rests};
 ghost use Rattle.std.specs.Option.{option_map};
@@ -8,11 +8,12 @@ ghost use Rattle.std.specs.List.{position};
 ghost use Rattle.enip_adapter.specs.Adapter.{session_in, IsWaiting};
 ghost use Rattle.enip_adapter.specs.Asks.{asks_at, asks_by_seen};
 ghost use Rattle.enip_adapter.specs.Executing.{executing_at, executing_seen};
+ghost use Rattle.enip_adapter.specs.Groups.{has_share, peers_of_group};
 ghost use Rattle.enip_adapter.specs.Lookup.{first_with, without_first};
 ghost use Rattle.enip_adapter.specs.PeerSlots.{IsFed, piece_at, handle_of, no_slot_taken, with_slot};
 ghost use Rattle.enip_adapter.specs.Serving.{is_open};
 
-use crate::peer::{PeerSlot, Session};
+use crate::peer::{PeerSlot, Rights, Session};
 use crate::reply::{AnswerFrame, Reaction};
 use crate::shared::Shared;
 use cip_objects::ReplyBuf;
@@ -66,16 +67,28 @@ impl PeerSlots {
         self.free.len() as u16
     }
 
-    /// Takes a free slot for a peer that begins with this session handle.
-    pub(crate) fn take(&mut self, handle: u32)
+    /// Whether one more peer of a group may be held, if `share` may. A peer without a group counts for nobody.
+    pub(crate) fn has_share(&self, share: u16, group: Option<u128>) -> bool
+        ensures { result ≡ has_share share (map session_in self.now.taken) group }
+    {
+        match group {
+            Some(group) => peers_of_group(&self.taken, group) < usize::from(share),
+            None => true,
+        }
+    }
+
+    /// Takes a free slot for a peer that begins with this session handle, these rights and this group.
+    pub(crate) fn take(&mut self, handle: u32, rights: Rights, group: Option<u128>)
         requires { length self.old.taken < self.old.limit }
-        ensures { self.new ≡ with_slot self.old handle }
+        ensures { self.new ≡ with_slot self.old handle rights group }
     {
         if let Some(reader) = self.free.pop() {
             let session = Session {
                 handle,
                 registered: false,
                 closed: false,
+                rights,
+                group,
             };
             self.taken.push_reserved(PeerSlot { session, reader });
         }
@@ -156,6 +169,20 @@ impl PeerSlots {
     {
         feed_taken(shared, &mut self.taken, handle, piece, reply, answer)
     }
+}
+
+/// The number of peers of a group.
+fn peers_of_group(places: &[PeerSlot], group: u128) -> usize
+    ensures count { result ≡ peers_of_group group (map session_in places.now) }
+    ensures within { result ≤ length places.now }
+{
+    let mut count = 0;
+    for index in 0..places.len() {
+        if places[index].session.group == Some(group) {
+            count += 1;
+        }
+    }
+    count
 }
 
 /// The index of the first peer with this handle.

@@ -25,6 +25,8 @@ pub struct Listen {
 #[derive(Drop)]
 pub(crate) struct Shared {
     pub(crate) listen: Listen,
+    /// How many peers of one group may be held at a time.
+    pub(crate) share: u16,
     /// The greatest time so far, in microseconds.
     pub(crate) moment: u64,
     pub(crate) manager: Manager,

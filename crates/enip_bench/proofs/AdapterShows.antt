@@ -16,6 +16,7 @@ use Rattle.cip_ledger.specs.Device.{Device}
 use Rattle.enip_wire.specs.Bodies.{rr_body_bytes, unit_body_bytes, unit_body_of}
 use Rattle.enip_wire.specs.Frames.{Frame, frame, IsFrame}
 use Rattle.enip_wire.proofs.WriteLemmas.{rr_again, unit_again}
+use Rattle.enip_adapter.specs.declared.peer.Rights.TheVariants.{Write}
 use Rattle.enip_adapter.specs.declared.peer.Session.{Session}
 use Rattle.enip_adapter.specs.declared.shared.Shared.{Shared}
 use Rattle.enip_adapter.specs.declared.no_reply_reason.NoReplyReason.TheVariants.{AnotherSession}
@@ -60,7 +61,7 @@ abbrev pub frame_back : Wire → List ℕ → List ℕ
 frame_back wire item = frame (item_frame wire.peer wire.wants.t_to_o_id item)
 
 abbrev pub registered_as : ℕ → Session
-registered_as handle = record { handle = handle; registered = true; closed = false }
+registered_as handle = record { handle = handle; registered = true; closed = false; rights = Write; group = None }
 
 -- the client has one connection, with this target
 pub record Serves (wire : Wire) (shared : Shared) (target : TargetState) : Type 0 where
@@ -341,7 +342,7 @@ asked-other wire a target router is_open request is shows least most =
     let shared : Shared = at_moment a.state.shared 0 in
     let session : Session = registered_as wire.second in
     let f : Frame = request_frame wire.second 0 request in
-    let done : IsRouted shared request (routed shared session request) = routed-objects shared session request in
+    let done : IsRouted shared request (routed shared session request) = routed-objects shared session request refl in
     let served : Served = leaving (routed shared session request).shared
     (replied session f.header (rr_body_bytes (routed shared session request).reply)) in
     let same : served_at a session f ≡ served = request-served shared wire.second 0 request least (omega (arith, most)) in

@@ -22,6 +22,7 @@ use Rattle.cip_ledger.specs.Turn.{Fate, Passed, Served, fate}
 use Rattle.cip_ledger.proofs.Devices.{other_class}
 use Rattle.cip_ledger.proofs.ReachingLemmas.{reached_other}
 use Rattle.enip_adapter.specs.Asks.{asks_by_reached, asks_by_step, asks_by_steps}
+use Rattle.enip_adapter.specs.declared.peer.Rights.TheVariants.{Write}
 use Rattle.enip_adapter.specs.DeviceRuns.{DeviceStep, Requested, requests_by_route, requests_by_target, objects_after, objects_answer}
 use Rattle.enip_adapter.specs.OwnWrites.{OwnWrite, device_written}
 use Rattle.enip_adapter.specs.SendRRData.{Route, Opens, Closes, Executes, route_of, route_by_request, route_by_path, manager_service, is_manager}
@@ -49,7 +50,7 @@ not_own-asks device text q path read found manages =
     (manager_is_not_own device.router.objects text q path read found manages)
 
 abbrev asked_on : Device → List ℕ → Route → List Asked
-asked_on device text route = asks_by_steps device (map Requested (requests_by_route text route))
+asked_on device text route = asks_by_steps device (map Requested (requests_by_route Write text route))
 
 abbrev asked_whole : Device → List ℕ → List Asked
 asked_whole device text = asks_by_step device (Requested (UNCONNECTED_LIMIT, text))
@@ -62,7 +63,7 @@ routed-none device text Executes none = append-nil (asked_whole device text)
 
 -- an unconnected request asks the same, whether the Connection Manager takes it or not
 pub routed-asks : (device : Device) (text : List ℕ) →
-    asks_by_steps device (map Requested (requests_by_route text (route_of text)))
+    asks_by_steps device (map Requested (requests_by_route Write text (route_of text)))
     ≡ asks_by_step device (Requested (UNCONNECTED_LIMIT, text))
 routed-asks device text = by_request (request_of text) refl
   where
@@ -172,7 +173,7 @@ module _ (first o_to_t_size t_to_o_size : ℕ) (start : Device) where
   pub target-requests : (log : List Logged) (own : Own) → IsOfForm o_to_t_size own.request →
       is_held (held_of after_exec exec_answer device_written first t_to_o_size start log) (count_of first own.number)
       ≡ is_logged own.number log →
-      requests_by_target (target_by log) (item_of first own)
+      requests_by_target Write (target_by log) (item_of first own)
       ≡ cond (is_logged own.number log) [] ((t_to_o_size - 2, own.request) ∷ [])
   target-requests log own form held =
       ap (λ b. cond b (cond (is_held (target_by log).held (sequence_count_of (item_of first own))) []
@@ -195,7 +196,7 @@ module _ (first o_to_t_size t_to_o_size : ℕ) (start : Device) where
   pub other-asks : (log : List Logged) (request : List ℕ) →
       (asked_by (OtherLogged request ∷ log)).1
       ≡ (asked_by log).1
-      ++ asks_by_steps (device_by log) (map Requested (requests_by_route request (route_of request)))
+      ++ asks_by_steps (device_by log) (map Requested (requests_by_route Write request (route_of request)))
   other-asks log request =
       asked-more log (Requested (UNCONNECTED_LIMIT, request))
       ∙ ap (λ asks. (asked_by log).1 ++ asks)

@@ -7,7 +7,7 @@ use Rattle.cip_bytes.specs.Reading.{◌>>=◌}
 use Rattle.cip_ledger.specs.Device.{Device}
 use Rattle.enip_wire.specs.Frames.{frame}
 use Rattle.enip_adapter.specs.Calls.{AdapterState, after_call}
-use Rattle.enip_adapter.specs.Calls.Call.{Begins_peer, Feeds}
+use Rattle.enip_adapter.specs.Calls.Call.{Feeds}
 use Rattle.enip_client.specs.Calls.{Lent, registers, opens, submits, submitted, item_sent, after_lending, bytes_lent}
 use Rattle.enip_client.specs.declared.fault.SubmitFault.{SubmitFault}
 use Rattle.enip_client.specs.declared.fault.SubmitFault.TheVariants as submit_faults
@@ -17,7 +17,7 @@ use Rattle.cip_class3.specs.OriginatorRule.{submit_refusal}
 use Rattle.cip_class3.specs.declared.originator.Refused.{Refused}
 use Rattle.enip_client.specs.Client.{ClientState, fed, with_state}
 use Rattle.enip_client.specs.Frames.{register_frame, request_frame}
-use Rattle.enip_bench.specs.CountingOpening.{Setup, Ends, begins, exchange, is_registered_event, is_opened_event, ends_at_beginning, counting_at_opening, opening_between, opening}
+use Rattle.enip_bench.specs.CountingOpening.{Setup, Ends, begins_peer, begins, exchange, is_registered_event, is_opened_event, ends_at_beginning, counting_at_opening, opening_between, opening}
 use Rattle.enip_bench.specs.CountingWorld.{CountingWorld, reply_heard, acceptance, after_submit, after_back, after_other, counting_step, counting_run}
 use Rattle.enip_bench.specs.Events.{Event, Submit, Back, Other, delivery, is_unconnected_request, with_any}
 use Rattle.enip_bench.specs.Reached.{IsNewAdapter, IsNewClient, IsReached}
@@ -195,12 +195,12 @@ ran old events count world runs all =
 
 -- the opening, step by step
 pub opened_so : (adapter one two three four five : AdapterState) (client registered opened : ClientState)
-    (peer second : ℕ) (bytes : List ℕ) → begins adapter ≡ Ok peer → one ≡ after_call adapter Begins_peer →
+    (peer second : ℕ) (bytes : List ℕ) → begins adapter ≡ Ok peer → one ≡ after_call adapter begins_peer →
     exchange (record { adapter = one; client = client }) peer is_registered_event (registers client.state)
     ≡ Ok (record { adapter = two; client = registered }) →
     exchange (record { adapter = two; client = registered }) peer is_opened_event (opens registered.state)
     ≡ Ok (record { adapter = three; client = opened }) →
-    begins three ≡ Ok second → four ≡ after_call three Begins_peer → bytes ≡ frame (register_frame 0) →
+    begins three ≡ Ok second → four ≡ after_call three begins_peer → bytes ≡ frame (register_frame 0) →
     five ≡ after_call four (Feeds 0 second bytes) →
     opening_between adapter client ≡ Ok (world_opened five opened (peer, second))
 opened_so adapter one two three four five client registered opened peer second bytes e1 a1 e2 e3 e4 a4 f a5 =

@@ -9,6 +9,7 @@ use Rattle.cip_objects.specs.OwnRequests.{Asked}
 use Rattle.enip_adapter.specs.Asks.{asks_by_step, asks_by_steps}
 use Rattle.enip_adapter.specs.Calls.{Call}
 use Rattle.enip_adapter.specs.Calls.Call.{Feeds}
+use Rattle.enip_adapter.specs.declared.peer.Rights.TheVariants as rights
 use Rattle.enip_adapter.specs.DeviceRuns.{DeviceStep, Requested, requests_by_route, requests_by_target, steps_of_calls}
 use Rattle.enip_adapter.specs.OwnWrites.{device_written}
 use Rattle.enip_adapter.specs.Runs.{after_calls}
@@ -131,7 +132,7 @@ module _ {world : CountingWorld} (by : IsReached world) where
 
   target-same : (position : ℕ) (own : Own) →
       delivery (tracked by).last_reached (tracked by).sent position ≡ Some own →
-      requests_by_target image_of.target (item_of by.wants.first_count own)
+      requests_by_target rights.Write image_of.target (item_of by.wants.first_count own)
       ≡ cond (is_logged own.number (tracked by).log) [] ((by.wants.t_to_o_size - 2, own.request) ∷ [])
   target-same position own e =
       let numbers : TrackedWorld = tracked by in
@@ -188,7 +189,7 @@ module _ {world : CountingWorld} (by : IsReached world) where
 
   others-steps : (request : List ℕ) → is_unconnected_request request ≡ true →
       steps_of_calls world.adapter (other_call request ∷ [])
-      ≡ map Requested (requests_by_route request (route_of request))
+      ≡ map Requested (requests_by_route rights.Write request (route_of request))
   others-steps request e =
       let parts = and_parts (leb 2 (length request)) (leb (length request) 504) e in
       ap (λ second. steps_of_calls world.adapter (Feeds 0 second (frame (request_frame second 0 request)) ∷ []))

@@ -7,14 +7,16 @@ use Rattle.cip_class3.specs.TargetRule.{TargetState, target_at_opening}
 use Rattle.cip_class3.specs.OriginatorRule.{originator_at_opening}
 use Rattle.cip_manager.specs.declared.opening.Opening.{Opening}
 use Rattle.cip_manager.specs.Connection.{timeout_of}
-use Rattle.cip_manager.specs.Opening.{opening_check, new_connection}
+use Rattle.cip_manager.specs.Opening.{opening_check, new_connection, without_group}
 use Rattle.cip_manager.specs.Manager.{ManagerState}
 use Rattle.cip_ledger.specs.Device.{Device}
 use Rattle.enip_wire.specs.Frames.{Frame, frame}
 use Rattle.enip_adapter.specs.declared.adapter.Limits.{Limits}
+use Rattle.enip_adapter.specs.declared.peer.Rights.TheVariants.{Write}
 use Rattle.enip_adapter.specs.declared.shared.Listen.{Listen}
 use Rattle.enip_adapter.specs.declared.shared.Shared.{Shared}
 use Rattle.enip_adapter.specs.Adapter.{new_shared}
+use Rattle.enip_adapter.specs.Groups.{no_shares}
 use Rattle.enip_adapter.specs.Calls.{AdapterState, after_call, bytes_found}
 use Rattle.enip_adapter.specs.Calls.Call.{Feeds}
 use Rattle.enip_adapter.specs.RegisterSession.{register_session, version_one}
@@ -44,10 +46,10 @@ pub record IsChecked (rpi next_id : ℕ) : Type 0 where
 timeout-above : (rpi multiplier : ℕ) → 0 < rpi → 0 < timeout_of rpi multiplier
 timeout-above rpi multiplier some = mul-lt 0 0 (rpi * 4) (2 ^ multiplier) (omega (arith, some)) (pow_pos multiplier)
 
-pub is_checked : (manager : ManagerState) (asked : Opening) → opening_check manager asked ≡ Ok tt →
+pub is_checked : (manager : ManagerState) (asked : Opening) → opening_check manager None asked ≡ Ok tt →
     IsChecked asked.o_to_t.rpi manager.next_id
 is_checked manager asked e =
-    let passes : PassesChecks manager asked = passes_checks manager asked e in
+    let passes : PassesChecks manager None asked = passes_checks manager None asked e in
     record { some = passes.fields.rpi; id = passes.room.id_left }
 
 -- an opening without a refusal
@@ -73,7 +75,7 @@ module _ (objects : Device) (listen : Listen) (limits : Limits) (wants : Wants) 
 
   -- the shared state, the adapter and the client after the connection opened
   abbrev pub shared : Shared
-  shared = (managed (new_shared objects listen limits) (decided objects listen limits wants next peer (Ok tt))).shared
+  shared = (managed (new_shared objects listen limits no_shares) (decided objects listen limits wants next peer (Ok tt))).shared
 
   abbrev pub adapter : AdapterState
   adapter = single limits.peers next shared (registered_as peer)
@@ -89,8 +91,8 @@ module _ (objects : Device) (listen : Listen) (limits : Limits) (wants : Wants) 
       let timeout : 0 < timeout_of wants.rpi wants.timeout_multiplier
       = timeout-above wants.rpi wants.timeout_multiplier check.some in
       record {
-        connection = new_connection id 0 peer (asked objects listen limits wants next peer);
-        alone = ap (λ b. cond b (new_connection id 0 peer (asked objects listen limits wants next peer) ∷ []) [])
+        connection = new_connection id 0 (without_group peer) (asked objects listen limits wants next peer);
+        alone = ap (λ b. cond b (new_connection id 0 (without_group peer) (asked objects listen limits wants next peer) ∷ []) [])
             (eq-eqb peer peer refl);
         session = refl;
         id = refl;
@@ -119,7 +121,7 @@ module _ (objects : Device) (listen : Listen) (limits : Limits) (wants : Wants) 
   -- the adapter after the second peer began, and after it registered
   abbrev pub both_begun : AdapterState
   both_begun = record {
-    state = with_peer adapter.state;
+    state = with_peer adapter.state Write None;
     held = no_bytes peer ∷ no_bytes next ∷ [];
   }
 
@@ -131,14 +133,14 @@ module _ (objects : Device) (listen : Listen) (limits : Limits) (wants : Wants) 
 
   first_ready : IsReady both_begun peer (registered_as peer)
   first_ready = record {
-    found = ap (λ b. cond b (Some (registered_as peer)) (cond (eqb next peer) (Some (new_session next)) None)) (eq-eqb peer peer refl);
+    found = ap (λ b. cond b (Some (registered_as peer)) (cond (eqb next peer) (Some (new_session next Write None)) None)) (eq-eqb peer peer refl);
     alive = refl;
     blank = ap (λ b. bytes_found (cond b (Some (no_bytes peer)) (cond (eqb next peer) (Some (no_bytes next)) None))) (eq-eqb peer peer refl);
   }
 
-  second_ready : IsReady both_begun next (new_session next)
+  second_ready : IsReady both_begun next (new_session next Write None)
   second_ready = record {
-    found = ap₂ (λ b own. cond b (Some (registered_as peer)) (cond own (Some (new_session next)) None)) other (eq-eqb next next refl);
+    found = ap₂ (λ b own. cond b (Some (registered_as peer)) (cond own (Some (new_session next Write None)) None)) other (eq-eqb next next refl);
     alive = refl;
     blank = ap₂ (λ b own. bytes_found (cond b (Some (no_bytes peer)) (cond own (Some (no_bytes next)) None))) other (eq-eqb next next refl);
   }
@@ -146,11 +148,11 @@ module _ (objects : Device) (listen : Listen) (limits : Limits) (wants : Wants) 
   adapter_shows : IsChecked wants.rpi id → next < 2 ^ 32 → AdapterShows wire both_registered target objects true
   adapter_shows check below =
       let f : Frame = register_frame 0 in
-      let served : Served = leaving (at_moment shared 0) (register_session (new_session next) f) in
-      let fed : IsOwnFed both_begun next (new_session next) f served
-      = own-fed both_begun next (new_session next) f served second_ready
+      let served : Served = leaving (at_moment shared 0) (register_session (new_session next Write None) f) in
+      let fed : IsOwnFed both_begun next (new_session next Write None) f served
+      = own-fed both_begun next (new_session next Write None) f served second_ready
       (is_framed RegisterSession 0 0 version_one (omega arith) (omega arith))
-      (register-served (at_moment shared 0) (new_session next) 0) refl in
+      (register-served (at_moment shared 0) (new_session next Write None) 0) refl in
       record {
         peer = other-ready both_begun peer next (registered_as peer) (frame f) (λ e. absurd (omega (arith, e))) first_ready;
         second = fed.ready;

@@ -1,21 +1,23 @@
 -- An opening without a refusal leads to the opening of the item world.
-use Rattle.std.proofs.Common.{◌≡◌, ℕ, ◌<◌, ◌≤◌, ◌^◌, false, Some, List, [], length, Result, Ok, Err, refl, ap, ◌∙◌, subst, arith}
+use Rattle.std.proofs.Common.{◌≡◌, ℕ, ◌<◌, ◌≤◌, ◌^◌, false, Some, None, List, [], length, Result, Ok, Err, refl, ap, ◌∙◌, subst, arith}
 use Rattle.cip_bytes.specs.declared.protocol.ExtendedStatus.{ExtendedStatus}
 use Rattle.cip_message.specs.Reply.{reply_of, reply_of_fields, reply_service}
 use Rattle.cip_message.specs.Open.{Layout, small, large}
 use Rattle.cip_manager.specs.declared.opening.Opening.{Opening}
 use Rattle.cip_manager.specs.Manager.{Turn}
-use Rattle.cip_manager.specs.Opening.{opening_check, opening_turn, decided_opening, service_in, read_opening_turn, open_success}
+use Rattle.cip_manager.specs.Opening.{opening_check, opening_turn, decided_opening, service_in, read_opening_turn, open_success, without_group}
 use Rattle.cip_manager.specs.Replies.{failure_reply, open_success_data}
 use Rattle.cip_ledger.specs.Device.{Device}
 use Rattle.enip_wire.specs.Bodies.{rr_body_bytes}
 use Rattle.enip_wire.specs.Frames.{Frame, frame}
 use Rattle.enip_wire.proofs.WriteLemmas.{rr_again}
 use Rattle.enip_adapter.specs.declared.adapter.Limits.{Limits}
+use Rattle.enip_adapter.specs.declared.peer.Rights.TheVariants.{Write}
 use Rattle.enip_adapter.specs.declared.peer.Session.{Session}
 use Rattle.enip_adapter.specs.declared.shared.Listen.{Listen}
 use Rattle.enip_adapter.specs.declared.shared.Shared.{Shared}
 use Rattle.enip_adapter.specs.Adapter.{new_shared}
+use Rattle.enip_adapter.specs.Groups.{no_shares}
 use Rattle.enip_adapter.specs.Calls.{AdapterState}
 use Rattle.enip_adapter.specs.Calls.Call.{Feeds}
 use Rattle.enip_adapter.specs.RegisterSession.{register_session, version_one}
@@ -45,27 +47,27 @@ registered wants peer =
 
 module _ (objects : Device) (listen : Listen) (limits : Limits) (wants : Wants) (next peer : ℕ) where
   abbrev shared : Shared
-  shared = new_shared objects listen limits
+  shared = new_shared objects listen limits no_shares
 
   abbrev pub begun_single : Session → AdapterState
-  begun_single session = single limits.peers next (new_shared objects listen limits) session
+  begun_single session = single limits.peers next (new_shared objects listen limits no_shares) session
 
   pub first-exchange : peer < 2 ^ 32 →
-      exchange (record { adapter = begun_single (new_session peer); client = new_client wants }) peer is_registered_event
+      exchange (record { adapter = begun_single (new_session peer Write None); client = new_client wants }) peer is_registered_event
       (registers (new_client wants).state)
       ≡ Ok (record { adapter = begun_single (registered_as peer); client = registered wants peer })
   first-exchange below =
       let answer : Frame = framed RegisterSession peer 1 version_one in
-      let done : IsSingleFed limits.peers next shared (new_session peer) (register_frame 1)
-      (leaving shared (register_session (new_session peer) (register_frame 1)))
-      = single-fed limits.peers next shared (new_session peer) (register_frame 1)
-      (leaving shared (register_session (new_session peer) (register_frame 1))) refl
+      let done : IsSingleFed limits.peers next shared (new_session peer Write None) (register_frame 1)
+      (leaving shared (register_session (new_session peer Write None) (register_frame 1)))
+      = single-fed limits.peers next shared (new_session peer Write None) (register_frame 1)
+      (leaving shared (register_session (new_session peer Write None) (register_frame 1))) refl
       (is_framed RegisterSession 0 1 version_one (omega arith) (omega arith))
-      (register-served shared (new_session peer) 1) refl in
+      (register-served shared (new_session peer Write None) 1) refl in
       let whole : IsHeardWhole (registering wants) answer (fed (registering wants) (frame answer))
       = client-fed (registering wants) answer refl refl
       (is_framed RegisterSession peer 1 version_one below (omega arith)) in
-      heard-done is_registered_event (begun_single (new_session peer)) (begun_single (registered_as peer)) (registering wants)
+      heard-done is_registered_event (begun_single (new_session peer Write None)) (begun_single (registered_as peer)) (registering wants)
       (registered wants peer) (Feeds 0 peer (frame (register_frame 1))) (frame answer) Registered done.adapter done.output
       whole.client whole.heard_event refl
 
@@ -81,11 +83,11 @@ module _ (objects : Device) (listen : Listen) (limits : Limits) (wants : Wants) 
   asked = wanted wants
 
   abbrev pub checked : Result (Unit {0}) ExtendedStatus
-  checked = opening_check (new_shared objects listen limits).manager asked
+  checked = opening_check (new_shared objects listen limits no_shares).manager None asked
 
   -- what the Connection Manager does with the client's request, by the outcome of the checks
   abbrev pub decided : Result (Unit {0}) ExtendedStatus → Turn
-  decided r = decided_opening (service_in layout) (new_shared objects listen limits).manager 0 peer asked r
+  decided r = decided_opening (service_in layout) (new_shared objects listen limits no_shares).manager 0 (without_group peer) asked r
 
   abbrev open_served : Turn → Served
   open_served turn = leaving (managed shared turn).shared
@@ -93,8 +95,8 @@ module _ (objects : Device) (listen : Listen) (limits : Limits) (wants : Wants) 
 
   routed-open : IsWanted wants → routed shared (registered_as peer) (open_request wants) ≡ managed shared (decided checked)
   routed-open is = ap (routed_to shared (registered_as peer) (open_request wants)) (goes-to-manager layout wants)
-      ∙ (ap (λ r. managed shared (read_opening_turn layout shared.manager 0 peer r)) (open-read layout wants is)
-      ∙ ap (λ o. managed shared (opening_turn (service_in layout) shared.manager 0 peer o)) (asked-is wants is))
+      ∙ (ap (λ r. managed shared (read_opening_turn layout shared.manager 0 (without_group peer) r)) (open-read layout wants is)
+      ∙ ap (λ o. managed shared (opening_turn (service_in layout) shared.manager 0 (without_group peer) o)) (asked-is wants is))
 
   open-fed : IsWanted wants → peer < 2 ^ 32 →
       IsSingleFed limits.peers next shared (registered_as peer) (request_frame peer 2 (open_request wants))
@@ -111,10 +113,10 @@ module _ (objects : Device) (listen : Listen) (limits : Limits) (wants : Wants) 
   -- the reply to an opening that succeeds, as written and as read
   abbrev pub success_data : List ℕ
   success_data =
-      open_success_data (new_shared objects listen limits).manager.next_id asked.t_to_o_id asked.triad asked.o_to_t.rpi asked.t_to_o.rpi
+      open_success_data (new_shared objects listen limits no_shares).manager.next_id asked.t_to_o_id asked.triad asked.o_to_t.rpi asked.t_to_o.rpi
 
   abbrev success_bytes_in : Layout → List ℕ
-  success_bytes_in l = open_success (service_in l) (new_shared objects listen limits).manager.next_id asked
+  success_bytes_in l = open_success (service_in l) (new_shared objects listen limits no_shares).manager.next_id asked
 
   abbrev success_in : Layout → Answer
   success_in l = record {

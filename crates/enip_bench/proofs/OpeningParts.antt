@@ -13,10 +13,11 @@ use Rattle.cip_manager.specs.declared.opening.Opening.{Opening}
 use Rattle.cip_manager.specs.Opening.{direction_of, large_direction_of, opening_with, open_in, opening_in}
 use Rattle.enip_wire.specs.Frames.{Frame, frame, IsFrame}
 use Rattle.enip_adapter.specs.declared.adapter.Full.TheVariants.{Places, Handles}
+use Rattle.enip_adapter.specs.declared.peer.Rights.TheVariants.{Write}
 use Rattle.enip_adapter.specs.declared.peer.Session.{Session}
 use Rattle.enip_adapter.specs.declared.shared.Shared.{Shared}
 use Rattle.enip_adapter.specs.Calls.{AdapterState, Call, after_call, call_answer, held_at_beginning, bytes_found}
-use Rattle.enip_adapter.specs.Calls.Call.{Begins_peer, Feeds}
+use Rattle.enip_adapter.specs.Calls.Call.{Feeds}
 use Rattle.enip_adapter.specs.Commands.{command_served}
 use Rattle.enip_adapter.specs.Replies.{Served, leaving}
 use Rattle.enip_adapter.specs.RegisterSession.{register_session}
@@ -28,7 +29,7 @@ use Rattle.enip_client.specs.Frames.{register_frame, parameters_of, large_parame
 use Rattle.enip_client.specs.Frames.{open_data_in, open_request_in}
 use Rattle.enip_client.specs.Hears.{HeardEvent}
 use Rattle.enip_client.specs.declared.wants.Wants.{Wants}
-use Rattle.enip_bench.specs.CountingOpening.{ARefusal, IsWanted, begins, handle_in_output, fed_any, if_heard}
+use Rattle.enip_bench.specs.CountingOpening.{ARefusal, IsWanted, begins_peer, begins, handle_in_output, fed_any, if_heard}
 use Rattle.enip_bench.specs.CountingWorld.{output_bytes}
 use Rattle.enip_bench.proofs.FeedLemmas.{IsReady, IsServed, adapter-fed, no_bytes}
 
@@ -36,8 +37,8 @@ use Rattle.enip_bench.proofs.FeedLemmas.{IsReady, IsServed, adapter-fed, no_byte
 pub record IsBegun (a : AdapterState) (handle : ℕ) : Type 0 where
   pub next : handle ≡ a.state.next_handle
   pub below : handle < 2 ^ 32
-  pub adapter : after_call a Begins_peer
-      ≡ record { state = with_peer a.state; held = a.held ++ no_bytes a.state.next_handle ∷ [] }
+  pub adapter : after_call a begins_peer
+      ≡ record { state = with_peer a.state Write None; held = a.held ++ no_bytes a.state.next_handle ∷ [] }
 
 ok_same : {A E : Type 0} (x y : A) → ◌≡◌ {A = Result A E} (Ok x) (Ok y) → x ≡ y
 ok_same x y e = cc
@@ -45,12 +46,12 @@ ok_same x y e = cc
 record AreBegun (a : AdapterState) (handle : ℕ) (t : TurnResult) : Type 0 where
   next : handle ≡ a.state.next_handle
   below : handle < 2 ^ 32
-  state : t.state ≡ with_peer a.state
+  state : t.state ≡ with_peer a.state Write None
   held : held_at_beginning a.held t.answer.output ≡ a.held ++ no_bytes a.state.next_handle ∷ []
 
 abbrev begun_by : State → Bool → Bool → TurnResult
 begun_by s full late = cond full (turned s (Refuses Places) false)
-    (cond late (turned s (Refuses Handles) false) (turned (with_peer s) (Begins s.next_handle) false))
+    (cond late (turned s (Refuses Handles) false) (turned (with_peer s Write None) (Begins s.next_handle) false))
 
 begun-by : (a : AdapterState) (handle : ℕ) (full late : Bool) → ltb 0xffffffff a.state.next_handle ≡ late →
     handle_in_output (begun_by a.state full late).answer.output ≡ Ok handle → AreBegun a handle (begun_by a.state full late)

@@ -8,6 +8,7 @@ use Rattle.enip_wire.specs.Frames.{frame}
 use Rattle.enip_adapter.specs.declared.adapter.Limits.{Limits}
 use Rattle.enip_adapter.specs.declared.shared.Listen.{Listen}
 use Rattle.enip_adapter.specs.Adapter.{new_adapter, new_shared}
+use Rattle.enip_adapter.specs.Groups.{no_shares}
 use Rattle.enip_adapter.specs.Calls.{AdapterState, after_call}
 use Rattle.enip_adapter.specs.Calls.Call.{Feeds}
 use Rattle.enip_client.specs.Calls.{registers, opens}
@@ -92,7 +93,7 @@ module _ (objects : Device) (listen : Listen) (limits : Limits) (wants : Wants) 
       = sym (ap (λ r. r >>= λ ends. third ends peer) (second-exchange objects listen limits wants next peer is below (Ok passed) e))
       ∙ done in
       let begun = bind_ok (begins ends_opened.adapter) (λ second. Ok (counting_at_opening ends_opened peer second)) world go in
-      opened_at begun.0 (is_checked (new_shared objects listen limits).manager (asked objects listen limits wants next peer) e) below
+      opened_at begun.0 (is_checked (new_shared objects listen limits no_shares).manager (asked objects listen limits wants next peer) e) below
       (begun-ok ends_opened.adapter begun.0 begun.1)
       (ok_is (counting_at_opening ends_opened peer begun.0) world begun.2)
 

@@ -17,8 +17,10 @@ use Rattle.cip_objects.specs.Execution.{Outcome, outcome, exec, perform, request
 use Rattle.cip_objects.specs.ReadServices.{service_at}
 use Rattle.cip_objects.specs.Tables.{Shapes, services_of}
 use Rattle.cip_objects.proofs.Refuses.{exec_left}
+use Rattle.enip_adapter.specs.declared.peer.Rights.TheVariants.{Write}
 use Rattle.enip_adapter.specs.declared.peer.Session.{Session}
 use Rattle.enip_adapter.specs.declared.shared.Shared.{Shared}
+use Rattle.enip_adapter.specs.Rights.{after_for}
 use Rattle.enip_adapter.specs.SendRRData.{Route, Opens, Closes, Executes, Routed, routed, routed_to, route_by_request, route_by_path, manager_service, is_manager}
 use Rattle.cip_bytes.specs.declared.protocol.TheConstants.{UNCONNECTED_LIMIT}
 use Rattle.enip_bench.specs.ObjectsRun.{after_exec}
@@ -90,15 +92,21 @@ pub record IsRouted (shared : Shared) (request : List ℕ) (done : Routed) : Typ
   pub objects : done.shared.objects ≡ after_exec shared.objects UNCONNECTED_LIMIT request
   pub moment : done.shared.moment ≡ shared.moment
 
-pub routed-objects : (shared : Shared) (session : Session) (request : List ℕ) →
+pub routed-objects : (shared : Shared) (session : Session) (request : List ℕ) → session.rights ≡ Write →
     IsRouted shared request (routed shared session request)
-routed-objects shared session request = by_request (request_of request) refl
+routed-objects shared session request writes = by_request (request_of request) refl
   where
+    executed : IsRouted shared request (routed_to shared session request Executes)
+    executed = record {
+      objects = ap (λ rights. after_for rights shared.objects UNCONNECTED_LIMIT request) writes;
+      moment = refl;
+    }
+
     unchanged : (d : Route) → (exec_device shared.objects UNCONNECTED_LIMIT request).after ≡ shared.objects →
         IsRouted shared request (routed_to shared session request d)
     unchanged (Opens layout bytes) same = record { objects = sym same; moment = refl }
     unchanged (Closes bytes) same = record { objects = sym same; moment = refl }
-    unchanged Executes same = record { objects = refl; moment = refl }
+    unchanged Executes same = executed
 
     by_manager : (q : Request) (path : Path) (b : Bool) → request_of request ≡ Ok q → path_of q.path ≡ Ok path →
         is_manager path ≡ b →
@@ -106,14 +114,14 @@ routed-objects shared session request = by_request (request_of request) refl
     by_manager q path true read found manages =
         unchanged (manager_service q.service q.data)
         (refused-same shared.objects UNCONNECTED_LIMIT request q path read found manages)
-    by_manager q path false read found manages = record { objects = refl; moment = refl }
+    by_manager q path false read found manages = executed
 
     by_path : (q : Request) (p : Result Path PathFault) → request_of request ≡ Ok q → path_of q.path ≡ p →
         IsRouted shared request (routed_to shared session request (route_by_path q p))
     by_path q (Ok path) read found = by_manager q path (is_manager path) read found refl
-    by_path q (Err fault) read found = record { objects = refl; moment = refl }
+    by_path q (Err fault) read found = executed
 
     by_request : (r : Result Request RequestFault) → request_of request ≡ r →
         IsRouted shared request (routed_to shared session request (route_by_request r))
     by_request (Ok q) read = by_path q (path_of q.path) read refl
-    by_request (Err fault) read = record { objects = refl; moment = refl }
+    by_request (Err fault) read = executed

@@ -15,6 +15,7 @@ use Rattle.enip_adapter.specs.declared.peer.Session.{Session}
 use Rattle.enip_adapter.specs.declared.shared.Shared.{Shared}
 use Rattle.enip_adapter.specs.Calls.{AdapterState, Meaning}
 use Rattle.enip_adapter.specs.Calls.Call.{Feeds}
+use Rattle.enip_adapter.specs.declared.peer.Rights.TheVariants.{Write}
 use Rattle.enip_adapter.specs.DeviceRuns.{DeviceStep, Requested, requests_by_route, requests_in_rr, requests_by_target, requests_by_connection, requests_in_unit, requests_in_frame, requests_by_session, device_steps, steps_of_calls}
 use Rattle.enip_adapter.specs.SendRRData.{route_of}
 use Rattle.enip_adapter.specs.Turn.{at_moment}
@@ -38,7 +39,7 @@ frame-steps a peer session f ready ok =
 -- an item's frame
 item-requests : (shared : Shared) (peer id : ℕ) (item : List ℕ) → id < 2 ^ 32 → length item ≤ LARGEST_CONNECTION_SIZE →
     requests_in_frame shared (registered_as peer) (item_frame peer id item)
-    ≡ requests_by_connection item (find (is_named peer id) shared.manager.connections)
+    ≡ requests_by_connection Write item (find (is_named peer id) shared.manager.connections)
 item-requests shared peer id item below small =
     ap (λ b. cond (not b) [] (requests_in_unit shared (registered_as peer) (unit_body_of (unit_body_bytes id item))))
     (eq-eqb peer peer refl)
@@ -46,7 +47,7 @@ item-requests shared peer id item below small =
 
 pub open-steps : (wire : Wire) (a : AdapterState) (target : TargetState) (router : Device) (item : List ℕ) →
     IsWire wire → AdapterShows wire a target router true → length item ≤ LARGEST_CONNECTION_SIZE →
-    steps_of_calls a (Feeds 0 wire.peer (frame_out wire item) ∷ []) ≡ map Requested (requests_by_target target item)
+    steps_of_calls a (Feeds 0 wire.peer (frame_out wire item) ∷ []) ≡ map Requested (requests_by_target Write target item)
 open-steps wire a target router item is shows small =
     let shared : Shared = at_moment a.state.shared 0 in
     let serves : Serves wire shared target = at-zero wire a.state.shared target true shows.connected in
@@ -55,8 +56,8 @@ open-steps wire a target router item is shows small =
     frame-steps a wire.peer (registered_as wire.peer) (item_frame wire.peer wire.id item) shows.peer
     (is_unit wire.peer wire.id item is.peer small)
     ∙ ap asked_for (item-requests shared wire.peer wire.id item is.id small)
-    ∙ ap (λ found. asked_for (requests_by_connection item found)) alone.found
-    ∙ ap (λ t. asked_for (requests_by_target t item)) serves.is_target
+    ∙ ap (λ found. asked_for (requests_by_connection Write item found)) alone.found
+    ∙ ap (λ t. asked_for (requests_by_target Write t item)) serves.is_target
 
 pub shut-steps : (wire : Wire) (a : AdapterState) (target : TargetState) (router : Device) (item : List ℕ) →
     IsWire wire → AdapterShows wire a target router false → length item ≤ LARGEST_CONNECTION_SIZE →
@@ -68,7 +69,7 @@ shut-steps wire a target router item is shows small =
     frame-steps a wire.peer (registered_as wire.peer) (item_frame wire.peer wire.id item) shows.peer
     (is_unit wire.peer wire.id item is.peer small)
     ∙ ap asked_for (item-requests shared wire.peer wire.id item is.id small)
-    ∙ ap (λ found. asked_for (requests_by_connection item found))
+    ∙ ap (λ found. asked_for (requests_by_connection Write item found))
     (named-none wire.peer wire.id shared.manager.connections none)
 
 -- an unconnected request of another session
@@ -76,12 +77,12 @@ pub other-steps : (wire : Wire) (a : AdapterState) (target : TargetState) (route
     (request : List ℕ) → IsWire wire → AdapterShows wire a target router is_open → 2 ≤ length request →
     length request ≤ 504 →
     steps_of_calls a (Feeds 0 wire.second (frame (request_frame wire.second 0 request)) ∷ [])
-    ≡ map Requested (requests_by_route request (route_of request))
+    ≡ map Requested (requests_by_route Write request (route_of request))
 other-steps wire a target router is_open request is shows least most =
     let shared : Shared = at_moment a.state.shared 0 in
     frame-steps a wire.second (registered_as wire.second) (request_frame wire.second 0 request) shows.second
     (is_rr wire.second 0 request is.second (omega (arith, most)))
     ∙ ap asked_for
     (otherwise (not (eqb wire.second wire.second)) _ _ (ap not (eq-eqb wire.second wire.second refl))
-    ∙ ap requests_in_rr (rr_again request (omega (arith, most)))
+    ∙ ap (requests_in_rr Write) (rr_again request (omega (arith, most)))
     ∙ otherwise (ltb (length request) 2) _ _ (le-ltb (length request) 2 least))

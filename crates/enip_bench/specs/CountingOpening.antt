@@ -9,6 +9,7 @@ use Rattle.enip_adapter.specs.Calls.Call.{Begins_peer, Feeds}
 use Rattle.enip_adapter.specs.Turn.Output.{NoReply, Sends, Begins, Refuses}
 use Rattle.enip_adapter.specs.Turn.{Output}
 use Rattle.enip_adapter.specs.declared.adapter.Limits.{Limits}
+use Rattle.enip_adapter.specs.declared.peer.Rights.TheVariants.{Write}
 use Rattle.enip_adapter.specs.declared.shared.Listen.{Listen}
 use Rattle.enip_client.specs.Calls.{Lent, registers, opens}
 use Rattle.enip_client.specs.Client.{ClientState, Fed, new_client, fed, with_state}
@@ -45,8 +46,12 @@ handle_in_output (Sends bytes) = Err ARefusal
 handle_in_output (Begins handle) = Ok handle
 handle_in_output (Refuses full) = Err ARefusal
 
+-- a peer of the bench may write, and is of no group
+abbrev pub begins_peer : Call
+begins_peer = Begins_peer Write None
+
 abbrev pub begins : AdapterState → Result ℕ Setup
-begins adapter = handle_in_output (call_answer adapter Begins_peer).output
+begins adapter = handle_in_output (call_answer adapter begins_peer).output
 
 -- both ends
 pub record Ends : Type 0 where
@@ -82,7 +87,7 @@ exchange ends peer is_wanted (Ok lent) =
 -- a connection just opened between these ends, and a second session, registered
 abbrev pub counting_at_opening : Ends → ℕ → ℕ → CountingWorld
 counting_at_opening ends peer second = record {
-  adapter = after_call (after_call ends.adapter Begins_peer) (Feeds 0 second (frame (register_frame 0)));
+  adapter = after_call (after_call ends.adapter begins_peer) (Feeds 0 second (frame (register_frame 0)));
   client = ends.client;
   peer = peer;
   second = second;
@@ -96,7 +101,7 @@ counting_at_opening ends peer second = record {
 
 -- both ends as given, after the client's peer began
 abbrev pub ends_at_beginning : AdapterState → ClientState → Ends
-ends_at_beginning adapter client = record { adapter = after_call adapter Begins_peer; client = client }
+ends_at_beginning adapter client = record { adapter = after_call adapter begins_peer; client = client }
 
 -- the opening between these ends, up to the first refusal
 abbrev pub opening_between : AdapterState → ClientState → Result CountingWorld Setup

@@ -5,11 +5,10 @@ use Rattle.cip_ledger.specs.Ledger.{LedgerState}
 use Rattle.cip_objects.specs.Contents.{Contents}
 use Rattle.cip_owner.specs.Replies.{Reply}
 use Rattle.enip_adapter.specs.Calls.{AdapterState, after_call}
-use Rattle.enip_adapter.specs.Calls.Call.{Begins_peer}
 use Rattle.enip_adapter.specs.OwnWrites.{OwnWrite, WritesData, SetsStatus, SetsState, Prepares}
 use Rattle.enip_client.specs.Client.{ClientState}
 use Rattle.enip_client.specs.Hears.{HeardEvent}
-use Rattle.enip_bench.specs.CountingOpening.{Setup, ARefusal, Ends, begins}
+use Rattle.enip_bench.specs.CountingOpening.{Setup, ARefusal, Ends, begins_peer, begins}
 use Rattle.enip_bench.specs.CountingWorld.{CountingWorld, reply_heard, counting_step}
 use Rattle.enip_bench.specs.Events.{Event, Submit, Resend, Reach, Back, Other, Write, Shut, GiveUp}
 use Rattle.enip_bench.specs.Reached.{IsReached}
@@ -116,7 +115,7 @@ IsStepped old event new (Err error) = new ≡ old
 
 -- a peer began, or was refused
 abbrev pub HasBegun : AdapterState → AdapterState → Result ℕ BenchFault → Type 0
-HasBegun old new (Ok peer) = (begins old ≡ Ok peer) × (new ≡ after_call old Begins_peer)
+HasBegun old new (Ok peer) = (begins old ≡ Ok peer) × (new ≡ after_call old begins_peer)
 HasBegun old new (Err fault) = (fault ≡ faults.Setup) × (begins old ≡ Err ARefusal)
 
 -- an exchange led to these ends, or was refused

@@ -4,7 +4,8 @@ use Rattle.std.specs.Option.{IsSomeAnd}
 use Rattle.cip_manager.specs.Connection.{earliest_deadline}
 use Rattle.cip_objects.specs.Contents.{value_at}
 use Rattle.enip_adapter.specs.declared.adapter.Full.{Full}
-use Rattle.enip_adapter.specs.declared.adapter.Full.TheVariants.{Places, Handles}
+use Rattle.enip_adapter.specs.declared.adapter.Full.TheVariants.{Places, Handles, Share}
+use Rattle.enip_adapter.specs.declared.peer.Rights.TheVariants.{Write}
 use Rattle.enip_adapter.specs.declared.no_reply_reason.NoReplyReason.{NoReplyReason}
 use Rattle.enip_adapter.specs.declared.no_reply_reason.NoReplyReason.TheVariants as no_reply_reason
 use Rattle.enip_adapter.specs.Calls.{AdapterState, Call, call_meaning, call_answer, after_call}
@@ -71,10 +72,11 @@ abbrev pub IsFedKept : Option AdapterState → Option AdapterState → Call → 
 IsFedKept (Some old) (Some new) call buffer_old buffer_new fed = IsFed old new call buffer_old buffer_new fed
 IsFedKept old new call buffer_old buffer_new fed = ⊥
 
--- The status of adding a peer, and the peer's number.
+-- The status of adding a peer, and the peer's number. A group that holds its share has no slot left for the peer.
 abbrev pub full_status : Full → Status
 full_status Places = status.Places
 full_status Handles = status.Handles
+full_status Share = status.Places
 
 abbrev pub IsBegun : Output → ℕ → ℕ → ℕ → Type 0
 IsBegun (Begins handle) old new result = (result ≡ status_number status.Done) × (new ≡ handle)
@@ -83,7 +85,7 @@ IsBegun other old new result = ⊥
 
 abbrev pub IsBegunKept : Option AdapterState → ℕ → ℕ → ℕ → Type 0
 IsBegunKept None old new result = ⊥
-IsBegunKept (Some a) old new result = IsBegun (call_answer a Begins_peer).output old new result
+IsBegunKept (Some a) old new result = IsBegun (call_answer a (Begins_peer Write None)).output old new result
 
 -- The number of a check in C. 13 is that of ENIP_CONFIG_ORDER.
 abbrev pub check_number : ConfigurationRefusal → ℕ

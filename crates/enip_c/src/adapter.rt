@@ -3,6 +3,7 @@
 ghost use Rattle.std.specs.Prelude.{◌≡◌, ◌≤◌, ◌<◌, length, None, IfOk, IfErr, IfSome, is_some, is_none};
 ghost use Rattle.std.specs.Option.{option_map, IsSomeAnd};
 ghost use Rattle.enip_adapter.specs.Adapter.{feed_output};
+ghost use Rattle.enip_adapter.specs.declared.peer.Rights.TheVariants.{Write};
 ghost use Rattle.enip_adapter.specs.Calls.{Call, after_call, call_answer};
 ghost use Rattle.enip_adapter.specs.Discovery.{discovered};
 ghost use Rattle.enip_config.specs.Configured.{IsAdapterOf};
@@ -98,7 +99,7 @@ pub extern "C" fn enip_core_adapter_begin(
     peer: &mut u32,
 ) -> u32
     requires { IsLive kept.old.value }
-    ensures state { kept.new.value ≡ option_map (λ a. after_call a Call.Begins_peer) kept.old.value }
+    ensures state { kept.new.value ≡ option_map (λ a. after_call a (Call.Begins_peer Write None)) kept.old.value }
     ensures begun { IsBegunKept kept.old.value peer.old peer.new result }
 {
     let mut adapter = kept.take(alloc);
@@ -108,8 +109,8 @@ pub extern "C" fn enip_core_adapter_begin(
 }
 
 fn begin(adapter: &mut Adapter, peer: &mut u32) -> u32
-    ensures state { adapter.new ≡ after_call adapter.old Call.Begins_peer }
-    ensures begun { IsBegun (call_answer adapter.old Call.Begins_peer).output peer.old peer.new result }
+    ensures state { adapter.new ≡ after_call adapter.old (Call.Begins_peer Write None) }
+    ensures begun { IsBegun (call_answer adapter.old (Call.Begins_peer Write None)).output peer.old peer.new result }
 {
     match adapter.begin() {
         Ok(begun) => {
@@ -126,6 +127,7 @@ fn status_of(full: Full) -> Status
     match full {
         Full::Places => Status::Places,
         Full::Handles => Status::Handles,
+        Full::Share => Status::Places,
     }
 }
 

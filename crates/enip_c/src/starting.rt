@@ -11,7 +11,7 @@ ghost use Rattle.enip_c.specs.StateCalls.{kept_refusal, kept_status, fault_numbe
 use crate::adapter::check_number;
 use crate::adapter_pointer::KeptAdapter;
 use crate::status::Status;
-use enip_adapter::{Adapter, Limits, Listen};
+use enip_adapter::{Adapter, Limits, Listen, Shares};
 use enip_config::{Configuration, ConfigurationRefusal, LedgerConfig, LoadFault};
 use kept_adapter::{AdapterStart, LedgerStart};
 use saved_adapter::{RestoreFault, start};
@@ -128,6 +128,7 @@ fn start_of(configuration: Configuration, life: u64) -> AdapterStart
             first_handle: configuration.first_handle,
             first_id: configuration.first_id,
         },
+        shares: Shares::NONE,
         idle_timeout: 0,
         objects: configuration.objects,
     }

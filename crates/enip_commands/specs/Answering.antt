@@ -1,11 +1,12 @@
 -- What `enip answer` does at each line, and what it prints.
 use Rattle.std.specs.Prelude.{◌≡◌, ◌<◌, ◌+◌, ℕ, List, [], ◌∷◌, ◌++◌, length, drop, set, slice_index_or, codes}
-use Rattle.std.specs.Prelude.{Bool, true, false, if◌then◌else◌, Option, Some}
+use Rattle.std.specs.Prelude.{Bool, true, false, if◌then◌else◌, Option, Some, None}
 use Rattle.std.specs.Fmt.{decimal}
 use Rattle.std.specs.Io.KnownBytes.{Appends}
 use Rattle.hex.specs.Hex.{encode_lower}
 use Rattle.enip_adapter.specs.Adapter.{full_number}
 use Rattle.enip_adapter.specs.declared.adapter.Full.{Full}
+use Rattle.enip_adapter.specs.declared.peer.Rights.TheVariants.{Write}
 use Rattle.enip_adapter.specs.Calls.{AdapterState, call_meaning, call_answer, after_call}
 use Rattle.enip_adapter.specs.Calls.Call.{Begins_peer, Feeds, Ends_peer}
 use Rattle.enip_adapter.specs.Turn.{Output}
@@ -96,15 +97,15 @@ pub record IsFedTo (peer : ℕ) (number : PeerNumber) (piece : List ℕ) (old ne
 -- A piece of a peer that begins with it, unless the adapter refuses the peer.
 abbrev pub IsBegunWith : Output → PeerNumber → List ℕ → Desk → Desk → List ℕ → Type 0
 IsBegunWith (Begins peer) number piece old new printed =
-    IsFedTo peer number piece (with_adapter old (after_call old.adapter Begins_peer)) new printed
+    IsFedTo peer number piece (with_adapter old (after_call old.adapter (Begins_peer Write None))) new printed
 IsBegunWith (Refuses full) number piece old new printed =
-    (new ≡ with_adapter old (after_call old.adapter Begins_peer)) × (printed ≡ full_line number full)
+    (new ≡ with_adapter old (after_call old.adapter (Begins_peer Write None))) × (printed ≡ full_line number full)
 IsBegunWith other number piece old new printed = ⊥
 
 -- A piece of a peer with this entry. Nothing is fed or printed once the adapter has closed the peer.
 abbrev pub IsPieceRun : PeerEntry → PeerNumber → List ℕ → Desk → Desk → List ℕ → Type 0
 IsPieceRun Free number piece old new printed =
-    IsBegunWith (call_answer old.adapter Begins_peer).output number piece old new printed
+    IsBegunWith (call_answer old.adapter (Begins_peer Write None)).output number piece old new printed
 IsPieceRun (Taken peer) number piece old new printed = IsFedTo peer number piece old new printed
 IsPieceRun (Closed peer) number piece old new printed = (new ≡ old) × (printed ≡ [])
 

@@ -1,8 +1,9 @@
 //! `enip answer`: reads lines of hexadecimal pieces, and prints the answers of an adapter.
 
-ghost use Rattle.std.specs.Prelude.{ℕ, List, Some, IfOk, IfErr, OnOk, true, false};
+ghost use Rattle.std.specs.Prelude.{ℕ, List, Some, None, IfOk, IfErr, OnOk, true, false};
 ghost use Rattle.std.specs.Prelude.{◌≡◌, ◌≤◌, ◌<◌, ◌++◌, length};
 ghost use Rattle.std.specs.Io.KnownBytes.{Appends, Keeps};
+ghost use Rattle.enip_adapter.specs.declared.peer.Rights.TheVariants as rights;
 ghost use Rattle.enip_adapter.specs.Calls.{Call, call_meaning, call_answer, after_call};
 ghost use Rattle.enip_commands.specs.Answering.{Desk, desk_of, new_desk, peer_at, ended, IsFed, IsFedTo, IsPieceRun};
 ghost use Rattle.enip_commands.specs.Answering.{IsBegunWith, IsLinePrinted, IsAnswered, IsAnsweredBy, IsRefusedPiece};
@@ -191,7 +192,7 @@ impl Answerer {
     /// Begins a peer and feeds it the piece, or prints why it cannot begin.
     fn begin<W: Write>(&mut self, number: PeerNumber, output: &mut W) -> Result<(), ProgramFault>
         ensures fed { OnOk result ((printed : List ℕ)
-            × IsBegunWith (call_answer self.old.adapter Call.Begins_peer).output number self.old.piece.items
+            × IsBegunWith (call_answer self.old.adapter (Call.Begins_peer rights.Write None)).output number self.old.piece.items
             (desk_of self.old) (desk_of self.new) printed
             × Appends (W.contents output.old) (W.contents output.new) printed) }
         ensures failed { IfErr result IsOfDevices }

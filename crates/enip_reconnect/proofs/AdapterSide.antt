@@ -26,13 +26,14 @@ use Rattle.enip_wire.proofs.PieceLemmas.{parsed-written}
 use Rattle.enip_wire.proofs.WriteLemmas.{rr_again}
 use Rattle.enip_wire.proofs.RunningLemmas.{IsRunning, bytes_taken-short, bytes_taken-long, bytes_taken-within}
 use Rattle.enip_wire.proofs.RunningLemmas.{parsed-running}
+use Rattle.enip_adapter.specs.declared.peer.Rights.TheVariants.{Write}
 use Rattle.enip_adapter.specs.declared.peer.Session.{Session}
 use Rattle.enip_adapter.specs.declared.shared.Shared.{Shared}
 use Rattle.enip_adapter.specs.declared.no_reply_reason.NoReplyReason.TheVariants.{NoFrame, NotServed}
 use Rattle.enip_adapter.specs.Calls.{AdapterState, Held, Call, Meaning, call_meaning, after_call, call_answer}
 use Rattle.enip_adapter.specs.declared.adapter.Full.TheVariants.{Places, Handles}
 use Rattle.enip_adapter.specs.Calls.{after_meaning, answer_of, bytes_held, bytes_found, events_of_parsed}
-use Rattle.enip_adapter.specs.Calls.Call.{Begins_peer, Feeds, Ends_peer}
+use Rattle.enip_adapter.specs.Calls.Call.{Feeds, Ends_peer}
 use Rattle.enip_adapter.specs.Commands.{command_served}
 use Rattle.enip_adapter.specs.DeviceRuns.{device_requests, requests_of_calls, requests_by_session, requests_in_frame}
 use Rattle.enip_adapter.specs.DeviceRuns.{requests_in_rr, requests_by_route, objects_after, objects_answer, IsNoWrite}
@@ -52,6 +53,7 @@ use Rattle.enip_adapter.proofs.DeviceLemmas.{calls-run}
 use Rattle.enip_adapter.proofs.PeerLemmas.{at_state, held-call, session-call}
 use Rattle.enip_adapter.proofs.SoundLemmas.{IsSound, entry-of, no-entry}
 use Rattle.enip_client.specs.Frames.{register_frame, request_frame, sent as sent_frame}
+use Rattle.enip_reconnect.specs.World.{begins_peer}
 
 -- The adapter serves this peer: it has this session, which is not closed, and holds these bytes of its next frame.
 pub record Holds (a : AdapterState) (peer : ℕ) (session : Session) (bytes : List ℕ) : Type 0 where
@@ -247,7 +249,8 @@ takes-frame a now peer session held piece f sound holds ok is =
 -- ---- the two frames that a client of ours sends
 
 abbrev pub registered_session : ℕ → Session
-registered_session peer = record { handle = peer; registered = true; closed = false }
+registered_session peer =
+    record { handle = peer; registered = true; closed = false; rights = Write; group = None }
 
 -- The frame that answers a RegisterSession: the same command and context, and the session that is registered.
 abbrev pub register_reply : ℕ → ℕ → Frame
@@ -263,7 +266,7 @@ pub record Registers (a : AdapterState) (now peer : ℕ) (piece : List ℕ) (num
   pub holds : Holds (after_call a (Feeds now peer piece)) peer (registered_session peer) []
 
 register-served : (shared : Shared) (peer number : ℕ) →
-    command_served shared (new_session peer) (register_frame number)
+    command_served shared (new_session peer Write None) (register_frame number)
     ≡ leaving shared (record {
       registered = true;
       answer = replies.Sends (frame (register_reply peer number));
@@ -287,7 +290,7 @@ is-register number = record {
 }
 
 pub registers-peer : (a : AdapterState) (now peer : ℕ) (held piece : List ℕ) (number : ℕ) → IsSound a →
-    Holds a peer (new_session peer) held → held ++ piece ≡ frame (register_frame number) →
+    Holds a peer (new_session peer Write None) held → held ++ piece ≡ frame (register_frame number) →
     Registers a now peer piece number
 registers-peer a now peer held piece number sound holds is =
     let f : Frame = register_frame number in
@@ -297,9 +300,9 @@ registers-peer a now peer held piece number sound holds is =
       answer = replies.Sends (frame (register_reply peer number));
       close = false;
     }) in
-    let takes : TakesFrame a now peer (new_session peer) piece f served =
-    subst (TakesFrame a now peer (new_session peer) piece f) (register-served shared peer number)
-    (takes-frame a now peer (new_session peer) held piece f sound holds (is-register number) is) in
+    let takes : TakesFrame a now peer (new_session peer Write None) piece f served =
+    subst (TakesFrame a now peer (new_session peer Write None) piece f) (register-served shared peer number)
+    (takes-frame a now peer (new_session peer Write None) held piece f sound holds (is-register number) is) in
     record {
       taken = takes.taken;
       answer = takes.answer;
@@ -357,10 +360,10 @@ request-reached : (shared : Shared) (peer number : ℕ) (request : List ℕ) →
     requests_in_frame shared (registered_session peer) (request_frame peer number request)
     ≡ (UNCONNECTED_LIMIT, request) ∷ []
 request-reached shared peer number request least small routes =
-    ap (λ b. cond (not b) [] (requests_in_rr (rr_body_of (rr_body_bytes request)))) (eq-eqb peer peer refl)
-    ∙ (ap requests_in_rr (rr_again request (omega (arith, small)))
-    ∙ (ap (λ b. cond b [] (requests_by_route request (route_of request))) (le-ltb (length request) 2 least)
-    ∙ ap (requests_by_route request) routes))
+    ap (λ b. cond (not b) [] (requests_in_rr Write (rr_body_of (rr_body_bytes request)))) (eq-eqb peer peer refl)
+    ∙ (ap (requests_in_rr Write) (rr_again request (omega (arith, small)))
+    ∙ (ap (λ b. cond b [] (requests_by_route Write request (route_of request))) (le-ltb (length request) 2 least)
+    ∙ ap (requests_by_route Write request) routes))
 
 -- A request's frame is one.
 pub is-request : (peer number : ℕ) (request : List ℕ) → peer < 2 ^ 32 → length request ≤ UNCONNECTED_LIMIT →
@@ -423,8 +426,8 @@ reaches-device a now peer held piece number request sound below holds least smal
 pub record BeginsAs (a : AdapterState) (peer : ℕ) : Type 0 where
   pub below : peer < 2 ^ 32
   pub fresh : session_of a.state peer ≡ None
-  pub device : (after_call a Begins_peer).state.shared.objects ≡ a.state.shared.objects
-  pub holds : Holds (after_call a Begins_peer) peer (new_session peer) []
+  pub device : (after_call a begins_peer).state.shared.objects ≡ a.state.shared.objects
+  pub holds : Holds (after_call a begins_peer) peer (new_session peer Write None) []
 
 -- The device after a call without a request.
 pub device-same : (a : AdapterState) (call : Call) → IsNoWrite call → requests_of_calls a (call ∷ []) ≡ [] →
@@ -435,13 +438,13 @@ device-same a call free none =
 -- By whether all slots are taken, and whether all handles were assigned.
 abbrev begun_by : State → Bool → Bool → TurnResult
 begun_by s full late = cond full (turned s (Refuses Places) false)
-    (cond late (turned s (Refuses Handles) false) (turned (with_peer s) (Begins s.next_handle) false))
+    (cond late (turned s (Refuses Handles) false) (turned (with_peer s Write None) (Begins s.next_handle) false))
 
 -- The handle that was assigned, and the session of the peer.
 record IsAssigned (s : State) (peer : ℕ) (t : TurnResult) : Type 0 where
   next : s.next_handle ≡ peer
   below : peer < 2 ^ 32
-  found : session_of s peer ≡ None → session_of t.state peer ≡ Some (new_session peer)
+  found : session_of s peer ≡ None → session_of t.state peer ≡ Some (new_session peer Write None)
 
 assigned-by : (s : State) (peer : ℕ) (full late : Bool) → ltb 0xffffffff s.next_handle ≡ late →
     (begun_by s full late).answer.output ≡ Begins peer → IsAssigned s peer (begun_by s full late)
@@ -453,14 +456,14 @@ assigned-by s peer false false e begins =
       next = same;
       below = omega (arith, same, ltb-false 0xffffffff s.next_handle e);
       found = λ none. first_with-behind (λ (p : Session). p.handle) peer s.peers _ none
-          ∙ (ap (λ b. cond b (Some (new_session s.next_handle)) None) (eq-eqb s.next_handle peer same)
-          ∙ ap (λ n. Some (new_session n)) same);
+          ∙ (ap (λ b. cond b (Some (new_session s.next_handle Write None)) None) (eq-eqb s.next_handle peer same)
+          ∙ ap (λ n. Some (new_session n Write None)) same);
     }
 
-pub begins-as : (a : AdapterState) (peer : ℕ) → IsSound a → (call_answer a Begins_peer).output ≡ Begins peer →
+pub begins-as : (a : AdapterState) (peer : ℕ) → IsSound a → (call_answer a begins_peer).output ≡ Begins peer →
     BeginsAs a peer
 begins-as a peer sound output =
-    let is : IsAssigned a.state peer (begun a.state) =
+    let is : IsAssigned a.state peer (begun a.state Write None) =
     assigned-by a.state peer (not (ltb (length a.state.peers) a.state.places)) (ltb 0xffffffff a.state.next_handle) refl
     output in
     let fresh : session_of a.state peer ≡ None =
@@ -470,11 +473,11 @@ begins-as a peer sound output =
     record {
       below = is.below;
       fresh = fresh;
-      device = device-same a Begins_peer tt refl;
+      device = device-same a begins_peer tt refl;
       holds = record {
         found = is.found fresh;
         alive = refl;
-        held = held-call peer a Begins_peer tt ∙ ap bytes_found (no-entry a peer sound.same fresh);
+        held = held-call peer a begins_peer tt ∙ ap bytes_found (no-entry a peer sound.same fresh);
       };
     }
 

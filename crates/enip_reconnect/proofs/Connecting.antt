@@ -8,7 +8,6 @@ use Rattle.cip_commander.specs.Worlds as messages
 use Rattle.cip_ledger.specs.Laws.{IsOfAnother}
 use Rattle.cip_ledger.specs.Requests.{Command}
 use Rattle.enip_adapter.specs.Calls.{AdapterState, call_answer, after_call}
-use Rattle.enip_adapter.specs.Calls.Call.{Begins_peer}
 use Rattle.enip_adapter.specs.SendRRData.{Executes, route_of}
 use Rattle.enip_adapter.specs.Turn.{Output}
 use Rattle.enip_adapter.specs.Turn.Output.{NoReply, Sends, Begins, Refuses}
@@ -19,7 +18,7 @@ use Rattle.enip_client.specs.declared.fault.ClientFault.{ClientFault}
 use Rattle.enip_client.specs.declared.wants.Wants.{Wants}
 use Rattle.enip_wire.specs.Frames.{frame}
 use Rattle.enip_reconnect.specs.Events.{Connect, Register, Send, Ask}
-use Rattle.enip_reconnect.specs.World.{TcpConnection, Stream, Ends, stream_with, begun, appended, sending}
+use Rattle.enip_reconnect.specs.World.{TcpConnection, Stream, Ends, stream_with, begins_peer, begun, appended, sending}
 use Rattle.enip_reconnect.proofs.AdapterSide.{BeginsAs, begins-as, device-same}
 use Rattle.enip_reconnect.proofs.ClientSide.{new-is, registers-new, registers-registering, registers-free}
 use Rattle.enip_reconnect.proofs.ClientSide.{registers-asking, Registers, asks-free, asks-other, asks-new}
@@ -59,59 +58,59 @@ first-found handle streams s found =
 
 -- The ends once the adapter answered.
 abbrev begun_on : Ends → Wants → Output → Ends
-begun_on ends wants output = record (begun ends wants output) { adapter = after_call ends.adapter Begins_peer }
+begun_on ends wants output = record (begun ends wants output) { adapter = after_call ends.adapter begins_peer }
 
 begins : (own : ℕ) (ends : Ends) (sent back : List (ℕ × List ℕ)) (wants : Wants) (output : Output) →
     ((handle : ℕ) → output ≡ Begins handle → BeginsAs ends.adapter handle) → Tracks own (on ends None) sent back →
-    Comes own (on ends None) (begun_on (on ends None) wants output) (Begins_peer ∷ []) [] sent back
+    Comes own (on ends None) (begun_on (on ends None) wants output) (begins_peer ∷ []) [] sent back
 begins own ends sent back wants output assigned is = by output assigned
   where
     a : AdapterState
     a = ends.adapter
 
     same : in_messages (on ends None) sent back
-        ≡ with_device (on ends None) sent back (after_call ends.adapter Begins_peer).state.shared.objects
-    same = ap (with_device (on ends None) sent back) (sym (device-same ends.adapter Begins_peer tt refl))
+        ≡ with_device (on ends None) sent back (after_call ends.adapter begins_peer).state.shared.objects
+    same = ap (with_device (on ends None) sent back) (sym (device-same ends.adapter begins_peer tt refl))
 
-    flying : AreFlying own (after_call ends.adapter Begins_peer) sent ends.streams
-    flying = flying-call own ends.adapter Begins_peer sent ends.streams (λ peer s found. tt) is.streams
+    flying : AreFlying own (after_call ends.adapter begins_peer) sent ends.streams
+    flying = flying-call own ends.adapter begins_peer sent ends.streams (λ peer s found. tt) is.streams
 
-    nobody : (after : Ends) → after ≡ record (on ends None) { adapter = after_call ends.adapter Begins_peer } →
-        Comes own (on ends None) after (Begins_peer ∷ []) [] sent back
+    nobody : (after : Ends) → after ≡ record (on ends None) { adapter = after_call ends.adapter begins_peer } →
+        Comes own (on ends None) after (begins_peer ∷ []) [] sent back
     nobody after it =
-        subst (λ after. Comes own (on ends None) after (Begins_peer ∷ []) [] sent back) (sym it)
+        subst (λ after. Comes own (on ends None) after (begins_peer ∷ []) [] sent back) (sym it)
         (stays own _ _ _ sent back (record {
-          sound = sound-call ends.adapter Begins_peer is.sound;
+          sound = sound-call ends.adapter begins_peer is.sound;
           connection = tt;
           streams = flying;
         }) same refl refl)
 
     by : (output : Output) → ((handle : ℕ) → output ≡ Begins handle → BeginsAs ends.adapter handle) →
-        Comes own (on ends None) (begun_on (on ends None) wants output) (Begins_peer ∷ []) [] sent back
+        Comes own (on ends None) (begun_on (on ends None) wants output) (begins_peer ∷ []) [] sent back
     by (NoReply why) assigned = nobody _ refl
     by (Sends bytes) assigned = nobody _ refl
     by (Refuses full) assigned = nobody _ refl
     by (Begins handle) assigned =
         let new : BeginsAs ends.adapter handle = assigned handle refl in
-        let flies : Flies own (after_call ends.adapter Begins_peer) sent (new_stream handle) (Nothing false) =
+        let flies : Flies own (after_call ends.adapter begins_peer) sent (new_stream handle) (Nothing false) =
         record { below = new.below; held = []; holds = new.holds; stream = refl; was_sent = tt } in
         stays own _ _ _ sent back (record {
-          sound = sound-call ends.adapter Begins_peer is.sound;
+          sound = sound-call ends.adapter begins_peer is.sound;
           connection = record {
             below = new.below;
             phase = New;
             runs = record { client = new-is wants; stream = refl; asked = refl; was_back = tt };
-            flies = λ s found. subst (λ x. Flies own (after_call ends.adapter Begins_peer) sent x (Nothing false))
+            flies = λ s found. subst (λ x. Flies own (after_call ends.adapter begins_peer) sent x (Nothing false))
                 (first-found handle ends.streams s found) flies;
           };
-          streams = first-flies own (after_call ends.adapter Begins_peer) sent handle handle ends.streams flies flying;
+          streams = first-flies own (after_call ends.adapter begins_peer) sent handle handle ends.streams flies flying;
         }) same refl refl
 
 pub connects : (own : ℕ) (ends : Ends) (sent back : List (ℕ × List ℕ)) (wants : Wants) (connection : Option TcpConnection) →
     Tracks own (on ends connection) sent back → StepComes own (on ends connection) (Connect wants) sent back
 connects own ends sent back wants (Some connection) is = stays own _ _ _ sent back is refl refl refl
 connects own ends sent back wants None is =
-    begins own ends sent back wants (call_answer ends.adapter Begins_peer).output
+    begins own ends sent back wants (call_answer ends.adapter begins_peer).output
     (λ handle output. begins-as ends.adapter handle is.sound output) is
 
 -- ---- RegisterSession

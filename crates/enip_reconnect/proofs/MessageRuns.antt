@@ -15,7 +15,7 @@ use Rattle.cip_commander.proofs.Images.{IsSound, image, step-image, step-sound, 
 use Rattle.cip_commander.proofs.Rising.{all_append}
 use Rattle.cip_owner.specs.Owned.{OwnedState}
 use Rattle.enip_adapter.specs.DeviceRuns.{objects_after, objects_answer, requests_of_calls}
-use Rattle.enip_adapter.proofs.SoundLemmas.{sound-new}
+use Rattle.enip_adapter.proofs.SoundLemmas.{sound-shared}
 use Rattle.enip_reconnect.specs.Events.{Event, NewCommand, Abandon, Connect, Register, Send, Ask, Arrive, Receive}
 use Rattle.enip_reconnect.specs.Events.{Break, End, Other}
 use Rattle.enip_reconnect.specs.Laws.{IsOfOthers, AreOfOthers, MessageEvent, opening_in_messages, decisions_in}
@@ -253,7 +253,7 @@ module _ (opening : Opening) (range : IsInRange opening.commander) where
 
 opening-tracks : (opening : Opening) → Tracks opening.commander.originator (ends_at opening) [] []
 opening-tracks opening = record {
-  sound = sound-new (device_at opening) opening.listen opening.limits;
+  sound = sound-shared (device_at opening) opening.listen opening.limits opening.shares;
   connection = tt;
   streams = λ peer stream found. absurd (cc);
 }

@@ -124,7 +124,7 @@ end own ends sent back peer is = ended-as own ends sent back peer (stream_with p
 -- A call that is not for the originator's peers is for others than each of them.
 for-other : (ends : Ends) (call : Call) (peer : ℕ) → is_for_originator ends call ≡ false →
     is_originators ends peer ≡ true → IsForOther peer call
-for-other ends Begins_peer peer others own = tt
+for-other ends (Begins_peer rights group) peer others own = tt
 for-other ends (Feeds now other piece) peer others own = λ same.
     let bad : true ≡ false = sym own ∙ (ap (is_originators ends) (sym same) ∙ others) in cc
 for-other ends (Ends_peer other) peer others own = λ same.

@@ -6,7 +6,7 @@ use Rattle.cip_commander.specs.Outcome.{Outcome, outcome_of_text}
 use Rattle.cip_commander.specs.Worlds.{BothEnds}
 use Rattle.cip_ledger.specs.Device.{Device, exec_device}
 use Rattle.cip_owner.specs.Owned.{OwnedState}
-use Rattle.enip_adapter.proofs.SoundLemmas.{IsSound, sound-calls, sound-new}
+use Rattle.enip_adapter.proofs.SoundLemmas.{IsSound, sound-calls, sound-shared}
 use Rattle.enip_reconnect.specs.Events.{Event}
 use Rattle.enip_reconnect.specs.Laws.{AmountsTo, AreOfOthers, message_ends}
 use Rattle.enip_reconnect.specs.Retry.{retry, retry_law, IsAccepted}
@@ -34,7 +34,7 @@ retries opening events wants now peer request ledger range others pending small 
     let amounts : AmountsTo opening events to.0 = to.1.1.0 in
     let both : BothEnds OwnedState = message_ends opening to.0 in
     let sound : IsSound ends.adapter =
-    sound-run events (ends_at opening) (sound-new (device_at opening) opening.listen opening.limits) in
+    sound-run events (ends_at opening) (sound-shared (device_at opening) opening.listen opening.limits opening.shares) in
     let done : IsAnsweredDone both request =
     answered-done opening range to.0 amounts.others request ledger
     (ap (λ (c : CommanderState). c.pending) (sym amounts.commander) ∙ pending)

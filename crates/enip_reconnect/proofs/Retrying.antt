@@ -9,7 +9,7 @@ use Rattle.cip_commander.specs.declared.refusal.TheConstants.{LONGEST_EMBEDDED}
 use Rattle.cip_ledger.specs.Device.{exec_device}
 use Rattle.cip_ledger.specs.Requests.{Command}
 use Rattle.enip_adapter.specs.Calls.{AdapterState, Call, call_answer, call_meaning, after_call}
-use Rattle.enip_adapter.specs.Calls.Call.{Begins_peer, Feeds}
+use Rattle.enip_adapter.specs.Calls.Call.{Feeds}
 use Rattle.enip_adapter.specs.Runs.{after_calls}
 use Rattle.enip_adapter.specs.Serving.{output_bytes}
 use Rattle.enip_adapter.specs.Turn.{Answer}
@@ -26,7 +26,7 @@ use Rattle.enip_wire.specs.Frames.{Frame, frame, IsFrame}
 use Rattle.enip_wire.proofs.FrameLemmas.{length-frame}
 use Rattle.enip_reconnect.specs.Events.{Event, Connect, Register, Send, Arrive, Receive}
 use Rattle.enip_reconnect.specs.Retry.{ALL_BYTES, retry, IsAccepted}
-use Rattle.enip_reconnect.specs.World.{TcpConnection, Stream, Ends, stream_with, with_stream, appended, sending, begun, arrived, feed_calls, received, heard, accepting, ends_step, ends_run}
+use Rattle.enip_reconnect.specs.World.{TcpConnection, Stream, Ends, stream_with, with_stream, appended, sending, begins_peer, begun, arrived, feed_calls, received, heard, accepting, ends_step, ends_run}
 use Rattle.enip_reconnect.proofs.AdapterSide.{BeginsAs, begins-as, Registers, registers-peer, Reaches, reaches-device, route_of-do_once}
 use Rattle.enip_reconnect.proofs.ClientPieces.{hears_whole, fed-whole}
 use Rattle.enip_reconnect.proofs.ClientReplies.{IsTaken, exec_device-taken}
@@ -167,11 +167,11 @@ module _ (base : Ends) (request : List ℕ) (peer now : ℕ) (wants : Wants) whe
   abbrev after_connect : List Event
   after_connect = Register ∷ after_register
 
-  connects-step : (call_answer a Begins_peer).output ≡ Begins peer →
+  connects-step : (call_answer a begins_peer).output ≡ Begins peer →
       ends_step (record ends { connection = None }) (Connect wants)
-      ≡ stage ends peer (after_call a Begins_peer) (new_client wants) None [] []
+      ≡ stage ends peer (after_call a begins_peer) (new_client wants) None [] []
   connects-step begins =
-      ap (λ output. record (begun (record ends { connection = None }) wants output) { adapter = after_call a Begins_peer }) begins
+      ap (λ output. record (begun (record ends { connection = None }) wants output) { adapter = after_call a begins_peer }) begins
 
   sends-step : (b : AdapterState) (c : ClientState) (lent : Lent) → asks c.state message ≡ Ok lent →
       ends_step (stage ends peer b c None [] []) Send
@@ -199,14 +199,14 @@ module _ (base : Ends) (request : List ℕ) (peer now : ℕ) (wants : Wants) whe
         connection = Some (connection ends peer (heard_client ends peer c f) None []);
       }
 
-  pub retried : (reply : List ℕ) → IsSound a → (call_answer a Begins_peer).output ≡ Begins peer →
+  pub retried : (reply : List ℕ) → IsSound a → (call_answer a begins_peer).output ≡ Begins peer →
       length request ≤ LONGEST_EMBEDDED →
       outcome_of_text (exec_device a.state.shared.objects UNCONNECTED_LIMIT message).answer ≡ Done reply →
       IsAccepted ends (ends_run ends (retry wants now peer))
   retried reply sound begins small done =
       let new : BeginsAs a peer = begins-as a peer sound begins in
-      let a1 : AdapterState = after_call a Begins_peer in
-      let sound1 : IsSound a1 = sound-call a Begins_peer sound in
+      let a1 : AdapterState = after_call a begins_peer in
+      let sound1 : IsSound a1 = sound-call a begins_peer sound in
       let c0 : ClientState = new_client wants in
       let register : RegistersClient c0 = registers-new c0 (new-is wants) in
       let c1 : ClientState = after_sending c0 RegisterAction in

@@ -10,6 +10,7 @@ use Rattle.cip_commander.specs.Worlds.{BothEnds}
 use Rattle.cip_ledger.specs.Laws.{IsOfAnother}
 use Rattle.cip_ledger.specs.Requests.{Command}
 use Rattle.cip_owner.specs.Owned.{OwnedState}
+use Rattle.enip_adapter.specs.declared.peer.Rights.TheVariants.{Write}
 use Rattle.enip_adapter.specs.declared.peer.Session.{Session}
 use Rattle.enip_adapter.specs.Calls.{AdapterState}
 use Rattle.enip_adapter.specs.SendRRData.{Executes, route_of}
@@ -36,8 +37,9 @@ pub data Flight : Type 0 where
 
 -- The session at the adapter meanwhile, and the bytes.
 abbrev pub session_in : ℕ → Flight → Session
-session_in peer (Nothing registered) = record { handle = peer; registered = registered; closed = false }
-session_in peer (Registration context) = new_session peer
+session_in peer (Nothing registered) =
+    record { handle = peer; registered = registered; closed = false; rights = Write; group = None }
+session_in peer (Registration context) = new_session peer Write None
 session_in peer (Message context position command) = registered_session peer
 session_in peer (Inquiry context request) = registered_session peer
 

@@ -4,12 +4,11 @@ use Rattle.cip_commander.specs.CommanderRule.{IsInRange, abandoned}
 use Rattle.cip_commander.specs.declared.refusal.TheConstants.{LONGEST_EMBEDDED}
 use Rattle.cip_ledger.specs.Ledger.{LedgerState, slot_of}
 use Rattle.enip_adapter.specs.Calls.{call_answer}
-use Rattle.enip_adapter.specs.Calls.Call.{Begins_peer}
 use Rattle.enip_adapter.specs.Turn.Output.{Begins}
 use Rattle.enip_client.specs.declared.wants.Wants.{Wants}
 use Rattle.enip_reconnect.specs.Events.{Event, Connect, Register, Send, Arrive, Receive, Break}
 use Rattle.enip_reconnect.specs.Laws.{AreOfOthers}
-use Rattle.enip_reconnect.specs.World.{Ends, Opening, ends_at, ends_run, ends_after}
+use Rattle.enip_reconnect.specs.World.{Ends, Opening, begins_peer, ends_at, ends_run, ends_after}
 
 -- More bytes than are ever in flight on one TCP connection.
 abbrev pub ALL_BYTES : ℕ
@@ -40,7 +39,7 @@ retry_law = (opening : Opening) (events : List Event) (wants : Wants) (now peer 
     IsInRange opening.commander → AreOfOthers opening.commander.originator (ends_at opening) events →
     let ends = ends_after opening events in
     ends.commander.pending ≡ Some request → length request ≤ LONGEST_EMBEDDED →
-    (call_answer ends.adapter Begins_peer).output ≡ Begins peer →
+    (call_answer ends.adapter begins_peer).output ≡ Begins peer →
     ends.adapter.state.shared.objects.ledger ≡ Some ledger → opening.commander.life ≡ ledger.life →
     HasSlotFor opening.commander.originator ledger →
     IsAccepted ends (ends_run ends (retry wants now peer))

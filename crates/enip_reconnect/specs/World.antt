@@ -13,8 +13,10 @@ use Rattle.cip_ledger.specs.Device.{Device, device_of}
 use Rattle.cip_ledger.specs.Ledger.{empty_ledger}
 use Rattle.cip_objects.specs.Contents.{Contents}
 use Rattle.enip_adapter.specs.declared.adapter.Limits.{Limits}
+use Rattle.enip_adapter.specs.declared.adapter.Shares.{Shares}
+use Rattle.enip_adapter.specs.declared.peer.Rights.TheVariants.{Write}
 use Rattle.enip_adapter.specs.declared.shared.Listen.{Listen}
-use Rattle.enip_adapter.specs.Adapter.{new_adapter}
+use Rattle.enip_adapter.specs.Adapter.{shared_adapter}
 use Rattle.enip_adapter.specs.Calls.{AdapterState, Call, call_meaning, call_answer}
 use Rattle.enip_adapter.specs.Calls.Call.{Begins_peer, Feeds, Ends_peer, Ticks, Writes}
 use Rattle.enip_adapter.specs.Lookup.{first_with, with_first}
@@ -57,13 +59,14 @@ pub record Ends : Type 0 where
   pub accepted : List (ℕ × List ℕ)
 
 -- How both ends begin: an adapter over these objects and an empty ledger of so many slots, in this life of the device,
--- and a commander. No peer is connected.
+-- with shares for groups of peers, and a commander. No peer is connected.
 pub record Opening : Type 0 where
   pub slots : ℕ
   pub life : ℕ
   pub objects : Contents
   pub listen : Listen
   pub limits : Limits
+  pub shares : Shares
   pub commander : CommanderState
 
 abbrev pub device_at : Opening → Device
@@ -71,7 +74,7 @@ device_at opening = device_of (Some (empty_ledger opening.slots opening.life)) o
 
 abbrev pub ends_at : Opening → Ends
 ends_at opening = record {
-  adapter = new_adapter (device_at opening) opening.listen opening.limits;
+  adapter = shared_adapter (device_at opening) opening.listen opening.limits opening.shares;
   commander = opening.commander;
   given = sends opening.commander opening.commander.pending;
   connection = None;
@@ -96,15 +99,19 @@ abbrev pub is_originators : Ends → ℕ → Bool
 is_originators ends peer = is_some (stream_with peer ends.streams)
 
 abbrev pub is_for_originator : Ends → Call → Bool
-is_for_originator ends Begins_peer = false
+is_for_originator ends (Begins_peer rights group) = false
 is_for_originator ends (Feeds now peer piece) = is_originators ends peer
 is_for_originator ends (Ends_peer peer) = is_originators ends peer
 is_for_originator ends (Ticks now) = false
 is_for_originator ends (Writes write) = false
 
+-- A peer of the originator may write, and is of no group.
+abbrev pub begins_peer : Call
+begins_peer = Begins_peer Write None
+
 -- The adapter begins a peer if the originator has no TCP connection.
 abbrev pub begin_calls : Option TcpConnection → List Call
-begin_calls None = Begins_peer ∷ []
+begin_calls None = begins_peer ∷ []
 begin_calls (Some connection) = []
 
 -- Bytes that arrive at the adapter are fed.
@@ -147,7 +154,7 @@ begun ends wants (Refuses full) = ends
 
 -- There is one connection at a time.
 abbrev pub connected : Ends → Wants → Option TcpConnection → Ends
-connected ends wants None = begun ends wants (call_answer ends.adapter Begins_peer).output
+connected ends wants None = begun ends wants (call_answer ends.adapter begins_peer).output
 connected ends wants (Some connection) = ends
 
 -- Bytes are sent on a stream, if it did not end.

@@ -11,7 +11,7 @@ use Rattle.cip_bytes.specs.Reading.{map_ok, ◌>>=◌}
 use Rattle.cip_bytes.specs.declared.protocol.Command.{Command}
 use Rattle.cip_bytes.specs.declared.protocol.Command.TheVariants.{SendRRData, SendUnitData}
 use Rattle.cip_bytes.proofs.Bytes.{AreBytes-take, AreBytes-drop, AreBytes-append}
-use Rattle.cip_class3.specs.Item.{sequence_count_of}
+use Rattle.cip_class3.specs.Item.{sequence_count_of, message_of}
 use Rattle.cip_class3.specs.TargetRule.{TargetState, has_accepted_size, is_held}
 use Rattle.cip_ledger.specs.Runs.{Request}
 use Rattle.cip_manager.specs.declared.connection.Connection.{Connection}
@@ -23,7 +23,9 @@ use Rattle.enip_wire.specs.Frames.{Frame}
 use Rattle.enip_wire.specs.Items.{Item, size_at, first_items, whole, items_of, after as bytes_after}
 use Rattle.enip_wire.specs.Stream.{Parsed, bytes_taken, held_and_taken, parsed, cleared}
 use Rattle.enip_wire.specs.Stream.Parsed.{Incomplete, WholeFrame, TooLongHeader}
+use Rattle.enip_adapter.specs.declared.peer.Rights.{Rights}
 use Rattle.enip_adapter.specs.declared.peer.Session.{Session}
+use Rattle.enip_adapter.specs.Rights.{is_refused}
 use Rattle.enip_adapter.specs.declared.shared.Shared.{Shared}
 use Rattle.enip_adapter.specs.Calls.{AdapterState, Call, Held, Meaning, call_meaning, after_call, bytes_found}
 use Rattle.enip_adapter.specs.Calls.{bytes_held}
@@ -169,37 +171,42 @@ all_if : (t : Bool) (a b : List Request) → AllOfBytes a → AllOfBytes b → A
 all_if true a b one other = one
 all_if false a b one other = other
 
-route_bytes : (request : List ℕ) (to : Route) → AreBytes request → AllOfBytes (requests_by_route request to)
-route_bytes request (Opens layout bytes) fits = tt
-route_bytes request (Closes bytes) fits = tt
-route_bytes request Executes fits = (fits, tt)
+route_bytes : (rights : Rights) (request : List ℕ) (to : Route) → AreBytes request
+    → AllOfBytes (requests_by_route rights request to)
+route_bytes rights request (Opens layout bytes) fits = tt
+route_bytes rights request (Closes bytes) fits = tt
+route_bytes rights request Executes fits = all_if (is_refused rights request) _ _ tt (fits, tt)
 
-in_rr : (body : Result (List ℕ) CpfFault) → ((bytes : List ℕ) → body ≡ Ok bytes → AreBytes bytes)
-    → AllOfBytes (requests_in_rr body)
-in_rr (Err fault) fits = tt
-in_rr (Ok request) fits =
-    all_if (nat_lt (length request) 2) _ _ tt (route_bytes request (route_of request) (fits request refl))
+in_rr : (rights : Rights) (body : Result (List ℕ) CpfFault) → ((bytes : List ℕ) → body ≡ Ok bytes → AreBytes bytes)
+    → AllOfBytes (requests_in_rr rights body)
+in_rr rights (Err fault) fits = tt
+in_rr rights (Ok request) fits =
+    all_if (nat_lt (length request) 2) _ _ tt (route_bytes rights request (route_of request) (fits request refl))
 
-by_target : (target : TargetState) (item : List ℕ) → AreBytes item → AllOfBytes (requests_by_target target item)
-by_target target item fits =
+by_target : (rights : Rights) (target : TargetState) (item : List ℕ) → AreBytes item
+    → AllOfBytes (requests_by_target rights target item)
+by_target rights target item fits =
     all_if (has_accepted_size target item) _ _
-    (all_if (is_held target.held (sequence_count_of item)) _ _ tt (AreBytes-drop 2 item fits, tt)) tt
+    (all_if (is_held target.held (sequence_count_of item)) _ _ tt
+    (all_if (is_refused rights (message_of item)) _ _ tt (AreBytes-drop 2 item fits, tt))) tt
 
-by_connection : (item : List ℕ) (o : Option Connection) → AreBytes item → AllOfBytes (requests_by_connection item o)
-by_connection item None fits = tt
-by_connection item (Some connection) fits = by_target connection.target item fits
+by_connection : (rights : Rights) (item : List ℕ) (o : Option Connection) → AreBytes item
+    → AllOfBytes (requests_by_connection rights item o)
+by_connection rights item None fits = tt
+by_connection rights item (Some connection) fits = by_target rights connection.target item fits
 
 in_unit : (shared : Shared) (session : Session) (body : Result (ℕ × List ℕ) CpfFault)
     → ((made : ℕ × List ℕ) → body ≡ Ok made → AreBytes made.1) → AllOfBytes (requests_in_unit shared session body)
 in_unit shared session (Err fault) fits = tt
 in_unit shared session (Ok (id, item)) fits =
-    by_connection item (find (is_named session.handle id) shared.manager.connections) (fits (id, item) refl)
+    by_connection session.rights item (find (is_named session.handle id) shared.manager.connections)
+    (fits (id, item) refl)
 
 by_command : (shared : Shared) (session : Session) (f : Frame) (command : Option Command) → AreBytes f.body
     → AllOfBytes (requests_by_command shared session f command)
 by_command shared session f (Some SendRRData) fits =
     all_if (not (is_registered_as session f.header.session)) _ _ tt
-    (in_rr (rr_body_of f.body) (λ bytes same. rr_body_bytes f.body bytes fits same))
+    (in_rr session.rights (rr_body_of f.body) (λ bytes same. rr_body_bytes f.body bytes fits same))
 by_command shared session f (Some SendUnitData) fits =
     all_if (not (is_registered_as session f.header.session)) _ _ tt
     (in_unit shared session (unit_body_of f.body) (λ made same. unit_body_bytes f.body made fits same))
@@ -219,7 +226,7 @@ by_session shared f (Some session) fits = all_if session.closed _ _ tt (in_frame
 -- ---- the steps of events
 
 abbrev BringsBytes : Event → Type 0
-BringsBytes Begin = ⊤
+BringsBytes (Begin rights group) = ⊤
 BringsBytes (End peer) = ⊤
 BringsBytes (At now) = ⊤
 BringsBytes (Framed peer f) = AreBytes f.body
@@ -232,7 +239,7 @@ requested_bytes [] all = tt
 requested_bytes (request ∷ requests) all = (all.0, requested_bytes requests all.1)
 
 event_bytes : (s : State) (event : Event) → BringsBytes event → AllByRecursion IsOfBytes (steps_by_event s event)
-event_bytes s Begin fits = tt
+event_bytes s (Begin rights group) fits = tt
 event_bytes s (End peer) fits = tt
 event_bytes s (At now) fits = tt
 event_bytes s (Framed peer f) fits =
@@ -342,8 +349,8 @@ to_session held peer piece (Some session) all fits = by session.closed
     by false = piece_bytes held peer piece all fits
 
 call_bytes : (a : AdapterState) (call : Call) → HoldsBytes a → FeedsBytes call → MeansBytes (call_meaning a call)
-call_bytes a Begins_peer all fits =
-    record { events = (tt, tt); held = begun_bytes a.held (turn a.state Begin).answer.output all }
+call_bytes a (Begins_peer rights group) all fits =
+    record { events = (tt, tt); held = begun_bytes a.held (turn a.state (Begin rights group)).answer.output all }
 call_bytes a (Feeds now peer piece) all fits =
     let means = to_session a.held peer piece (session_of a.state peer) all fits in
     record { events = (tt, means.events); held = means.held }

@@ -8,7 +8,7 @@ use Rattle.cip_objects.specs.Configuration.{contents_of_config}
 use Rattle.cip_objects.specs.Contents.{value_at}
 use Rattle.cip_objects.specs.Kept.{name_of, kept_names}
 use Rattle.device_state.specs.Laws.{IsKept}
-use Rattle.enip_adapter.specs.Adapter.{new_adapter}
+use Rattle.enip_adapter.specs.Adapter.{shared_adapter}
 use Rattle.enip_adapter.specs.Calls.{AdapterState, Call}
 use Rattle.enip_adapter.specs.DeviceRuns.{Requested, objects_after, objects_answer}
 use Rattle.enip_adapter.specs.Runs.{after_calls}
@@ -35,7 +35,8 @@ use Rattle.kept_adapter.specs.Started.{started}
 -- The adapter that starts has the restarted device, and neither sessions nor connections.
 abbrev pub new_adapter_law : Type 0
 new_adapter_law = (start : AdapterStart) (a : AdapterState) →
-    started start (saved_adapter a) ≡ new_adapter (restarted start a.state.shared.objects) start.listen start.limits
+    started start (saved_adapter a)
+    ≡ shared_adapter (restarted start a.state.shared.objects) start.listen start.limits start.shares
 
 -- With as many slots, and if no new life is wanted, the ledger goes on: it is in the same life, and each slot has its
 -- originator, number and reply, or is in doubt.

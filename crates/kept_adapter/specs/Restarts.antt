@@ -189,7 +189,7 @@ IsStep (Restarts start) = IsConfiguration start
 
 -- The pieces of a peer's stream consist of bytes.
 abbrev pub FeedsBytes : Call → Type 0
-FeedsBytes Begins_peer = ⊤
+FeedsBytes (Begins_peer rights group) = ⊤
 FeedsBytes (Feeds now peer piece) = AreBytes piece
 FeedsBytes (Ends_peer peer) = ⊤
 FeedsBytes (Ticks now) = ⊤

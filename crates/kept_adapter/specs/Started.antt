@@ -8,7 +8,7 @@ use Rattle.device_state.specs.declared.restoring.Outcome.{Outcome}
 use Rattle.device_state.specs.declared.restoring.Outcome.TheVariants.{Used, Unknown, Unfit, OtherDevice}
 use Rattle.device_state.specs.Restored.{Done, done, restored_entry}
 use Rattle.device_state.specs.Saved.{State, state_of, entry_of}
-use Rattle.enip_adapter.specs.Adapter.{new_adapter}
+use Rattle.enip_adapter.specs.Adapter.{shared_adapter}
 use Rattle.enip_adapter.specs.Calls.{AdapterState}
 use Rattle.enip_keep.specs.Kept.{Kept}
 use Rattle.kept_server.specs.Changes.{rise}
@@ -95,7 +95,8 @@ trusted_ledger start p =
     if p.has_life && (not p.has_lost && not start.begins_life) then p.ledger else new_ledger start.ledger
 
 abbrev pub started_from : AdapterStart → Progress → AdapterState
-started_from start p = new_adapter (device_of (trusted_ledger start p) p.objects) start.listen start.limits
+started_from start p =
+    shared_adapter (device_of (trusted_ledger start p) p.objects) start.listen start.limits start.shares
 
 abbrev pub started : AdapterStart → Kept → AdapterState
 started start kept = started_from start (put_back_in start kept)

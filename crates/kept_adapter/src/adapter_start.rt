@@ -4,7 +4,7 @@ ghost use Rattle.std.specs.Option.{ForSome};
 ghost use Rattle.cip_objects.specs.Configuration.{fault_of};
 
 use cip_objects::Config;
-use enip_adapter::{Limits, Listen};
+use enip_adapter::{Limits, Listen, Shares};
 
 /// A command ledger as it is configured.
 #[derive(Clone, Copy, Debug)]
@@ -20,7 +20,15 @@ pub struct LedgerStart {
 /// configuration.
 ///
 /// ```
-/// let start = AdapterStart { objects, ledger: None, begins_life: false, listen, limits, idle_timeout: 60_000_000 };
+/// let start = AdapterStart {
+///     objects,
+///     ledger: None,
+///     begins_life: false,
+///     listen,
+///     limits,
+///     shares: Shares::NONE,
+///     idle_timeout: 60_000_000,
+/// };
 /// let mut server = Server::<KeptPeers<TcpWire, AdapterStart>, Rows>::start(alloc, keeper, &start)?;
 /// ```
 #[derive(Debug, Drop)]
@@ -35,6 +43,8 @@ pub struct AdapterStart {
     pub listen: Listen,
     /// The capacity, and the first numbers that are assigned.
     pub limits: Limits,
+    /// How much of the adapter one group of peers may hold.
+    pub shares: Shares,
     /// For how long a peer may send nothing, in microseconds.
     pub idle_timeout: u64,
     ghost accepted: { fault_of objects ≡ None },
@@ -46,4 +56,8 @@ pub struct AdapterStart {
     ghost connections_to: { limits.connections ≤ 64 },
     ghost handle: { 1 ≤ limits.first_handle },
     ghost id: { 1 ≤ limits.first_id },
+    ghost share_from: { 1 ≤ shares.peers },
+    ghost share_to: { shares.peers ≤ 16 },
+    ghost connection_share_from: { 1 ≤ shares.connections },
+    ghost connection_share_to: { shares.connections ≤ 64 },
 }

@@ -121,10 +121,14 @@ impl AdapterStart {
         } else {
             self.new_ledger(alloc)?
         };
-        match ledger {
-            None => Adapter::new(alloc, objects, self.listen, self.limits),
-            Some(ledger) => Adapter::with_ledger(alloc, objects, ledger, self.listen, self.limits),
-        }
+        Adapter::shared(
+            alloc,
+            objects,
+            ledger,
+            self.listen,
+            self.limits,
+            self.shares,
+        )
     }
 }
 

@@ -1,10 +1,11 @@
-//! Tests of `enip_adapter`: writes of the device, readers and writers that fail, deadlines, datagrams, and the texts
-//! of errors.
+//! Tests of `enip_adapter`: writes of the device, readers and writers that fail, rights and shares of peers, deadlines,
+//! datagrams, and the texts of errors.
 
 mod caller;
 mod deadline;
 mod device;
 mod discovery;
 mod endings;
+mod rights;
 mod serving;
 mod texts;

@@ -15,6 +15,7 @@ mod ledger;
 mod manager_deadlines;
 mod manager_find;
 mod manager_openings;
+mod manager_shares;
 mod message;
 mod objects;
 mod own_requests;

@@ -14,7 +14,8 @@ ghost use Rattle.enip_adapter.specs.Executing.{executing_seen};
 ghost use Rattle.enip_adapter.specs.SendRRData.{route_of};
 
 use super::requests::Route;
-use crate::peer::Session;
+use crate::peer::{Rights, Session};
+use crate::rights::is_refused;
 use crate::shared::Shared;
 use cip_bytes::protocol::{Command, SEQUENCE_COUNT_SIZE, UNCONNECTED_LIMIT};
 use cip_ledger::DoubtfulCommand;
@@ -81,7 +82,7 @@ fn request_in_frame<'a>(
     }
     match Command::of(header.command) {
         Some(Command::SendRRData) if session.is_registered_as(header.session) => {
-            request_in_rr(frame.body)
+            request_in_rr(session.rights, frame.body)
         }
         Some(Command::SendUnitData) if session.is_registered_as(header.session) => {
             request_in_unit(shared, session, frame.body)
@@ -91,25 +92,35 @@ fn request_in_frame<'a>(
 }
 
 /// The request of a SendRRData, if it is not to the Connection Manager.
-fn request_in_rr(body: &[u8]) -> Option<(&[u8], usize)>
-    ensures { listed (option_map request_lent result) ≡ runs.requests_in_rr (rr_body_of body.now) }
+fn request_in_rr(rights: Rights, body: &[u8]) -> Option<(&[u8], usize)>
+    ensures { listed (option_map request_lent result) ≡ runs.requests_in_rr rights (rr_body_of body.now) }
 {
     match rr_body(body) {
-        Ok(request) if request.len() >= 2 => request_by_route(request),
+        Ok(request) if request.len() >= 2 => request_by_route(rights, request),
         _ => None,
     }
 }
 
 /// An unconnected request, if it is not to the Connection Manager.
-fn request_by_route(request: &[u8]) -> Option<(&[u8], usize)>
+fn request_by_route(rights: Rights, request: &[u8]) -> Option<(&[u8], usize)>
     requires { 2 ≤ length request.now }
     ensures { listed (option_map request_lent result)
-        ≡ runs.requests_by_route request.now (route_of request.now) }
+        ≡ runs.requests_by_route rights request.now (route_of request.now) }
 {
     match Route::of(request) {
         Route::Manager(..) => None,
-        Route::Objects => Some((request, UNCONNECTED_LIMIT)),
+        Route::Objects => request_by_rights(rights, request, UNCONNECTED_LIMIT),
     }
+}
+
+/// A request whose reply may have `max_size` bytes, if a peer with these rights is not refused it.
+fn request_by_rights(rights: Rights, request: &[u8], max_size: usize) -> Option<(&[u8], usize)>
+    ensures { listed (option_map request_lent result) ≡ runs.requests_by_rights rights max_size request.now }
+{
+    if is_refused(rights, request) {
+        return None;
+    }
+    Some((request, max_size))
 }
 
 /// The request of a SendUnitData, if its item would be executed.
@@ -134,9 +145,9 @@ fn request_of_item<'a>(
     id: u32,
     item: &'a [u8],
 ) -> Option<(&'a [u8], usize)>
-    ensures { listed (option_map request_lent result) ≡ runs.requests_by_connection item.now
+    ensures { listed (option_map request_lent result) ≡ runs.requests_by_connection session.rights item.now
         (find (is_named session.handle id) shared.now.manager.connections) }
 {
     let max_size = shared.manager.would_execute(session.handle, id, item)?;
-    Some((&item[SEQUENCE_COUNT_SIZE..], max_size))
+    request_by_rights(session.rights, &item[SEQUENCE_COUNT_SIZE..], max_size)
 }

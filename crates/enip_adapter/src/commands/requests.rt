@@ -8,15 +8,18 @@ ghost use Rattle.enip_wire.specs.Bodies.{rr_body_bytes};
 ghost use Rattle.enip_wire.specs.Stream.{frame_of};
 ghost use Rattle.enip_adapter.specs.Replies.{reply};
 ghost use Rattle.enip_adapter.specs.Replies.Reply.{Sends};
-ghost use Rattle.enip_adapter.specs.SendRRData.{send_rr_data, routed, route_of, is_manager};
+ghost use Rattle.enip_adapter.specs.Rights.{after_for, answer_for};
+ghost use Rattle.enip_adapter.specs.SendRRData.{send_rr_data, routed, route_of, opener_of, is_manager};
 ghost use Rattle.enip_adapter.specs.Routes.{route_in, is_path_of_manager};
 
 use crate::peer::Session;
 use crate::reply::{AnswerFrame, refuse, write_reply};
+use crate::rights::{is_refused, refuse_change};
 use crate::shared::Shared;
 use cip_bytes::protocol::{
     CONNECTION_MANAGER, EncapsulationStatus, ManagerService, UNCONNECTED_LIMIT,
 };
+use cip_manager::Opener;
 use cip_message::{Path, RequestView, read_path};
 use cip_objects::{ReplyBuf, Router};
 use enip_wire::{FrameView, Header, rr_body, rr_body_head};
@@ -110,18 +113,45 @@ fn dispatch(shared: &mut Shared, session: Session, request: &[u8], reply: &mut R
         Route::Manager(ManagerService::ForwardOpen, data) => {
             shared
                 .manager
-                .open(shared.moment, session.handle, data, reply);
+                .open_for(shared.moment, opener_of(session), data, reply);
         }
         Route::Manager(ManagerService::LargeForwardOpen, data) => {
             shared
                 .manager
-                .open_large(shared.moment, session.handle, data, reply);
+                .open_large_for(shared.moment, opener_of(session), data, reply);
         }
         Route::Manager(ManagerService::ForwardClose, data) => {
             shared.manager.close(session.handle, data, reply);
         }
-        Route::Objects => shared.objects.execute(request, UNCONNECTED_LIMIT, reply),
+        Route::Objects => execute_for(shared, session, request, reply),
     }
+}
+
+/// Who opens a connection: the session, and the group that its peer counts for.
+fn opener_of(session: Session) -> Opener
+    ensures { result ≡ opener_of session }
+{
+    Opener {
+        session: session.handle,
+        group: session.group,
+    }
+}
+
+/// Executes a request by the device, unless the session may not change anything and the request could.
+#[inline(always)]
+fn execute_for(shared: &mut Shared, session: Session, request: &[u8], reply: &mut ReplyBuf)
+    requires { 2 ≤ length request.now }
+    ensures shared { shared.new ≡ record shared.old {
+      objects = after_for session.rights shared.old.objects UNCONNECTED_LIMIT request.now;
+    } }
+    ensures reply { reply.new.items ≡ answer_for session.rights shared.old.objects UNCONNECTED_LIMIT request.now }
+    ensures fits { length reply.new.items ≤ UNCONNECTED_LIMIT }
+{
+    // A reader's request that could change something: 0x0f (ours).
+    if is_refused(session.rights, request) {
+        return refuse_change(request, reply);
+    }
+    shared.objects.execute(request, UNCONNECTED_LIMIT, reply)
 }
 
 /// Writes a whole reply to a SendRRData, with the router's reply as its data item.

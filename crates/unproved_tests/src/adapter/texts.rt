@@ -10,6 +10,7 @@ fn of_enip_adapter(rt: HostRuntime) -> Result<(), Fail> {
     let full = [
         (Full::Places, "all peer slots are taken"),
         (Full::Handles, "no session handle is left"),
+        (Full::Share, "all peer slots of this group are taken"),
     ];
     let serving = [
         (ServeFault::Read, "the reader failed"),

@@ -2,7 +2,7 @@
 
 use cip_ledger::{Ledger, MOST_ORIGINATORS};
 use cip_objects::AssemblyConfig;
-use enip_adapter::Adapter;
+use enip_adapter::{Adapter, Shares};
 use enip_keep::{Entry, KeepError};
 use enip_server::NO_IDLE_TIMEOUT;
 use kept_adapter::{AdapterStart, LedgerStart};
@@ -33,6 +33,7 @@ fn start_in(alloc: Global, life: u64) -> Result<AdapterStart, Fail> {
         begins_life: false,
         listen: LISTEN,
         limits: LIMITS,
+        shares: Shares::NONE,
         idle_timeout: NO_IDLE_TIMEOUT,
     })
 }

@@ -2,7 +2,7 @@
 
 use crate::texts::check_texts;
 use cip_ledger::{DoubtfulCommand, Ledger};
-use enip_adapter::Adapter;
+use enip_adapter::{Adapter, Shares};
 use enip_server::NO_IDLE_TIMEOUT;
 use kept_adapter::{AdapterStart, LedgerStart, StartFault};
 use saved_adapter::{RestoreFault, generation, save, start};
@@ -30,6 +30,7 @@ fn start_in(alloc: Global, life: u64) -> Result<AdapterStart, Fail> {
         begins_life: false,
         listen: LISTEN,
         limits: LIMITS,
+        shares: Shares::NONE,
         idle_timeout: NO_IDLE_TIMEOUT,
     })
 }

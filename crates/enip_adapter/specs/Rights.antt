@@ -1,0 +1,71 @@
+-- What peers may do: a writer everything, a reader whatever changes nothing (ours).
+use Rattle.std.specs.Prelude.{ℕ, ◌==◌, ◌&&◌, ◌||◌, Bool, false, not, if◌then◌else◌, List, [], ◌∷◌, Result, Ok, Err}
+use Rattle.cip_ledger.specs.declared.request.TheConstants.{LEDGER}
+use Rattle.cip_ledger.specs.declared.service.TheConstants.{GET_LAST}
+use Rattle.cip_ledger.specs.Device.{Device, Executed, exec_device}
+use Rattle.cip_message.specs.declared.path.Path.{Path}
+use Rattle.cip_message.specs.declared.path.PathFault.{PathFault}
+use Rattle.cip_message.specs.declared.request.RequestFault.{RequestFault}
+use Rattle.cip_message.specs.PathReading.{path_of}
+use Rattle.cip_message.specs.Reply.{reply_service}
+use Rattle.cip_message.specs.Request.{Request, request_of}
+use Rattle.cip_objects.specs.OwnRequests.{is_own_service}
+use Rattle.enip_adapter.specs.declared.peer.Rights.{Rights}
+use Rattle.enip_adapter.specs.declared.peer.Rights.TheVariants.{Read, Write}
+use Rattle.enip_adapter.specs.declared.rights.TheConstants.{PRIVILEGE_VIOLATION}
+
+-- ---- requests that could change something
+
+-- The service of a request is its first byte.
+abbrev pub service_of : List ℕ → ℕ
+service_of [] = 0
+service_of (service ∷ rest) = service
+
+-- The services that change what they are sent to (Volume 1, common services): Set_Attributes_All, Set_Attribute_List,
+-- Reset, Set_Attribute_Single and Set_Member. Vendor and class specific services, 0x32 to 0x63, count as such: Add,
+-- Clear, own services, Do_Once and Forget.
+abbrev pub is_change_service : ℕ → Bool
+is_change_service service =
+    (service == 0x02) || (service == 0x04) || (service == 0x05) || (service == 0x10) || (service == 0x19)
+    || is_own_service service
+
+abbrev pub is_path_to_ledger : Result Path PathFault → Bool
+is_path_to_ledger (Err fault) = false
+is_path_to_ledger (Ok path) = path.class == LEDGER
+
+abbrev pub is_to_ledger : Result Request RequestFault → Bool
+is_to_ledger (Err fault) = false
+is_to_ledger (Ok request) = is_path_to_ledger (path_of request.path)
+
+-- Get_Last of the command ledger, 0x4c, is the one class specific service that only reads.
+abbrev pub is_get_last : List ℕ → Bool
+is_get_last request = (service_of request == GET_LAST) && is_to_ledger (request_of request)
+
+-- The service and the class decide, before anything else of the request is looked at.
+unfoldable pub is_change : List ℕ → Bool
+is_change request = is_change_service (service_of request) && not (is_get_last request)
+
+-- ---- what a reader is refused
+
+abbrev pub is_refused : Rights → List ℕ → Bool
+is_refused Write request = false
+is_refused Read request = is_change request
+
+-- The reply to a request that is refused: the status privilege violation, no additional status words, and no data.
+abbrev pub refusal : List ℕ → List ℕ
+refusal request = reply_service (service_of request) ∷ 0 ∷ PRIVILEGE_VIOLATION ∷ 0 ∷ []
+
+-- A refused request changes nothing.
+abbrev pub refused : Device → List ℕ → Executed
+refused device request = record { after = device; answer = refusal request }
+
+-- The device after a request of a peer with these rights, and its reply.
+abbrev pub exec_for : Rights → Device → ℕ → List ℕ → Executed
+exec_for rights device max_size request =
+    if is_refused rights request then refused device request else exec_device device max_size request
+
+abbrev pub after_for : Rights → Device → ℕ → List ℕ → Device
+after_for rights device max_size request = (exec_for rights device max_size request).after
+
+abbrev pub answer_for : Rights → Device → ℕ → List ℕ → List ℕ
+answer_for rights device max_size request = (exec_for rights device max_size request).answer
