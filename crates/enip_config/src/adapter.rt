@@ -3,16 +3,18 @@
 
 ghost use Rattle.std.specs.Prelude.{◌≡◌, ◌≤◌, IfOk, IfErr, IfSome};
 ghost use Rattle.cip_ledger.specs.Device.{device_of};
-ghost use Rattle.enip_adapter.specs.Adapter.{new_adapter};
-ghost use Rattle.enip_config.specs.Configured.{IsAccepted, IsAdapterInLife, IsAdapterOf, in_life, ledger_from, limits_of, listen_of};
-ghost use Rattle.enip_config.specs.Documents.{IsFaultOf, IsInRange};
+ghost use Rattle.enip_adapter.specs.Adapter.{shared_adapter};
+ghost use Rattle.enip_config.specs.Configured.{IsAccepted, IsAdapterInLife, IsAdapterOf, in_life, ledger_from, limits_of, listen_of, shares_from};
+ghost use Rattle.enip_config.specs.Access.{HasShares};
+ghost use Rattle.enip_config.specs.Documents.{IsFaultOf, IsInRange, AreSharesInRange};
 
 use crate::configuration::Configuration;
 use crate::fault::LoadFault;
 use crate::ledger::LedgerConfig;
 use cip_ledger::Ledger;
 use cip_objects::Objects;
-use enip_adapter::{Adapter, Limits, Listen};
+use enip_access::Access;
+use enip_adapter::{Adapter, Limits, Listen, Shares};
 use std::alloc::{AllocError, Global};
 
 /// Makes the adapter that the bytes of a configuration describe. It has no peers yet.
@@ -63,7 +65,8 @@ fn in_life(life: u64, ledger: Option<LedgerConfig>) -> Option<LedgerConfig>
     }
 }
 
-/// Makes the adapter of a configuration, over its objects, with a ledger before them if there is one.
+/// Makes the adapter of a configuration, over its objects, with a ledger before them if there is one. One address holds
+/// no more than its share.
 fn adapter_of(
     alloc: Global,
     objects: Objects,
@@ -71,10 +74,11 @@ fn adapter_of(
     ledger: Option<LedgerConfig>,
 ) -> Result<Adapter, AllocError>
     requires numbers { IsInRange configuration.now }
+    requires shares { AreSharesInRange configuration.now }
     requires ledger_from { IfSome ledger (λ l. 1 ≤ l.originators) }
     requires ledger_to { IfSome ledger (λ l. l.originators ≤ 64) }
-    ensures { IfOk result (λ adapter. adapter ≡ new_adapter (device_of (ledger_from ledger) objects)
-        (listen_of configuration.now) (limits_of configuration.now)) }
+    ensures { IfOk result (λ adapter. adapter ≡ shared_adapter (device_of (ledger_from ledger) objects)
+        (listen_of configuration.now) (limits_of configuration.now) (shares_from configuration.now.access)) }
 {
     let listen = Listen {
         address: configuration.address,
@@ -86,11 +90,37 @@ fn adapter_of(
         first_handle: configuration.first_handle,
         first_id: configuration.first_id,
     };
+    let shares = shares_from(&configuration.access);
+    let ledger = ledger_from(alloc, ledger)?;
+    Adapter::shared(alloc, objects, ledger, listen, limits, shares)
+}
+
+/// How much one address may hold.
+fn shares_from(access: &Option<Access>) -> Shares
+    requires { IfSome access.now HasShares }
+    ensures value { result ≡ shares_from access.now }
+    ensures peers_from { 1 ≤ result.peers }
+    ensures peers_to { result.peers ≤ 16 }
+    ensures connections_from { 1 ≤ result.connections }
+    ensures connections_to { result.connections ≤ 64 }
+{
+    match access {
+        Some(access) => Shares {
+            peers: access.peers_per_address(),
+            connections: access.most_connections_per_address(),
+        },
+        None => Shares::NONE,
+    }
+}
+
+/// An empty ledger, if the configuration has one.
+fn ledger_from(alloc: Global, ledger: Option<LedgerConfig>) -> Result<Option<Ledger>, AllocError>
+    requires from { IfSome ledger (λ l. 1 ≤ l.originators) }
+    requires to { IfSome ledger (λ l. l.originators ≤ 64) }
+    ensures { IfOk result (λ made. made ≡ ledger_from ledger) }
+{
     match ledger {
-        None => Adapter::new(alloc, objects, listen, limits),
-        Some(ledger) => {
-            let ledger = Ledger::new(alloc, ledger.originators, ledger.life)?;
-            Adapter::with_ledger(alloc, objects, ledger, listen, limits)
-        }
+        None => Ok(None),
+        Some(ledger) => Ok(Some(Ledger::new(alloc, ledger.originators, ledger.life)?)),
     }
 }
