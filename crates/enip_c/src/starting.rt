@@ -3,7 +3,7 @@
 ghost use Rattle.std.specs.Prelude.{◌≡◌, None, IfOk, IfErr};
 ghost use Rattle.std.specs.Option.{IsSomeAnd, option_map};
 ghost use Rattle.cip_objects.specs.Configuration.{fault_of};
-ghost use Rattle.enip_config.specs.Documents.{IsInRange, IsLedgerInRange};
+ghost use Rattle.enip_config.specs.Documents.{AreSharesInRange, IsInRange, IsLedgerInRange};
 ghost use Rattle.enip_c.specs.Buffer.{status_number};
 ghost use Rattle.enip_c.specs.StateCalls.{IsKeptAdapterOf, IsKeptFault, IsKeptOutcome, IsStartOf, ledger_start};
 ghost use Rattle.enip_c.specs.StateCalls.{kept_refusal, kept_status, fault_number, fault_version};
@@ -11,8 +11,8 @@ ghost use Rattle.enip_c.specs.StateCalls.{kept_refusal, kept_status, fault_numbe
 use crate::adapter::check_number;
 use crate::adapter_pointer::KeptAdapter;
 use crate::status::Status;
-use enip_adapter::{Adapter, Limits, Listen, Shares};
-use enip_config::{Configuration, ConfigurationRefusal, LedgerConfig, LoadFault};
+use enip_adapter::{Adapter, Limits, Listen};
+use enip_config::{Configuration, ConfigurationRefusal, LedgerConfig, LoadFault, shares_from};
 use kept_adapter::{AdapterStart, LedgerStart};
 use saved_adapter::{RestoreFault, start};
 use saved_state::StateFault;
@@ -111,6 +111,7 @@ fn adapter_from_state(
 fn start_of(configuration: Configuration, life: u64) -> AdapterStart
     requires numbers { IsInRange configuration }
     requires ledger { IsLedgerInRange configuration }
+    requires shares { AreSharesInRange configuration }
     requires accepted { fault_of configuration.objects ≡ None }
     ensures { IsStartOf life configuration result }
 {
@@ -128,7 +129,7 @@ fn start_of(configuration: Configuration, life: u64) -> AdapterStart
             first_handle: configuration.first_handle,
             first_id: configuration.first_id,
         },
-        shares: Shares::NONE,
+        shares: shares_from(&configuration.access),
         idle_timeout: 0,
         objects: configuration.objects,
     }

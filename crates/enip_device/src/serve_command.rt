@@ -1,7 +1,7 @@
 //! `enip serve`: the device that the arguments describe, its sockets, and what observes it.
 
 ghost use Rattle.std.specs.Prelude.{◌≡◌, ◌<◌, ◌≤◌, ◌*◌, ◌-◌, ◌^◌, IfSome, IfOk, IsTrue};
-ghost use Rattle.enip_config.specs.Configured.{shares_for};
+ghost use Rattle.enip_config.specs.Configured.{shares_from};
 
 use crate::frame_log::FrameLog;
 use crate::keeping::Keeping;
@@ -269,7 +269,7 @@ fn adapter_start<'a>(
     let mut configuration = config.configuration_to_serve(rt.alloc())?;
     let access = configuration.access.take();
     let life = life_now(rt)?;
-    let shares = shares_for(&access);
+    let shares = shares_from(&access);
     match start_of(configuration, shares, life, begins_life, idle_timeout) {
         Some(start) => Ok((start, access)),
         None => Err(CommandError::of_reason(Reason::Named(config.name(), NamedReason::Failed))),
@@ -328,8 +328,8 @@ fn start_of(
 }
 
 /// How many peers and connections one address may have.
-fn shares_for(access: &Option<Access>) -> Shares
-    ensures { result ≡ shares_for access.now }
+fn shares_from(access: &Option<Access>) -> Shares
+    ensures { result ≡ shares_from access.now }
 {
     match access {
         Some(access) => Shares {
