@@ -191,8 +191,8 @@ fn a_share_is_refused_before_a_slot(rt: HostRuntime) -> Result<(), Fail> {
         connections: 8,
     };
     let mut adapter = shared(rt.alloc(), shares)?;
-    for group in 0..9u128 {
-        assert_eq!(rt; begin(&mut adapter, Some(group)), None);
+    for group in 0..9u32 {
+        assert_eq!(rt; begin(&mut adapter, Some(u128::from(group))), None);
     }
     assert_eq!(rt; begin(&mut adapter, Some(0)), Some(Full::Share));
     assert_eq!(rt; begin(&mut adapter, Some(9)), Some(Full::Places));
@@ -227,6 +227,9 @@ fn opened(alloc: Global, adapter: &mut Adapter, handle: u8, serial: u8) -> Resul
     ))
 }
 
+/// The handles of three peers and their groups.
+const PEERS: &[(u32, u128)] = &[(1, 7), (2, 7), (3, 8)];
+
 #[test]
 fn a_group_has_its_share_of_connections(rt: HostRuntime) -> Result<(), Fail> {
     let alloc = rt.alloc();
@@ -235,11 +238,9 @@ fn a_group_has_its_share_of_connections(rt: HostRuntime) -> Result<(), Fail> {
         connections: 2,
     };
     let mut adapter = shared(alloc, shares)?;
-    for (handle, group) in [(1u8, 7u128), (2, 7), (3, 8)] {
-        assert_eq!(rt; begin(&mut adapter, Some(group)), None);
-        let mut frame = Vec::from_slice(alloc, REGISTER)?;
-        frame[4] = 0;
-        let _ = feed(&mut adapter, &Peer::of(u32::from(handle)), frame.as_slice());
+    for (handle, group) in PEERS {
+        assert_eq!(rt; begin(&mut adapter, Some(*group)), None);
+        let _ = feed(&mut adapter, &Peer::of(*handle), REGISTER);
     }
     // both peers of group 7 use one share
     assert_eq!(rt; opened(alloc, &mut adapter, 1, 1)?, (SUCCESS, 0));
