@@ -16,7 +16,7 @@ NO_RESULT = "no result"
 # What differs between two runs: numbers, and the names of temporary files.
 VARIES = r"/tmp/\S+|\d+"
 # Lines of a test that are no failures.
-LEFT_OUT = re.compile(r"\s*$|this machine|.*: skipped: |\d+ commands were skipped")
+LEFT_OUT = re.compile(r"\s*$|this machine|\S+ is not installed$|.*: skipped: |\d+ commands were skipped")
 # A program that runs in a circle is ended long before its test gives it up. None needs so many processor seconds.
 LIMITED = ("bash", "-c", 'ulimit -t 30; exec "$@"', "")
 # The seconds after which a test that has printed no result has failed, next to four times those that it usually takes.

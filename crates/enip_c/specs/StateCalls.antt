@@ -10,7 +10,7 @@ use Rattle.enip_adapter.specs.Executing.{executing}
 use Rattle.enip_adapter.specs.OwnWrites.{can_settle_in}
 use Rattle.enip_config.specs.declared.configuration.Configuration.{Configuration}
 use Rattle.enip_config.specs.declared.ledger.LedgerConfig.{LedgerConfig}
-use Rattle.enip_config.specs.Configured.{listen_of, limits_of, shares_for}
+use Rattle.enip_config.specs.Configured.{listen_of, limits_of, shares_from}
 use Rattle.enip_config.specs.Documents.{IsDescribed, IsRefused}
 use Rattle.enip_c.specs.AdapterCalls.{check_number}
 use Rattle.kept_adapter.specs.declared.adapter_start.AdapterStart.{AdapterStart}
@@ -112,7 +112,7 @@ pub record IsStartOf (life : ℕ) (c : Configuration) (start : AdapterStart) : T
   pub goes_on : start.begins_life ≡ false
   pub listen : start.listen ≡ listen_of c
   pub limits : start.limits ≡ limits_of c
-  pub shares : start.shares ≡ shares_for c.access
+  pub shares : start.shares ≡ shares_from c.access
   pub no_timeout : start.idle_timeout ≡ 0
 
 -- A text describes an adapter that starts from this.

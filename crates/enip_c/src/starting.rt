@@ -12,7 +12,7 @@ use crate::adapter::check_number;
 use crate::adapter_pointer::KeptAdapter;
 use crate::status::Status;
 use enip_adapter::{Adapter, Limits, Listen};
-use enip_config::{Configuration, ConfigurationRefusal, LedgerConfig, LoadFault, shares_for};
+use enip_config::{Configuration, ConfigurationRefusal, LedgerConfig, LoadFault, shares_from};
 use kept_adapter::{AdapterStart, LedgerStart};
 use saved_adapter::{RestoreFault, start};
 use saved_state::StateFault;
@@ -129,7 +129,7 @@ fn start_of(configuration: Configuration, life: u64) -> AdapterStart
             first_handle: configuration.first_handle,
             first_id: configuration.first_id,
         },
-        shares: shares_for(&configuration.access),
+        shares: shares_from(&configuration.access),
         idle_timeout: 0,
         objects: configuration.objects,
     }

@@ -3,7 +3,7 @@
 //! `help` is the one line that `-h` prints, `long_help` what `--help` prints in its place. Neither makes a line longer
 //! than 80 columns.
 
-use crate::texts::{
+use crate::option_texts::{
     ABANDON_DETAILS, ACCEPT_OLDER_DETAILS, CALLED_TYPE_DETAILS, CLIENT_ADDRESS_DETAILS,
     CONNECTION_SERIAL_DETAILS, COUNT_DETAILS, DATA_DETAILS, DEADLINE_DETAILS, EVERY_DETAILS,
     KEEP_DETAILS, KEPT_FILE_DETAILS, MEMBER_DETAILS, MULTIPLIER_DETAILS, ONCE_DETAILS,

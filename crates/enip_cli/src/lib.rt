@@ -4,10 +4,15 @@
 mod arguments;
 mod command_line;
 mod commands;
+mod device_texts;
 mod file;
+mod line_texts;
 mod locked_file;
+mod option_texts;
+mod request_texts;
 mod round_file;
 mod seconds;
+mod serving_texts;
 mod shell_texts;
 mod tabulating;
 mod texts;

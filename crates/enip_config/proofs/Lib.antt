@@ -4,4 +4,5 @@ pub mod ValueLemmas
 pub mod TypeLemmas
 pub mod Rows
 pub mod Refused
+pub mod ReadLemmas
 pub mod ShareLemmas

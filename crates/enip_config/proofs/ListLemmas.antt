@@ -1,9 +1,11 @@
 -- The lists of the table `access`.
-use Rattle.std.proofs.Common.{◌≡◌, ℕ, ◌+◌, ◌<◌, ◌≤◌, List, [], ◌∷◌, ◌++◌, length, Option, Some, None, option_map, refl, sym, ap, ◌∙◌, arith, le-leb, lt-leb}
-use Rattle.std.proofs.lemmas.List.{length-append}
+use Rattle.std.proofs.Common.{◌≡◌, ℕ, ◌≤◌, List, ◌++◌, length, drop, append-nil, Option, Some, None, option_map, refl, sym, ap, ◌∙◌, arith, le-leb}
 use Rattle.std.proofs.lemmas.Option.{none-some, same_Some}
 use Rattle.std.proofs.NetLemmas.Options.{map_some}
+use Rattle.std.proofs.lemmas.List.{drop_all}
 use Rattle.toml.specs.Data.{Data, Members}
+use Rattle.toml.specs.View.{items_view}
+use Rattle.toml.specs.declared.value.Value.{Value}
 use Rattle.cip_objects.specs.Configuration.{fault_of}
 use Rattle.enip_access.specs.declared.access.Access.{Access}
 use Rattle.enip_access.specs.declared.prefix.Prefix.{Prefix}
@@ -11,21 +13,20 @@ use Rattle.enip_config.specs.declared.configuration.Configuration.{Configuration
 use Rattle.enip_config.specs.declared.fault.LoadFault.{LoadFault}
 use Rattle.enip_config.specs.declared.key.NumberKey.{NumberKey}
 use Rattle.enip_config.specs.declared.key.NumberKey.TheVariants.{Vendor, DeviceType, ProductCode, Major, Minor, Serial, Status, State, Port, Peers, Connections, FirstHandle, FirstId, CounterValue, CounterLimit}
-use Rattle.enip_config.specs.Keys.{read_or}
-use Rattle.enip_config.specs.Access.{few, shares_in, shares_seen, lists_of, IsBadList}
+use Rattle.enip_config.specs.Keys.{each, read_or}
+use Rattle.enip_config.specs.Access.{few, rule_in, shares_in, shares_seen, lists_of, IsBadList}
 use Rattle.enip_config.specs.Documents.{number_in, HasValues, IsKnown, IsFaultOf}
 
 -- a list that is not too long
 pub few_rules : (all : Option (List Prefix)) (rules : List Prefix) → all ≡ Some rules → length rules ≤ 64 → few all ≡ Some rules
 few_rules all rules is short = rw (is, le-leb (length rules) 64 short) refl
 
--- a list with one more than 64
-pub too_many : (rules : List Prefix) (rule : Prefix) (rest : Option (List Prefix)) → 64 ≤ length rules
-    → few (option_map (λ more. rules ++ more) (option_map (λ more. rule ∷ more) rest)) ≡ None
-too_many rules rule None full = refl
-too_many rules rule (Some more) full =
-    let long : 64 < length (rules ++ rule ∷ more) = omega (arith, length-append rules (rule ∷ more)) in
-    rw (lt-leb 64 (length (rules ++ rule ∷ more)) long) refl
+-- all values were read
+pub at_end : (values : List Value) (n : ℕ) (rules : List Prefix) → length values ≤ n
+    → option_map (λ rest. rules ++ rest) (each rule_in (items_view (drop n values))) ≡ each rule_in (items_view values)
+    → each rule_in (items_view values) ≡ Some rules
+at_end values n rules end is =
+    sym is ∙ ap (λ vs. option_map (λ rest. rules ++ rest) (each rule_in (items_view vs))) (drop_all n values end) ∙ ap Some (append-nil rules)
 
 same_number : (c : Configuration) (access : Option Access) (key : NumberKey) → number_in (record c { access = access }) key ≡ number_in c key
 same_number c access Vendor = refl

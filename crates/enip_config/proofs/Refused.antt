@@ -42,10 +42,10 @@ unread_in key described table r (Err fault) found same bad = unread_number key d
 pub in_numbers : (least greatest : ℕ) (d : Data) (n : ℕ) → number_in least greatest d ≡ Some n → (least ≤ n) × (n ≤ greatest)
 in_numbers least greatest d n is = search (rules, is)
 
-abbrev IsWithin : ℕ → ℕ → ℕ → Type 0
+abbrev pub IsWithin : ℕ → ℕ → ℕ → Type 0
 IsWithin least greatest n = (least ≤ n) × (n ≤ greatest)
 
-in_read : (least greatest : ℕ) (default : Option ℕ) (found : Option Data) (n : ℕ) → IfSome default (IsWithin least greatest)
+pub in_read : (least greatest : ℕ) (default : Option ℕ) (found : Option Data) (n : ℕ) → IfSome default (IsWithin least greatest)
     → read_or default (number_in least greatest) found ≡ Some n → IsWithin least greatest n
 in_read least greatest default (Some d) n within is = in_numbers least greatest d n is
 in_read least greatest (Some m) None n within is = search (rules, within, is)

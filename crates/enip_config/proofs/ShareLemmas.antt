@@ -19,7 +19,7 @@ share_read greatest (Some d) (Some n) is =
     map_some (λ m. Some m) (number_in 1 greatest d) (Some n) is λ m read same.
     in_numbers 1 greatest d n (read ∙ same)
 
-both_some : {A B : Type 0} (a : Option A) (b : Option B) (x : A) (y : B) → both a b ≡ Some (x, y) → (a ≡ Some x) × (b ≡ Some y)
+pub both_some : {A B : Type 0} (a : Option A) (b : Option B) (x : A) (y : B) → both a b ≡ Some (x, y) → (a ≡ Some x) × (b ≡ Some y)
 both_some None b x y is = absurd (none-some (x, y) is)
 both_some (Some a) None x y is = absurd (none-some (x, y) is)
 both_some (Some a) (Some b) x y is =

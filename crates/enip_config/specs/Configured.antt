@@ -1,16 +1,16 @@
 -- The adapter of a configuration.
-use Rattle.std.specs.Prelude.{◌≡◌, ℕ, List, Option, Some, None, option_map}
+use Rattle.std.specs.Prelude.{◌≡◌, ℕ, List, Option, None, Some, option_map}
 use Rattle.cip_ledger.specs.Device.{device_of}
 use Rattle.cip_ledger.specs.Ledger.{LedgerState, empty_ledger}
 use Rattle.cip_objects.specs.Configuration.{contents_of_config}
 use Rattle.enip_adapter.specs.declared.adapter.Limits.{Limits}
 use Rattle.enip_adapter.specs.declared.shared.Listen.{Listen}
-use Rattle.enip_access.specs.Access.{share_or}
-use Rattle.enip_access.specs.declared.access.Access.{Access}
-use Rattle.enip_adapter.specs.declared.adapter.Shares.{Shares}
 use Rattle.enip_adapter.specs.Adapter.{shared_adapter}
 use Rattle.enip_adapter.specs.Groups.{no_shares}
+use Rattle.enip_adapter.specs.declared.adapter.Shares.{Shares}
 use Rattle.enip_adapter.specs.Calls.{AdapterState}
+use Rattle.enip_access.specs.Access.{share_or}
+use Rattle.enip_access.specs.declared.access.Access.{Access}
 use Rattle.enip_config.specs.declared.configuration.Configuration.{Configuration}
 use Rattle.enip_config.specs.declared.ledger.LedgerConfig.{LedgerConfig}
 use Rattle.enip_config.specs.Documents.{IsDescribed}
@@ -28,13 +28,11 @@ limits_of c = record {
   first_id = c.first_id;
 }
 
--- how many peers and connections one address may have
-abbrev pub shares_for : Option Access → Shares
-shares_for None = no_shares
-shares_for (Some access) = record {
-  peers = share_or 16 access.per_address;
-  connections = share_or 64 access.connections_per_address;
-}
+-- how much one address may hold: without the table `access`, as much as there is
+abbrev pub shares_from : Option Access → Shares
+shares_from None = no_shares
+shares_from (Some access) =
+    record { peers = share_or 16 access.per_address; connections = share_or 64 access.connections_per_address }
 
 -- an empty ledger, if the configuration has one
 abbrev pub ledger_from : Option LedgerConfig → Option LedgerState
@@ -51,15 +49,15 @@ in_life life ledger = option_map (with_life life) ledger
 abbrev pub IsAdapterOf : List ℕ → AdapterState → Type 0
 IsAdapterOf text adapter =
     (c : Configuration) × (IsDescribed text c
-    × (adapter ≡ shared_adapter (device_of (ledger_from c.ledger) (contents_of_config c.objects)) (listen_of c)
-    (limits_of c) (shares_for c.access)))
+    × (adapter ≡ shared_adapter (device_of (ledger_from c.ledger) (contents_of_config c.objects)) (listen_of c) (limits_of c)
+    (shares_from c.access)))
 
 -- the same, in a life of this number
 abbrev pub IsAdapterInLife : ℕ → List ℕ → AdapterState → Type 0
 IsAdapterInLife life text adapter =
     (c : Configuration) × (IsDescribed text c × (adapter
-    ≡ shared_adapter (device_of (ledger_from (in_life life c.ledger)) (contents_of_config c.objects)) (listen_of c)
-    (limits_of c) (shares_for c.access)))
+    ≡ shared_adapter (device_of (ledger_from (in_life life c.ledger)) (contents_of_config c.objects)) (listen_of c) (limits_of c)
+    (shares_from c.access)))
 
 -- the text is a configuration that the objects accept
 abbrev pub IsAccepted : List ℕ → Type 0

@@ -4,8 +4,8 @@
 ghost use Rattle.std.specs.Prelude.{◌≡◌, ◌≤◌, IfOk, IfErr, IfSome};
 ghost use Rattle.cip_ledger.specs.Device.{device_of};
 ghost use Rattle.enip_adapter.specs.Adapter.{shared_adapter};
+ghost use Rattle.enip_config.specs.Configured.{IsAccepted, IsAdapterInLife, IsAdapterOf, in_life, ledger_from, limits_of, listen_of, shares_from};
 ghost use Rattle.enip_config.specs.Access.{HasShares};
-ghost use Rattle.enip_config.specs.Configured.{IsAccepted, IsAdapterInLife, IsAdapterOf, in_life, ledger_from, limits_of, listen_of, shares_for};
 ghost use Rattle.enip_config.specs.Documents.{IsFaultOf, IsInRange, AreSharesInRange};
 
 use crate::configuration::Configuration;
@@ -65,7 +65,8 @@ fn in_life(life: u64, ledger: Option<LedgerConfig>) -> Option<LedgerConfig>
     }
 }
 
-/// Makes the adapter of a configuration, over its objects, with a ledger before them if there is one.
+/// Makes the adapter of a configuration, over its objects, with a ledger before them if there is one. One address holds
+/// no more than its share.
 fn adapter_of(
     alloc: Global,
     objects: Objects,
@@ -77,7 +78,7 @@ fn adapter_of(
     requires ledger_from { IfSome ledger (λ l. 1 ≤ l.originators) }
     requires ledger_to { IfSome ledger (λ l. l.originators ≤ 64) }
     ensures { IfOk result (λ adapter. adapter ≡ shared_adapter (device_of (ledger_from ledger) objects)
-        (listen_of configuration.now) (limits_of configuration.now) (shares_for configuration.now.access)) }
+        (listen_of configuration.now) (limits_of configuration.now) (shares_from configuration.now.access)) }
 {
     let listen = Listen {
         address: configuration.address,
@@ -89,7 +90,7 @@ fn adapter_of(
         first_handle: configuration.first_handle,
         first_id: configuration.first_id,
     };
-    let shares = shares_for(&configuration.access);
+    let shares = shares_from(&configuration.access);
     let ledger = ledger_from(alloc, ledger)?;
     Adapter::shared(alloc, objects, ledger, listen, limits, shares)
 }
@@ -98,12 +99,12 @@ fn adapter_of(
 /// table, or without a key of it, there is no limit.
 ///
 /// ```
-/// let shares = shares_for(&configuration.access);
+/// let shares = shares_from(&configuration.access);
 /// let adapter = Adapter::shared(alloc, objects, None, listen, limits, shares)?;
 /// ```
-pub fn shares_for(access: &Option<Access>) -> Shares
+pub fn shares_from(access: &Option<Access>) -> Shares
     requires { IfSome access.now HasShares }
-    ensures shares { result ≡ shares_for access.now }
+    ensures value { result ≡ shares_from access.now }
     ensures peers_from { 1 ≤ result.peers }
     ensures peers_to { result.peers ≤ 16 }
     ensures connections_from { 1 ≤ result.connections }
@@ -118,14 +119,14 @@ pub fn shares_for(access: &Option<Access>) -> Shares
     }
 }
 
-/// An empty ledger, if there is to be one.
+/// An empty ledger, if the configuration has one.
 fn ledger_from(alloc: Global, ledger: Option<LedgerConfig>) -> Result<Option<Ledger>, AllocError>
-    requires slots_from { IfSome ledger (λ l. 1 ≤ l.originators) }
-    requires slots_to { IfSome ledger (λ l. l.originators ≤ 64) }
+    requires from { IfSome ledger (λ l. 1 ≤ l.originators) }
+    requires to { IfSome ledger (λ l. l.originators ≤ 64) }
     ensures { IfOk result (λ made. made ≡ ledger_from ledger) }
 {
     match ledger {
-        Some(ledger) => Ok(Some(Ledger::new(alloc, ledger.originators, ledger.life)?)),
         None => Ok(None),
+        Some(ledger) => Ok(Some(Ledger::new(alloc, ledger.originators, ledger.life)?)),
     }
 }

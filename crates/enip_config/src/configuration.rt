@@ -90,7 +90,7 @@ impl Configuration {
         let values = Configuration::from_table(alloc, &table)?;
         match values.objects.fault() {
             Some(check) => Err(LoadFault::from(check)),
-            None => Ok(values.with_lists(&table)?),
+            None => values.with_lists(&table),
         }
     }
 

@@ -358,7 +358,8 @@ impl<O: Observer + Drop, S: Serving<O::Wire> + Drop> Server<O, S> {
         let slot = match self.peers.slot_for(now, admission.group) {
             Ok(slot) => slot,
             Err(full) => {
-                self.observer.turned_away(now, address, turned_away_by(full));
+                self.observer
+                    .turned_away(now, address, turned_away_by(full));
                 return false;
             }
         };

@@ -1,7 +1,7 @@
 //! `enip serve`: the device that the arguments describe, its sockets, and what observes it.
 
 ghost use Rattle.std.specs.Prelude.{◌≡◌, ◌<◌, ◌≤◌, ◌*◌, ◌-◌, ◌^◌, IfSome, IfOk, IsTrue};
-ghost use Rattle.enip_config.specs.Access.{HasShares, IsShare};
+ghost use Rattle.enip_config.specs.Configured.{shares_from};
 
 use crate::frame_log::FrameLog;
 use crate::keeping::Keeping;
@@ -12,16 +12,15 @@ use crate::observer::{Observer, TurnedAwayReport};
 use crate::reported_address::ReportedAddress;
 use crate::serve::{ServeLimits, Sockets, serve_connections};
 use crate::serving::{ServeFault, Serving};
-use cip_objects::Config;
 use clap::ArgMatches;
 use enip_access::Access;
-use enip_adapter::{Adapter, Limits, Listen};
+use enip_adapter::{Adapter, Limits, Listen, Shares};
 use enip_cli::OsArg;
 use enip_common::{
     ArgumentError, CLOCK, CommandError, ERRORS, HostPort, NamedFile, NamedReason, NumberArgument,
     OUTPUT, Reason, print_argument_error, u16_of,
 };
-use enip_config::{Configuration, shares_for};
+use enip_config::Configuration;
 use enip_keep::{KeepError, Keeper, Server};
 use enip_server::{NO_IDLE_TIMEOUT, Peers, Wire};
 use kept_adapter::{AdapterStart, LedgerStart};
@@ -270,7 +269,8 @@ fn adapter_start<'a>(
     let mut configuration = config.configuration_to_serve(rt.alloc())?;
     let access = configuration.access.take();
     let life = life_now(rt)?;
-    match start_of(configuration, &access, life, begins_life, idle_timeout) {
+    let shares = shares_from(&access);
+    match start_of(configuration, shares, life, begins_life, idle_timeout) {
         Some(start) => Ok((start, access)),
         None => Err(CommandError::of_reason(Reason::Named(config.name(), NamedReason::Failed))),
     }
@@ -280,7 +280,7 @@ fn adapter_start<'a>(
 /// its own objects are in the order of their numbers. `None` if the configuration was not accepted before.
 fn start_of(
     configuration: Configuration,
-    access: &Option<Access>,
+    shares: Shares,
     life: u64,
     begins_life: bool,
     idle_timeout: u64,
@@ -297,7 +297,12 @@ fn start_of(
         access: _,
         attribute_types: _,
     } = configuration;
-    sort_by_numbers(&mut objects);
+    objects
+        .assemblies
+        .sort_unstable_by_key(|assembly| assembly.instance);
+    objects
+        .objects
+        .sort_unstable_by_key(|object| (object.class, object.instance));
     let ledger = ledger.map(|ledger| LedgerStart {
         originators: ledger.originators,
         life,
@@ -308,7 +313,7 @@ fn start_of(
         first_handle,
         first_id,
     };
-    if objects.fault().is_some() || !are_in_range(limits, ledger) || !has_shares(access) {
+    if objects.fault().is_some() || !are_in_range(limits, ledger) || !are_shares(shares) {
         return None;
     }
     Some(AdapterStart {
@@ -317,19 +322,30 @@ fn start_of(
         begins_life,
         listen: Listen { address, port },
         limits,
-        shares: shares_for(access),
+        shares,
         idle_timeout,
     })
 }
 
-/// Sorts the assemblies and the own objects by their numbers.
-fn sort_by_numbers(objects: &mut Config) {
-    objects
-        .assemblies
-        .sort_unstable_by_key(|assembly| assembly.instance);
-    objects
-        .objects
-        .sort_unstable_by_key(|object| (object.class, object.instance));
+/// How many peers and connections one address may have.
+fn shares_from(access: &Option<Access>) -> Shares
+    ensures { result ≡ shares_from access.now }
+{
+    match access {
+        Some(access) => Shares {
+            peers: access.peers_per_address(),
+            connections: access.most_connections_per_address(),
+        },
+        None => Shares::NONE,
+    }
+}
+
+/// Whether an adapter can have these shares.
+fn are_shares(shares: Shares) -> bool
+    ensures peers { IsTrue result → (1 ≤ shares.peers) × (shares.peers ≤ 16) }
+    ensures connections { IsTrue result → (1 ≤ shares.connections) × (shares.connections ≤ 64) }
+{
+    1 <= shares.peers && shares.peers <= 16 && 1 <= shares.connections && shares.connections <= 64
 }
 
 /// Whether an adapter has these limits, and a ledger so many slots.
@@ -350,27 +366,6 @@ fn are_in_range(limits: Limits, ledger: Option<LedgerStart>) -> bool
         && limits.connections <= 64
         && 1 <= limits.first_handle
         && 1 <= limits.first_id
-}
-
-/// Whether an adapter can have the shares of a table `access`.
-fn has_shares(access: &Option<Access>) -> bool
-    ensures { IsTrue result → IfSome access.now HasShares }
-{
-    match access {
-        Some(access) => is_share(16, access.per_address)
-            && is_share(64, access.connections_per_address),
-        None => true,
-    }
-}
-
-/// Whether a share, if there is one, is in its range.
-fn is_share(greatest: u16, share: Option<u16>) -> bool
-    ensures { IsTrue result → IsShare greatest share }
-{
-    match share {
-        Some(share) => 1 <= share && share <= greatest,
-        None => true,
-    }
 }
 
 /// The number of a life that starts now: the microseconds of the wall clock since 1970 (ours).

@@ -61,8 +61,11 @@ module _ {W : Type 0} (a : AdapterState) (now : ℕ) where
       by : (b : Bool) → may_give_way a now found ≡ b
           → (if b then Some (record { slot = 0; since = found.last_byte_at }) else None) ≡ Some s
           → (s.slot ≡ zero) × (may_give_way a now found ≡ true)
-      by true may is = (let same : record { slot = 0; since = found.last_byte_at } ≡ s = cc in
-          sym (ap (λ (t : Silent). t.slot) same), may)
+      by true may is = (
+        let same : record { slot = 0; since = found.last_byte_at } ≡ s = cc in
+            sym (ap (λ (t : Silent). t.slot) same),
+        may,
+      )
       by false may is = cc
 
   at_first : (slot : Option (PeerIo W)) (s : Silent) → silent_in a now slot ≡ Some s → s.slot ≡ zero
@@ -190,9 +193,11 @@ module _ {W : Type 0} where
   added_leads old new now wire rights group (Ok at) result is =
       let begins : (calls : List Call) × (new.adapter ≡ after_calls (freed old at).adapter calls)
       = begins_leads (freed old at) new now wire rights group at result is in
-      let ends : List Call = ends_before old at (slice_get old.slots at) in
-      (ends ++ begins.0, begins.1 ∙ ap (λ a. after_calls a begins.0) (freed_leads old at (slice_get old.slots at))
-          ∙ sym (after_calls-append old.adapter ends begins.0))
+      let ends : List Call = ends_before old at (slice_get old.slots at) in (
+        ends ++ begins.0,
+        begins.1 ∙ ap (λ a. after_calls a begins.0) (freed_leads old at (slice_get old.slots at))
+            ∙ sym (after_calls-append old.adapter ends begins.0),
+      )
   added_leads old new now wire rights group (Err full) result is = ([], ap (λ (q : ServerState W). q.adapter) is.1)
 
   -- as the law states it

@@ -34,10 +34,13 @@ pub(crate) fn longest_silent<W: Wire>(
     };
     let first = silent_in(slot, adapter, now);
     match longest_silent(others, adapter, now) {
-        Some(silent) => longer(first, Silent {
-            slot: silent.slot + 1,
-            since: silent.since,
-        }),
+        Some(silent) => longer(
+            first,
+            Silent {
+                slot: silent.slot + 1,
+                since: silent.since,
+            },
+        ),
         None => first,
     }
 }

@@ -127,10 +127,11 @@ impl<W: Wire + Drop> Peers<W> {
         if let Some(free) = self.first_free() {
             return Ok(free);
         }
-        if group.is_none() {
-            return Err(Full::Places);
-        }
-        match longest_silent(&self.slots, &self.adapter, now) {
+        let silent = match group {
+            Some(_) => longest_silent(&self.slots, &self.adapter, now),
+            None => None,
+        };
+        match silent {
             Some(silent) => Ok(silent.slot),
             None => Err(Full::Places),
         }
