@@ -77,6 +77,7 @@ uint32_t enip_core_adapter_in_doubt(struct kept *, size_t, uint64_t *, uint32_t 
 uint32_t enip_core_adapter_settle(struct kept *, uint64_t, uint32_t, const uint8_t *, size_t);
 void enip_core_adapter_free(struct kept *);
 uint32_t enip_core_adapter_begin(struct kept *, uint32_t *);
+uint32_t enip_core_adapter_begin_as(struct kept *, uint32_t, uint32_t, uint64_t, uint64_t, uint32_t *);
 uint32_t enip_core_adapter_feed(struct kept *, uint64_t, uint32_t, const uint8_t *, size_t, uint8_t *, size_t,
                                 enip_fed *);
 uint32_t enip_core_adapter_asked(struct kept *, uint64_t, uint32_t, const uint8_t *, size_t, uint8_t *, size_t,
@@ -301,6 +302,26 @@ int enip_adapter_begin(enip_adapter *adapter, uint32_t *peer) {
     if (!is_free_adapter(adapter) || peer == NULL)
         return ENIP_MISUSE;
     return (int)enip_core_adapter_begin(&adapter->kept, peer);
+}
+
+/* The number of eight bytes, the most significant first. */
+static uint64_t number_of(const uint8_t *bytes) {
+    uint64_t number = 0;
+    for (size_t i = 0; i < 8; i++)
+        number = number << 8 | bytes[i];
+    return number;
+}
+
+int enip_adapter_begin_as(enip_adapter *adapter, int rights, const uint8_t group[16], uint32_t *peer) {
+    uint64_t high = 0, low = 0;
+    if (!is_free_adapter(adapter) || peer == NULL || (rights != ENIP_MAY_WRITE && rights != ENIP_MAY_READ)
+        || (group != NULL && !are_apart(group, 16, peer, sizeof *peer)))
+        return ENIP_MISUSE;
+    if (group != NULL) {
+        high = number_of(group);
+        low = number_of(group + 8);
+    }
+    return (int)enip_core_adapter_begin_as(&adapter->kept, (uint32_t)rights, group != NULL, high, low, peer);
 }
 
 int enip_adapter_feed(enip_adapter *adapter, uint64_t now, uint32_t peer, const void *bytes, size_t length,

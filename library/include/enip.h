@@ -62,7 +62,8 @@ enum {
     ENIP_ABANDONED = 17,    /* 65,535 requests were submitted since the last accepted reply */
     ENIP_WANTS = 18,        /* a connection size in enip_wants is out of range */
     ENIP_NUMBERS = 19,      /* no command number is left for this originator */
-    ENIP_SAVED_STATE = 20   /* the saved state is refused */
+    ENIP_SAVED_STATE = 20,  /* the saved state is refused */
+    ENIP_SHARE = 21         /* all peer slots of this group are taken */
 };
 
 /*
@@ -85,7 +86,7 @@ ENIP_API const char *enip_version(void);
 
 /* The kinds of numbers that enip_status_text explains. */
 enum {
-    ENIP_OF_CALL = 0,     /* the status of a call: ENIP_OK to ENIP_SAVED_STATE */
+    ENIP_OF_CALL = 0,     /* the status of a call: ENIP_OK to ENIP_SHARE */
     ENIP_OF_NO_REPLY = 1, /* why a frame got no answer: ENIP_NO_REPLY_INCOMPLETE and the following */
     ENIP_OF_GENERAL = 2,  /* the general status of a reply, 0x00 to 0xff */
     ENIP_OF_EXTENDED = 3, /* the extended status of the Connection Manager, 0x0000 to 0xffff */
@@ -167,6 +168,21 @@ ENIP_API int enip_adapter_free(enip_adapter *adapter);
  * ENIP_OK, ENIP_PLACES, ENIP_HANDLES, ENIP_MISUSE.
  */
 ENIP_API int enip_adapter_begin(enip_adapter *adapter, uint32_t *peer);
+
+/* What a peer may do. */
+enum {
+    ENIP_MAY_WRITE = 0, /* everything */
+    ENIP_MAY_READ = 1   /* whatever changes nothing; the device answers 0x0f, "privilege violation", to a change */
+};
+
+/*
+ * Adds a peer like enip_adapter_begin, with rights and a group. rights is ENIP_MAY_WRITE or ENIP_MAY_READ. group is 16
+ * bytes that name for whom the peer counts, such as the client's IPv6 address, or NULL if it counts for nobody. A group
+ * holds at most as many peers and connections as the configuration gives one address (docs/PROGRAM.md, "Who may read,
+ * who may write").
+ * ENIP_OK, ENIP_SHARE, ENIP_PLACES, ENIP_HANDLES, ENIP_MISUSE.
+ */
+ENIP_API int enip_adapter_begin_as(enip_adapter *adapter, int rights, const uint8_t group[16], uint32_t *peer);
 
 /*
  * Passes a piece of a peer's stream, 1 byte or more, that was read at the time now. The greatest time so far counts:

@@ -141,6 +141,10 @@ void enip_core_adapter_free(struct kept *k) {
 uint32_t enip_core_adapter_begin(struct kept *k, uint32_t *p) {
     return NOTE("adapter_begin", WORD(k), WORD(p));
 }
+uint32_t enip_core_adapter_begin_as(struct kept *k, uint32_t rights, uint32_t has_group, uint64_t high, uint64_t low,
+                                    uint32_t *p) {
+    return NOTE("adapter_begin_as", WORD(k), rights, has_group, high, low, WORD(p));
+}
 uint32_t enip_core_adapter_feed(struct kept *k, uint64_t now, uint32_t p, const uint8_t *bytes, size_t length,
                                 uint8_t *buffer, size_t size, enip_fed *fed) {
     return NOTE("adapter_feed", WORD(k), now, p, WORD(bytes), length, WORD(buffer), size, WORD(fed));
@@ -326,6 +330,8 @@ struct call {
         return enip_##name(a->handle, __VA_ARGS__);   \
     }
 CALL(adapter_begin, a->result)
+static const uint8_t group[16] = {1, 2, 3, 4, 5, 6, 7, 8, 9, 10, 11, 12, 13, 14, 15, 16};
+CALL(adapter_begin_as, ENIP_MAY_READ, group, a->result)
 CALL(adapter_feed, NOW, peer, a->bytes, a->length, a->buffer, a->size, a->result)
 CALL(adapter_serve, NOW, peer, a->bytes, a->length, a->buffer, a->size, never, NULL, a->result)
 CALL(adapter_tick, NOW)
@@ -366,6 +372,8 @@ static int once_abandon(const struct arguments *a) {
 
 static struct call calls[] = {
     {"adapter_begin", ADAPTER, adapter_begin, 0, 0, 4, 0, {0}},
+    {"adapter_begin_as", ADAPTER, adapter_begin_as, 0, 0, 4, 4,
+     {ENIP_MAY_READ, 1, 0x0102030405060708, 0x090a0b0c0d0e0f10}},
     {"adapter_feed", ADAPTER, adapter_feed, 28, ENIP_ANSWER_ROOM, sizeof(enip_fed), 2, {NOW, 0}},
     {"adapter_serve", ADAPTER, adapter_serve, 28, ENIP_ANSWER_ROOM, sizeof(enip_fed), 2, {NOW, 0}},
     {"adapter_tick", ADAPTER, adapter_tick, 0, 0, 0, 1, {NOW}},
@@ -473,7 +481,7 @@ static void allowed(const struct call *call, const char *how, struct arguments a
 #ifdef LAYER
     int returns = strcmp(call->name, "adapter_tick") != 0 && strcmp(call->name, "adapter_end") != 0
         && strncmp(call->name, "adapter_set_", 12) != 0;
-    for (core_status = 0; core_status < 21; core_status++) {
+    for (core_status = 0; core_status < 22; core_status++) {
         int status = is_small(call, &a) ? ENIP_ROOM : returns ? (int)core_status : ENIP_OK;
         call_count = 0;
         is(call->name, how, call->call(&a) == status);
@@ -864,7 +872,7 @@ static void explained(enip_adapter **adapter, int status) {
 
 /* What the call that starts from a state passes on, and what it writes of a refusal. */
 static void started(void) {
-    for (core_status = 0; core_status < 21; core_status++) {
+    for (core_status = 0; core_status < 22; core_status++) {
         for (int kind = 0; kind < 3; kind++) {
             const void *from = kind == 0 ? NULL : arena + HIGH;
             size_t size = kind == 0 ? 0 : 55;
@@ -900,7 +908,7 @@ static void made(void) {
     static const char *const names[KINDS] = {"adapter_free", "endings_free", "client_free", "once_free"};
     enip_wants wants = {0};
     for (int resumed = 0; resumed < 2; resumed++) {
-        for (core_status = 0; core_status < 21; core_status++) {
+        for (core_status = 0; core_status < 22; core_status++) {
             void *objects[KINDS] = {NULL, NULL, NULL, NULL};
             enip_adapter *adapter = NULL;
             enip_endings *endings = NULL;
@@ -1040,7 +1048,7 @@ static void serves(void) {
         answered = i % 3 == 0 ? 0 : i % 3 == 1 ? 1 : -1;
         given = (enip_reply){lengths[i / 3], (uint8_t)i, {'r'}};
         is_given = answered == 0 && given.length <= 480;
-        for (core_status = 0; core_status < 21; core_status++) {
+        for (core_status = 0; core_status < 22; core_status++) {
             asked_status = ENIP_OK;
             owner_count = 0;
             status = enip_adapter_serve(adapter, NOW, 7, bytes, 9, buffer, 5000, answering, &owner_count, fed);

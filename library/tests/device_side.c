@@ -16,11 +16,15 @@ static void is(const char *what, long long got, long long wanted) {
 
 #define MISUSE(call) is(#call, call, ENIP_MISUSE)
 
-static const char configuration[] =
-    "vendor = 4660\ndevice_type = 43\nproduct_code = 7\nmajor = 2\nminor = 5\nserial = 1\nname = \"M\"\n"
-    "address = [127, 0, 0, 1]\n[counter]\nlimit = 100\n"
-    "[[assembly]]\ninstance = 100\nsettable = true\nmembers = [1, 2, 1]\n"
-    "[[assembly]]\ninstance = 101\nmembers = [2]\n";
+#define DEVICE \
+    "vendor = 4660\ndevice_type = 43\nproduct_code = 7\nmajor = 2\nminor = 5\nserial = 1\nname = \"M\"\n" \
+    "address = [127, 0, 0, 1]\n[counter]\nlimit = 100\n" \
+    "[[assembly]]\ninstance = 100\nsettable = true\nmembers = [1, 2, 1]\n" \
+    "[[assembly]]\ninstance = 101\nmembers = [2]\n"
+static const char configuration[] = DEVICE;
+
+/* The same device. One address has one peer at a time. */
+static const char shared[] = DEVICE "[access]\nper_address = 1\n";
 
 /* Set_Attribute_Single of assembly 100 with 4 bytes and with 3, of assembly 101, and Set_Member 2 of assembly 100. */
 static const unsigned char set_100[] = {0x10, 3, 0x20, 4, 0x24, 100, 0x30, 3, 9, 8, 7, 6};
@@ -73,14 +77,18 @@ static int submit(uint32_t peer, uint32_t connection, unsigned char count, const
     return fed.answer > 48 ? buffer[48] : -1;
 }
 
-/* Begins a peer, and registers its session. */
-static uint32_t registered(void) {
+static void register_session(uint32_t peer) {
     unsigned char frame[28] = {0};
-    uint32_t peer = 0;
-    is("begin", enip_adapter_begin(adapter, &peer), ENIP_OK);
     put_header(frame, 0x65, 4, 0);
     frame[24] = 1;
     send_frame(frame, sizeof frame, peer);
+}
+
+/* Begins a peer, and registers its session. */
+static uint32_t registered(void) {
+    uint32_t peer = 0;
+    is("begin", enip_adapter_begin(adapter, &peer), ENIP_OK);
+    register_session(peer);
     return peer;
 }
 
@@ -226,7 +234,32 @@ static void reads(const enip_adapter *reader, const enip_endings *list) {
     is("an empty list", enip_endings_at(list, 0, &one), ENIP_ABSENT);
 }
 
+/* A reader changes nothing, and a group has one peer at a time. */
+static void readers(void) {
+    static const unsigned char get_100[] = {0x0e, 3, 0x20, 4, 0x24, 100, 0x30, 3};
+    static const uint8_t first[16] = {1}, last[16] = {[15] = 1};
+    uint32_t reader = 0, writer = 0, none = 77;
+    is("new", enip_adapter_new(shared, sizeof shared - 1, &adapter, NULL), ENIP_OK);
+    is("a reader", enip_adapter_begin_as(adapter, ENIP_MAY_READ, first, &reader), ENIP_OK);
+    is("the share of a group", enip_adapter_begin_as(adapter, ENIP_MAY_WRITE, first, &none), ENIP_SHARE);
+    is("no peer", none, 77);
+    is("a writer of another group", enip_adapter_begin_as(adapter, ENIP_MAY_WRITE, last, &writer), ENIP_OK);
+    is("the share of the other group", enip_adapter_begin_as(adapter, ENIP_MAY_READ, last, &none), ENIP_SHARE);
+    is("a peer of no group", enip_adapter_begin_as(adapter, ENIP_MAY_READ, NULL, &none), ENIP_OK);
+    register_session(reader);
+    register_session(writer);
+    is("a reader reads", ask(reader, get_100, sizeof get_100), 0);
+    is("a reader writes", ask(reader, set_100, sizeof set_100), 0x0f);
+    is("nothing changed", changes_of(100), 0);
+    is("a writer writes", ask(writer, set_100, sizeof set_100), 0);
+    is("a change", changes_of(100), 1);
+    is("end", enip_adapter_end(adapter, reader), ENIP_OK);
+    is("the group again", enip_adapter_begin_as(adapter, ENIP_MAY_WRITE, first, &none), ENIP_OK);
+    is("free", enip_adapter_free(adapter), ENIP_OK);
+}
+
 int main(void) {
+    readers();
     is("new", enip_adapter_new(configuration, sizeof configuration - 1, &adapter, NULL), ENIP_OK);
     is("endings", enip_endings_new(&endings), ENIP_OK);
     writes();

@@ -58,6 +58,12 @@ int main(void) {
     MISUSE(enip_adapter_begin(NULL, &peer));
     MISUSE(enip_adapter_begin(other, &peer));
     MISUSE(enip_adapter_begin(adapter, NULL));
+    MISUSE(enip_adapter_begin_as(NULL, ENIP_MAY_READ, NULL, &peer));
+    MISUSE(enip_adapter_begin_as(other, ENIP_MAY_READ, NULL, &peer));
+    MISUSE(enip_adapter_begin_as(adapter, ENIP_MAY_READ + 1, NULL, &peer));
+    MISUSE(enip_adapter_begin_as(adapter, ENIP_MAY_WRITE - 1, NULL, &peer));
+    MISUSE(enip_adapter_begin_as(adapter, ENIP_MAY_READ, NULL, NULL));
+    MISUSE(enip_adapter_begin_as(adapter, ENIP_MAY_READ, (const uint8_t *)&peer, &peer));
     MISUSE(enip_adapter_feed(NULL, 0, peer, registers, 28, buffer, sizeof buffer, &fed));
     MISUSE(enip_adapter_feed(other, 0, peer, registers, 28, buffer, sizeof buffer, &fed));
     MISUSE(enip_adapter_feed(adapter, 0, peer, NULL, 28, buffer, sizeof buffer, &fed));

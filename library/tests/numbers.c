@@ -117,7 +117,7 @@ int main(void) {
     is("new", enip_adapter_new(HEAD NAME COUNTER, sizeof HEAD NAME COUNTER - 1, &adapter, NULL), ENIP_OK);
     reasons();
     is("free", enip_adapter_free(adapter), ENIP_OK);
-    texts("texts of statuses", ENIP_OF_CALL, ENIP_OK, ENIP_SAVED_STATE);
+    texts("texts of statuses", ENIP_OF_CALL, ENIP_OK, ENIP_SHARE);
     texts("texts of reasons", ENIP_OF_NO_REPLY, ENIP_NO_REPLY_INCOMPLETE, ENIP_NO_REPLY_NOT_SERVED);
     texts("texts of endings", ENIP_OF_ENDING, ENIP_ENDED_TIMED_OUT, ENIP_ENDED_CLOSED);
     is("no text of another kind", (long long)enip_status_text(5, 1, (char[8]){0}, 8), 0);

@@ -1,11 +1,12 @@
 -- What a function of an adapter returns to C.
-use Rattle.std.specs.Prelude.{ℕ, List, [], ◌++◌, ◌≡◌, ◌⊎◌, ◌-◌, length, Bool, true, false, Option, Some, None, ⊤}
+use Rattle.std.specs.Prelude.{ℕ, ◌==◌, ◌+◌, ◌*◌, ◌^◌, if◌then◌else◌, List, [], ◌++◌, ◌≡◌, ◌⊎◌, ◌-◌, length, Bool, true, false, Option, Some, None, ⊤}
 use Rattle.std.specs.Option.{IsSomeAnd}
 use Rattle.cip_manager.specs.Connection.{earliest_deadline}
 use Rattle.cip_objects.specs.Contents.{value_at}
 use Rattle.enip_adapter.specs.declared.adapter.Full.{Full}
 use Rattle.enip_adapter.specs.declared.adapter.Full.TheVariants.{Places, Handles, Share}
-use Rattle.enip_adapter.specs.declared.peer.Rights.TheVariants.{Write}
+use Rattle.enip_adapter.specs.declared.peer.Rights.{Rights}
+use Rattle.enip_adapter.specs.declared.peer.Rights.TheVariants.{Read, Write}
 use Rattle.enip_adapter.specs.declared.no_reply_reason.NoReplyReason.{NoReplyReason}
 use Rattle.enip_adapter.specs.declared.no_reply_reason.NoReplyReason.TheVariants as no_reply_reason
 use Rattle.enip_adapter.specs.Calls.{AdapterState, Call, call_meaning, call_answer, after_call}
@@ -72,20 +73,30 @@ abbrev pub IsFedKept : Option AdapterState → Option AdapterState → Call → 
 IsFedKept (Some old) (Some new) call buffer_old buffer_new fed = IsFed old new call buffer_old buffer_new fed
 IsFedKept old new call buffer_old buffer_new fed = ⊥
 
--- The status of adding a peer, and the peer's number. A group that holds its share has no slot left for the peer.
+-- The status of adding a peer, and the peer's number.
 abbrev pub full_status : Full → Status
 full_status Places = status.Places
 full_status Handles = status.Handles
-full_status Share = status.Places
+full_status Share = status.Share
 
 abbrev pub IsBegun : Output → ℕ → ℕ → ℕ → Type 0
 IsBegun (Begins handle) old new result = (result ≡ status_number status.Done) × (new ≡ handle)
 IsBegun (Refuses full) old new result = (result ≡ status_number (full_status full)) × (new ≡ old)
 IsBegun other old new result = ⊥
 
-abbrev pub IsBegunKept : Option AdapterState → ℕ → ℕ → ℕ → Type 0
-IsBegunKept None old new result = ⊥
-IsBegunKept (Some a) old new result = IsBegun (call_answer a (Begins_peer Write None)).output old new result
+abbrev pub IsBegunKept : Rights → Option ℕ → Option AdapterState → ℕ → ℕ → ℕ → Type 0
+IsBegunKept rights group None old new result = ⊥
+IsBegunKept rights group (Some a) old new result =
+    IsBegun (call_answer a (Begins_peer rights group)).output old new result
+
+-- What a peer may do: ENIP_MAY_READ is 1, any other number stands for ENIP_MAY_WRITE.
+abbrev pub rights_of : ℕ → Rights
+rights_of rights = if rights == 1 then Read else Write
+
+-- The group of 16 bytes, the most significant first: the first eight and the last eight, as numbers. Without bytes,
+-- nobody's.
+abbrev pub group_of : ℕ → ℕ → ℕ → Option ℕ
+group_of has_group high low = if has_group == 0 then None else Some (high * 2 ^ 64 + low)
 
 -- The number of a check in C. 13 is that of ENIP_CONFIG_ORDER.
 abbrev pub check_number : ConfigurationRefusal → ℕ

@@ -26,6 +26,7 @@ status_number status.Abandoned = 17
 status_number status.Wants = 18
 status_number status.Numbers = 19
 status_number status.SavedState = 20
+status_number status.Share = 21
 
 -- The status of a call that makes an object, if nothing is wrong with its arguments: memory may run out.
 abbrev pub IsMadeStatus : ℕ → Type 0

@@ -10,7 +10,7 @@ ghost use Rattle.enip_config.specs.Configured.{IsAdapterOf};
 ghost use Rattle.enip_config.specs.Documents.{IsFaultOf};
 ghost use Rattle.enip_c.specs.AdapterCalls.{IsFed, IsFedKept, IsBegun, IsBegunKept, IsRefusedBy, no_reply_reason_number, fed_of, answer_bytes};
 ghost use Rattle.enip_c.specs.AdapterCalls.{bool_number, full_status, AreFreeKept, deadline_kept, attribute_kept, discovered_kept};
-ghost use Rattle.enip_c.specs.AdapterCalls.{IsAdapterStatus, check_number};
+ghost use Rattle.enip_c.specs.AdapterCalls.{IsAdapterStatus, check_number, group_of, rights_of};
 ghost use Rattle.enip_c.specs.Kept.{IsLive};
 ghost use Rattle.cip_objects.specs.Contents.{value_at};
 ghost use Rattle.enip_c.specs.Buffer.{status_number, in_buffer, returned_bytes, ReturnsNumber};
@@ -18,7 +18,7 @@ ghost use Rattle.enip_c.specs.Buffer.{status_number, in_buffer, returned_bytes, 
 use crate::adapter_pointer::KeptAdapter;
 use crate::buffer::{copy_front, return_bytes};
 use crate::status::Status;
-use enip_adapter::{Adapter, DiscoveryBuffer, Full, LONGEST_ANSWER, NoReplyReason, Peer};
+use enip_adapter::{Adapter, DiscoveryBuffer, Full, LONGEST_ANSWER, NoReplyReason, Peer, Rights};
 use enip_config::{ConfigurationRefusal, LoadFault, adapter_from};
 use std::alloc::Global;
 
@@ -100,19 +100,65 @@ pub extern "C" fn enip_core_adapter_begin(
 ) -> u32
     requires { IsLive kept.old.value }
     ensures state { kept.new.value ≡ option_map (λ a. after_call a (Call.Begins_peer Write None)) kept.old.value }
-    ensures begun { IsBegunKept kept.old.value peer.old peer.new result }
+    ensures begun { IsBegunKept Write None kept.old.value peer.old peer.new result }
 {
     let mut adapter = kept.take(alloc);
-    let status = begin(&mut adapter, peer);
+    let status = begin(&mut adapter, Rights::Write, None, peer);
     *kept = KeptAdapter::of(adapter);
     status
 }
 
-fn begin(adapter: &mut Adapter, peer: &mut u32) -> u32
-    ensures state { adapter.new ≡ after_call adapter.old (Call.Begins_peer Write None) }
-    ensures begun { IsBegun (call_answer adapter.old (Call.Begins_peer Write None)).output peer.old peer.new result }
+/// Adds a peer with these rights, which counts for the share of a group if `has_group` is not 0.
+#[unsafe(no_mangle)]
+pub extern "C" fn enip_core_adapter_begin_as(
+    alloc: Global,
+    kept: &mut KeptAdapter,
+    rights: u32,
+    has_group: u32,
+    high: u64,
+    low: u64,
+    peer: &mut u32,
+) -> u32
+    requires { IsLive kept.old.value }
+    ensures state { kept.new.value
+        ≡ option_map (λ a. after_call a (Call.Begins_peer (rights_of rights) (group_of has_group high low))) kept.old.value }
+    ensures begun { IsBegunKept (rights_of rights) (group_of has_group high low) kept.old.value peer.old peer.new result }
 {
-    match adapter.begin() {
+    let mut adapter = kept.take(alloc);
+    let rights = rights_of(rights);
+    let group = group_of(has_group, high, low);
+    let status = begin(&mut adapter, rights, group, peer);
+    *kept = KeptAdapter::of(adapter);
+    status
+}
+
+/// What a peer may do, by the number in `enip.h`.
+fn rights_of(rights: u32) -> Rights
+    ensures { result ≡ rights_of rights }
+{
+    if rights == 1 {
+        Rights::Read
+    } else {
+        Rights::Write
+    }
+}
+
+/// The group of 16 bytes: the number of the first eight, and that of the last eight.
+fn group_of(has_group: u32, high: u64, low: u64) -> Option<u128>
+    ensures { result ≡ group_of has_group high low }
+{
+    if has_group == 0 {
+        None
+    } else {
+        Some(u128::from(high) * 0x1_0000_0000_0000_0000 + u128::from(low))
+    }
+}
+
+fn begin(adapter: &mut Adapter, rights: Rights, group: Option<u128>, peer: &mut u32) -> u32
+    ensures state { adapter.new ≡ after_call adapter.old (Call.Begins_peer rights group) }
+    ensures begun { IsBegun (call_answer adapter.old (Call.Begins_peer rights group)).output peer.old peer.new result }
+{
+    match adapter.begin_as(rights, group) {
         Ok(begun) => {
             *peer = begun.handle();
             Status::Done.number()
@@ -127,7 +173,7 @@ fn status_of(full: Full) -> Status
     match full {
         Full::Places => Status::Places,
         Full::Handles => Status::Handles,
-        Full::Share => Status::Places,
+        Full::Share => Status::Share,
     }
 }
 

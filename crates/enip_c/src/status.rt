@@ -71,6 +71,9 @@ pub enum Status {
     /// The saved state is refused.
     #[error("the saved state is refused")]
     SavedState = 20,
+    /// All peer slots of this group are taken.
+    #[error("all peer slots of this group are taken")]
+    Share = 21,
 }
 
 impl Status {

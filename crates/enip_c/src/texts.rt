@@ -43,7 +43,7 @@ impl Kind {
 }
 
 /// The statuses of calls, in the order of their numbers.
-static STATUSES: [Status; 21] = [
+static STATUSES: [Status; 22] = [
     Status::Done,
     Status::Misuse,
     Status::Room,
@@ -65,6 +65,7 @@ static STATUSES: [Status; 21] = [
     Status::Wants,
     Status::Numbers,
     Status::SavedState,
+    Status::Share,
 ];
 
 /// Writes the text of a number of this kind. Returns its length, 0 if there is none or it does not fit.
