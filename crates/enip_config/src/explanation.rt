@@ -203,11 +203,13 @@ fn problem_in(alloc: Global, bytes: &[u8]) -> Result<Option<(Option<usize>, Prob
     if let Some((spot, problem)) = bad_value(&text) {
         return Ok(Some((line_of(alloc, bytes, spot), problem)));
     }
-    let found = match object_problem(alloc, &text)? {
-        Some(found) => Some(found),
-        None => list_problem(alloc, &text)?,
-    };
-    Ok(found.map(|(spot, problem)| (line_of(alloc, bytes, spot), problem)))
+    if let Some((spot, problem)) = object_problem(alloc, &text)? {
+        return Ok(Some((line_of(alloc, bytes, spot), problem)));
+    }
+    match list_problem(alloc, &text)? {
+        Some((spot, problem)) => Ok(Some((line_of(alloc, bytes, spot), problem))),
+        None => Ok(None),
+    }
 }
 
 /// The line of a location, from 1: the first one such that the lines up to it are a TOML document with something there.
