@@ -119,8 +119,11 @@ int main(int count, char **arguments) {
     FILE *file = fopen(arguments[2], "rb");
     size_t size = file == NULL ? 0 : fread(text, 1, sizeof text, file);
     int status = enip_adapter_new(text, size, &adapter, &why);
-    if (status == ENIP_CONFIGURATION)
-        return fprintf(stderr, "enip: %s\nconfiguration %u\n", why.text, (unsigned)why.number), 3;
+    if (status == ENIP_CONFIGURATION) {
+        // the program numbers the lists of the table access 13, which is ENIP_CONFIG_ORDER here
+        unsigned number = why.number == ENIP_CONFIG_ACCESS ? 13 : why.number;
+        return fprintf(stderr, "enip: %s\nconfiguration %u\n", why.text, number), 3;
+    }
     if (status != ENIP_OK)
         return fprintf(stderr, "memory\n"), 5;
     while (fgets(line, sizeof line, stdin) != NULL) {

@@ -63,7 +63,8 @@ int main(void) {
     MISUSE(enip_adapter_begin_as(adapter, ENIP_MAY_READ + 1, NULL, &peer));
     MISUSE(enip_adapter_begin_as(adapter, ENIP_MAY_WRITE - 1, NULL, &peer));
     MISUSE(enip_adapter_begin_as(adapter, ENIP_MAY_READ, NULL, NULL));
-    MISUSE(enip_adapter_begin_as(adapter, ENIP_MAY_READ, (const uint8_t *)&peer, &peer));
+    uint32_t words[4] = {0}; // a group that the peer would be written into
+    MISUSE(enip_adapter_begin_as(adapter, ENIP_MAY_READ, (const uint8_t *)words, &words[3]));
     MISUSE(enip_adapter_feed(NULL, 0, peer, registers, 28, buffer, sizeof buffer, &fed));
     MISUSE(enip_adapter_feed(other, 0, peer, registers, 28, buffer, sizeof buffer, &fed));
     MISUSE(enip_adapter_feed(adapter, 0, peer, NULL, 28, buffer, sizeof buffer, &fed));
