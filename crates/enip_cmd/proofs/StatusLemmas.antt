@@ -4,7 +4,7 @@ use Rattle.enip_adapter.specs.Calls.{AdapterState}
 use Rattle.enip_config.specs.declared.fault.LoadFault.{LoadFault}
 use Rattle.enip_config.specs.declared.fault.LoadFault.TheVariants as load
 use Rattle.enip_config.specs.declared.fault.ConfigurationRefusal.{ConfigurationRefusal}
-use Rattle.enip_config.specs.Configured.{IsAccepted, IsAdapterOf}
+use Rattle.enip_config.specs.Configured.{IsAccepted, IsUnsharedAdapterOf}
 use Rattle.enip_config.specs.Documents.{IsRefused, IsFaultOf as IsLoadFault}
 use Rattle.enip_commands.specs.declared.fault.ProgramFault.{ProgramFault}
 use Rattle.enip_commands.specs.declared.fault.ProgramFault.TheVariants as program
@@ -94,12 +94,12 @@ replay_load_fails text refused (Ok x) gives so = tt
 replay_load_fails text refused (Err f) gives so = rw gives.1 (of_fault text (fault_of_configuration refused) (of_load_fault text refused so))
 
 of_replay_failure : (text : List ℕ) (adapter : AdapterState) (refused : ℕ → Type 0) (before after : Option (List ℕ)) (failure : ReplayFailure)
-    → IsAdapterOf text adapter → IsAccepted text → IsStop adapter refused before after failure → IsReplayFaultOf text (fault_of_replay failure)
+    → IsUnsharedAdapterOf text adapter → IsAccepted text → IsStop adapter refused before after failure → IsReplayFaultOf text (fault_of_replay failure)
 of_replay_failure text adapter refused before after failures.Setup made accepted so = (adapter, (made, so.0))
 of_replay_failure text adapter refused before after (failures.Program cause) made accepted so = of_run_fault text cause accepted
 
 pub replay_fails : {T : Type 0} (text : List ℕ) (adapter : AdapterState) (refused : ℕ → Type 0) (before after : Option (List ℕ)) (failure : ReplayFailure)
-    (r : Result T Fault) → IsErr r × IsErrAnd r (λ f. f ≡ fault_of_replay failure) → IsAdapterOf text adapter → IsAccepted text
+    (r : Result T Fault) → IsErr r × IsErrAnd r (λ f. f ≡ fault_of_replay failure) → IsUnsharedAdapterOf text adapter → IsAccepted text
     → IsStop adapter refused before after failure → IfErr r (IsReplayFaultOf text)
 replay_fails text adapter refused before after failure (Ok x) gives made accepted so = tt
 replay_fails text adapter refused before after failure (Err f) gives made accepted so =

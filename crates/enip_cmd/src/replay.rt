@@ -9,7 +9,7 @@ ghost use Rattle.enip_common.specs.Statuses.{IsOpeningRefused, IsReplayFaultOf, 
 use crate::report::Report;
 use enip_commands::ProgramFault;
 use enip_common::Fault;
-use enip_config::adapter_from;
+use enip_config::unshared_adapter_from;
 use std::alloc::Global;
 use std::io::{BufWriter, Write};
 
@@ -61,7 +61,7 @@ fn run_on<W: Write>(
     ensures accepted { IfOk result (λ _. IsAccepted config.now) }
     ensures refused { IfErr result (IsReplayFaultOf config.now) }
 {
-    let adapter = adapter_from(alloc, config)?;
+    let adapter = unshared_adapter_from(alloc, config)?;
     enip_replay::replay(alloc, adapter, script, output)?;
     Ok(())
 }
@@ -115,7 +115,7 @@ fn run_drawn_on<W: Write>(
     ensures accepted { IfOk result (λ _. IsAccepted config.now) }
     ensures refused { IfErr result (IsReplayFaultOf config.now) }
 {
-    let adapter = adapter_from(alloc, config)?;
+    let adapter = unshared_adapter_from(alloc, config)?;
     enip_replay::draw_replay(alloc, adapter, script, output)?;
     Ok(())
 }

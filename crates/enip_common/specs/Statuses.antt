@@ -3,7 +3,7 @@ use Rattle.std.specs.Prelude.{◌≡◌, ◌⊎◌, ℕ, List, ⊤}
 use Rattle.enip_adapter.specs.Calls.{AdapterState}
 use Rattle.enip_config.specs.declared.fault.LoadFault.{LoadFault}
 use Rattle.enip_config.specs.declared.fault.LoadFault.TheVariants as load
-use Rattle.enip_config.specs.Configured.{IsAccepted, IsAdapterOf}
+use Rattle.enip_config.specs.Configured.{IsAccepted, IsUnsharedAdapterOf}
 use Rattle.enip_config.specs.Documents.{IsRefused}
 use Rattle.enip_commands.specs.declared.fault.ProgramFault.TheVariants as program
 use Rattle.enip_replay.specs.declared.replaying.ReplayFailure.{ReplayFailure}
@@ -59,7 +59,7 @@ IsFaultOf text (Run _) = ⊤
 
 -- The adapter that a text configures refuses what the replay opens: the sessions, or the connection of the client.
 abbrev pub IsOpeningRefused : List ℕ → Type 0
-IsOpeningRefused text = (adapter : AdapterState) × (IsAdapterOf text adapter × refuses_opening adapter)
+IsOpeningRefused text = (adapter : AdapterState) × (IsUnsharedAdapterOf text adapter × refuses_opening adapter)
 
 -- The same for a replay, whose opening may be refused.
 abbrev pub IsReplayFaultOf : List ℕ → Fault → Type 0

@@ -5,7 +5,7 @@ use Rattle.cip_ledger.specs.Ledger.{LedgerState, empty_ledger}
 use Rattle.cip_objects.specs.Configuration.{contents_of_config}
 use Rattle.enip_adapter.specs.declared.adapter.Limits.{Limits}
 use Rattle.enip_adapter.specs.declared.shared.Listen.{Listen}
-use Rattle.enip_adapter.specs.Adapter.{shared_adapter}
+use Rattle.enip_adapter.specs.Adapter.{new_adapter, shared_adapter}
 use Rattle.enip_adapter.specs.Groups.{no_shares}
 use Rattle.enip_adapter.specs.declared.adapter.Shares.{Shares}
 use Rattle.enip_adapter.specs.Calls.{AdapterState}
@@ -51,6 +51,12 @@ IsAdapterOf text adapter =
     (c : Configuration) × (IsDescribed text c
     × (adapter ≡ shared_adapter (device_of (ledger_from c.ledger) (contents_of_config c.objects)) (listen_of c) (limits_of c)
     (shares_from c.access)))
+
+-- the same, without the shares of the table `access`
+abbrev pub IsUnsharedAdapterOf : List ℕ → AdapterState → Type 0
+IsUnsharedAdapterOf text adapter =
+    (c : Configuration) × (IsDescribed text c
+    × (adapter ≡ new_adapter (device_of (ledger_from c.ledger) (contents_of_config c.objects)) (listen_of c) (limits_of c)))
 
 -- the same, in a life of this number
 abbrev pub IsAdapterInLife : ℕ → List ℕ → AdapterState → Type 0

@@ -4,7 +4,7 @@
 ghost use Rattle.std.specs.Prelude.{◌≡◌, ◌≤◌, IfOk, IfErr, IfSome};
 ghost use Rattle.cip_ledger.specs.Device.{device_of};
 ghost use Rattle.enip_adapter.specs.Adapter.{shared_adapter};
-ghost use Rattle.enip_config.specs.Configured.{IsAccepted, IsAdapterInLife, IsAdapterOf, in_life, ledger_from, limits_of, listen_of, shares_from};
+ghost use Rattle.enip_config.specs.Configured.{IsAccepted, IsAdapterInLife, IsAdapterOf, IsUnsharedAdapterOf, in_life, ledger_from, limits_of, listen_of, shares_from};
 ghost use Rattle.enip_config.specs.Access.{HasShares};
 ghost use Rattle.enip_config.specs.Documents.{IsFaultOf, IsInRange, AreSharesInRange};
 
@@ -30,7 +30,25 @@ pub fn adapter_from(alloc: Global, config: &[u8]) -> Result<Adapter, LoadFault>
 {
     let configuration = Configuration::from_bytes(alloc, config)?;
     let objects = Objects::new(alloc, &configuration.objects)?;
-    let adapter = adapter_of(alloc, objects, &configuration, configuration.ledger)?;
+    let shares = shares_from(&configuration.access);
+    let adapter = adapter_of(alloc, objects, &configuration, configuration.ledger, shares)?;
+    Ok(adapter)
+}
+
+/// Makes the same adapter, but without the shares of the table `access`: for peers that have no addresses.
+///
+/// # Errors
+///
+/// As `adapter_from`.
+pub fn unshared_adapter_from(alloc: Global, config: &[u8]) -> Result<Adapter, LoadFault>
+    ensures made { IfOk result (IsUnsharedAdapterOf config.now) }
+    ensures accepted { IfOk result (λ _. IsAccepted config.now) }
+    ensures refused { IfErr result (IsFaultOf config.now) }
+{
+    let configuration = Configuration::from_bytes(alloc, config)?;
+    let objects = Objects::new(alloc, &configuration.objects)?;
+    let shares = Shares::NONE;
+    let adapter = adapter_of(alloc, objects, &configuration, configuration.ledger, shares)?;
     Ok(adapter)
 }
 
@@ -48,7 +66,8 @@ pub fn adapter_in_life(alloc: Global, config: &[u8], life: u64) -> Result<Adapte
     let configuration = Configuration::from_bytes(alloc, config)?;
     let objects = Objects::new(alloc, &configuration.objects)?;
     let ledger = in_life(life, configuration.ledger);
-    let adapter = adapter_of(alloc, objects, &configuration, ledger)?;
+    let shares = shares_from(&configuration.access);
+    let adapter = adapter_of(alloc, objects, &configuration, ledger, shares)?;
     Ok(adapter)
 }
 
@@ -65,20 +84,23 @@ fn in_life(life: u64, ledger: Option<LedgerConfig>) -> Option<LedgerConfig>
     }
 }
 
-/// Makes the adapter of a configuration, over its objects, with a ledger before them if there is one. One address holds
-/// no more than its share.
+/// Makes the adapter of a configuration, over its objects, with a ledger before them if there is one, and these shares.
 fn adapter_of(
     alloc: Global,
     objects: Objects,
     configuration: &Configuration,
     ledger: Option<LedgerConfig>,
+    shares: Shares,
 ) -> Result<Adapter, AllocError>
     requires numbers { IsInRange configuration.now }
-    requires shares { AreSharesInRange configuration.now }
+    requires peers_from { 1 ≤ shares.peers }
+    requires peers_to { shares.peers ≤ 16 }
+    requires connections_from { 1 ≤ shares.connections }
+    requires connections_to { shares.connections ≤ 64 }
     requires ledger_from { IfSome ledger (λ l. 1 ≤ l.originators) }
     requires ledger_to { IfSome ledger (λ l. l.originators ≤ 64) }
     ensures { IfOk result (λ adapter. adapter ≡ shared_adapter (device_of (ledger_from ledger) objects)
-        (listen_of configuration.now) (limits_of configuration.now) (shares_from configuration.now.access)) }
+        (listen_of configuration.now) (limits_of configuration.now) shares) }
 {
     let listen = Listen {
         address: configuration.address,
@@ -90,7 +112,6 @@ fn adapter_of(
         first_handle: configuration.first_handle,
         first_id: configuration.first_id,
     };
-    let shares = shares_from(&configuration.access);
     let ledger = ledger_from(alloc, ledger)?;
     Adapter::shared(alloc, objects, ledger, listen, limits, shares)
 }

@@ -54,7 +54,7 @@ mod value_problems;
 mod values;
 mod width;
 
-pub use adapter::{adapter_from, adapter_in_life, shares_from};
+pub use adapter::{adapter_from, adapter_in_life, shares_from, unshared_adapter_from};
 pub use attribute_type::AttributeType;
 pub use configuration::Configuration;
 pub use example::EXAMPLE;
