@@ -4,7 +4,7 @@ use Rattle.enip_adapter.specs.Calls.{AdapterState}
 use Rattle.enip_config.specs.declared.fault.LoadFault.{LoadFault}
 use Rattle.enip_config.specs.declared.fault.LoadFault.TheVariants as load
 use Rattle.enip_config.specs.declared.fault.ConfigurationRefusal.{ConfigurationRefusal}
-use Rattle.enip_config.specs.Configured.{IsAccepted, IsUnsharedAdapterOf}
+use Rattle.configured_adapter.specs.Configured.{IsAccepted, IsUnsharedAdapterOf}
 use Rattle.enip_config.specs.Documents.{IsRefused, IsFaultOf as IsLoadFault}
 use Rattle.enip_commands.specs.declared.fault.ProgramFault.{ProgramFault}
 use Rattle.enip_commands.specs.declared.fault.ProgramFault.TheVariants as program

@@ -3,7 +3,7 @@ use Rattle.std.specs.Prelude.{◌≡◌, ◌⊎◌, ℕ, List, ⊤}
 use Rattle.enip_adapter.specs.Calls.{AdapterState}
 use Rattle.enip_config.specs.declared.fault.LoadFault.{LoadFault}
 use Rattle.enip_config.specs.declared.fault.LoadFault.TheVariants as load
-use Rattle.enip_config.specs.Configured.{IsAccepted, IsUnsharedAdapterOf}
+use Rattle.configured_adapter.specs.Configured.{IsAccepted, IsUnsharedAdapterOf}
 use Rattle.enip_config.specs.Documents.{IsRefused}
 use Rattle.enip_commands.specs.declared.fault.ProgramFault.TheVariants as program
 use Rattle.enip_replay.specs.declared.replaying.ReplayFailure.{ReplayFailure}

@@ -13,7 +13,6 @@ use enip_commands::{
     CommandFileFault, Digits, LedgerRefusal, LineFault, ProgramFault, RequestFailure,
 };
 use enip_config::Explanation;
-use kept_adapter::EntryName;
 use std::alloc::{AllocError, Global};
 use std::fmt;
 use std::io::{self, ErrorKind};
@@ -104,9 +103,6 @@ pub enum Reason<'a> {
     /// `FILE.round` is missing or damaged.
     #[error("{0}: {0}.round is missing or damaged, so the state may be older than it was (see --accept-older)")]
     NoLastRound(&'a str),
-    /// A kept value is not used, because the configuration does not describe it.
-    #[error("{0}: {1} is not used: the configuration has none, or one of another size")]
-    NotUsed(&'a str, EntryName),
     /// Memory was refused.
     #[error("out of memory")]
     Memory,
@@ -375,6 +371,6 @@ impl From<std::alloc::AllocError> for CommandError<'_> {
 }
 
 /// Prints a reason on standard error.
-pub fn print_reason<E: Eprint>(rt: &E, reason: &Reason<'_>) {
+pub fn print_reason<E: Eprint, R: fmt::Display>(rt: &E, reason: &R) {
     let _ = eprintln!(rt; "enip: {reason}");
 }

@@ -4,17 +4,15 @@
 ghost use Rattle.std.specs.Prelude.{◌≡◌, ◌≤◌, IfOk, IfErr, IfSome};
 ghost use Rattle.cip_ledger.specs.Device.{device_of};
 ghost use Rattle.enip_adapter.specs.Adapter.{shared_adapter};
-ghost use Rattle.enip_config.specs.Configured.{IsAccepted, IsAdapterInLife, IsAdapterOf, IsUnsharedAdapterOf, in_life, ledger_from, limits_of, listen_of, shares_from};
+ghost use Rattle.configured_adapter.specs.Configured.{IsAccepted, IsAdapterInLife, IsAdapterOf, IsUnsharedAdapterOf, in_life, ledger_from, limits_of, listen_of, shares_from};
 ghost use Rattle.enip_config.specs.Access.{HasShares};
 ghost use Rattle.enip_config.specs.Documents.{IsFaultOf, IsInRange, AreSharesInRange};
 
-use crate::configuration::Configuration;
-use crate::fault::LoadFault;
-use crate::ledger::LedgerConfig;
 use cip_ledger::Ledger;
 use cip_objects::Objects;
 use enip_access::Access;
 use enip_adapter::{Adapter, Limits, Listen, Shares};
+use enip_config::{Configuration, LedgerConfig, LoadFault};
 use std::alloc::{AllocError, Global};
 
 /// Makes the adapter that the bytes of a configuration describe. It has no peers yet.

@@ -3,9 +3,9 @@ use Rattle.enip_adapter.specs.Adapter.{shared_adapter}
 use Rattle.enip_config.specs.declared.configuration.Configuration.{Configuration}
 use Rattle.cip_ledger.specs.Device.{device_of}
 use Rattle.cip_objects.specs.Configuration.{contents_of_config}
-use Rattle.enip_config.specs.Configured.{in_life, ledger_from, listen_of, limits_of}
-use Rattle.enip_config.proofs.Refused.{objects_fail}
-use Rattle.enip_config.proofs.adapter.adapter_in_life.Goals as goal
+use Rattle.configured_adapter.specs.Configured.{in_life, ledger_from, listen_of, limits_of}
+use Rattle.configured_adapter.proofs.ObjectLemmas.{objects_fail}
+use Rattle.configured_adapter.proofs.adapter.adapter_in_life.Goals as goal
 
 pub returns-clause-accepted : goal.returns-clause-accepted
 returns-clause-accepted c = (c.in_ok-configuration.configuration, c.in_ok-configuration.ensures.read)

@@ -1,5 +1,5 @@
 use Rattle.enip_config.specs.declared.key.NumberKey.TheVariants.{Peers, Connections, FirstHandle, FirstId}
-use Rattle.enip_config.proofs.adapter.adapter_of.Goals as goal
+use Rattle.configured_adapter.proofs.adapter.adapter_of.Goals as goal
 
 pub shared-requires-clause-peers_from : goal.shared-requires-clause-peers_from
 shared-requires-clause-peers_from c = (c.requires.numbers Peers).0
