@@ -154,10 +154,10 @@ pub fn error_of_run<'a>(
     let reason = match fault {
         Fault::Configuration(_) => config.explanation(alloc),
         Fault::Setup => { Reason::Configuration(config.name(), ConfigurationReason::NoCapacity) }
-        Fault::Run(enip_commands::ProgramFault::Line(number, why)) => {
+        Fault::Run(enip_faults::ProgramFault::Line(number, why)) => {
             Reason::Line(input_name, number, why)
         }
-        Fault::Run(enip_commands::ProgramFault::Memory) => Reason::Memory,
+        Fault::Run(enip_faults::ProgramFault::Memory) => Reason::Memory,
         _ => stream_reason.unwrap_or(Reason::Named(input_name, NamedReason::Failed)),
     };
     CommandError::new(fault, reason)

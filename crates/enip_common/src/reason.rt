@@ -9,10 +9,10 @@ use cip_bytes::StatusText;
 use cip_route::RouteFailure;
 use cip_values::{ValueFault, ValueType};
 use enip_client::ClientFault;
-use enip_commands::{
+use enip_config::Explanation;
+use enip_faults::{
     CommandFileFault, Digits, LedgerRefusal, LineFault, ProgramFault, RequestFailure,
 };
-use enip_config::Explanation;
 use std::alloc::{AllocError, Global};
 use std::fmt;
 use std::io::{self, ErrorKind};
@@ -331,13 +331,13 @@ impl<'a> CommandError<'a> {
 
     /// A file, a stream or a device failed for this reason.
     pub fn of_reason(reason: Reason<'a>) -> CommandError<'a> {
-        CommandError::new(Fault::Run(enip_commands::ProgramFault::Device), reason)
+        CommandError::new(Fault::Run(enip_faults::ProgramFault::Device), reason)
     }
 
     /// Memory was refused.
     pub fn of_memory() -> CommandError<'a> {
         CommandError::new(
-            Fault::Run(enip_commands::ProgramFault::Memory),
+            Fault::Run(enip_faults::ProgramFault::Memory),
             Reason::Memory,
         )
     }

@@ -3,8 +3,8 @@
 ghost use Rattle.std.specs.Prelude.{◌≡◌, IfOk};
 
 use crate::kept_file::KeptFile;
-use enip_commands::Digits;
 use enip_common::{CommandError, NamedReason, Reason, print_reason};
+use enip_faults::Digits;
 use enip_keep::{Entry, Keeper};
 use kept_adapter::{AdapterStart, EntryName};
 use std::alloc::Global;

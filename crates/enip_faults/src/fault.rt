@@ -1,7 +1,7 @@
 //! Why a command ends early: the line that it prints, and its exit status.
 
 ghost use Rattle.std.specs.Prelude.{◌≡◌};
-ghost use Rattle.enip_commands.specs.Statuses.{exit_status};
+ghost use Rattle.enip_faults.specs.Statuses.{exit_status};
 
 use crate::line_fault::LineFault;
 use std::alloc::{AllocError, AllocFailed};
@@ -35,7 +35,7 @@ impl ProgramFault {
 }
 
 impl From<AllocError> for ProgramFault {
-    ghost use Rattle.enip_commands.specs.declared.fault.ProgramFault.TheVariants.{Memory};
+    ghost use Rattle.enip_faults.specs.declared.fault.ProgramFault.TheVariants.{Memory};
 
     ghost from_gives = { λ _ fault. fault ≡ Memory };
 
@@ -45,7 +45,7 @@ impl From<AllocError> for ProgramFault {
 }
 
 impl<T: Drop> From<AllocFailed<T>> for ProgramFault {
-    ghost use Rattle.enip_commands.specs.declared.fault.ProgramFault.TheVariants.{Memory};
+    ghost use Rattle.enip_faults.specs.declared.fault.ProgramFault.TheVariants.{Memory};
 
     ghost from_gives = { λ _ fault. fault ≡ Memory };
 
@@ -56,7 +56,7 @@ impl<T: Drop> From<AllocFailed<T>> for ProgramFault {
 
 impl From<io::Error> for ProgramFault {
     ghost use Rattle.std.specs.IoError.{error_kind};
-    ghost use Rattle.enip_commands.specs.Statuses.{IsOfDevices, fault_of_kind};
+    ghost use Rattle.enip_faults.specs.Statuses.{IsOfDevices, fault_of_kind};
 
     ghost from_gives = { λ error fault. IsOfDevices fault × (fault ≡ fault_of_kind (error_kind error)) };
 

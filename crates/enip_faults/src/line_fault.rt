@@ -37,15 +37,3 @@ pub enum LineFault {
     #[error("owner: expected a status, 0 to 255 but not 17, and up to 480 bytes of hex")]
     Owner,
 }
-
-impl LineFault {
-    /// The reason for refusing a line of `enip answer`.
-    pub(crate) fn of_input(text: &[u8]) -> LineFault {
-        match text {
-            [b'1'..=b'9', b' ', ..] => LineFault::Piece,
-            [b'e', b'n', b'd', b' ', ..] => LineFault::End,
-            [b'n', b'o', b'w', b' ', ..] => LineFault::Now,
-            _ => LineFault::Input,
-        }
-    }
-}

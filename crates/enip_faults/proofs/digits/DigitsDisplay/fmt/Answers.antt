@@ -1,8 +1,8 @@
 use Rattle.std.proofs.Common.{◌≡◌, [], ◌∷◌, get_or, rules, ◌∙◌, refl}
 use Rattle.std.proofs.Output.{has_written_append, has_written_of_eq}
 use Rattle.hex.specs.Hex.{encode_lower}
-use Rattle.enip_commands.proofs.DigitLemmas.{encode_lower-nil, encode_lower-more, encoded_in_room}
-use Rattle.enip_commands.proofs.digits.DigitsDisplay.fmt.Goals as goal
+use Rattle.enip_faults.proofs.DigitLemmas.{encode_lower-nil, encode_lower-more, encoded_in_room}
+use Rattle.enip_faults.proofs.digits.DigitsDisplay.fmt.Goals as goal
 
 pub loop-byte-init : goal.loop-byte-init
 loop-byte-init g c = λ plain. rw encode_lower-nil (search rules)
