@@ -75,12 +75,3 @@ default_within CounterLimit = search arith
 
 pub all_in_range : (described : Members) (c : Configuration) → HasValues described c → IsInRange c
 all_in_range described c values key = in_found (row key) (table_with key described) (held c key) (default_within key) (values.numbers key)
-
--- The objects accept what was read: only memory can fail.
-pub objects_fail : {T U : Type 0} (text : List ℕ) (described : Configuration) (r : Result T ConfigFault) (check : ConfigFault) (returned : Result U LoadFault)
-    → IsDescribed text described → (fault_of described.objects ≡ None → IfErr r (λ f. f ≡ Memory))
-    → r ≡ Err check → IsErr returned × IsErrAnd returned (λ f. f ≡ fault_of_objects check) → IfErr returned (IsFaultOf text)
-objects_fail text described r check (Ok x) read allowed is gives = tt
-objects_fail text described r check (Err fault) read allowed is gives =
-    let none : check ≡ Memory = subst (λ s. IfErr s (λ f. f ≡ Memory)) is (allowed read.taken) in
-    rw (gives.1, none) tt

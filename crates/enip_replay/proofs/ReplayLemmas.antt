@@ -10,7 +10,7 @@ use Rattle.enip_bench.specs.declared.bench.BenchFault.TheVariants as benches
 use Rattle.enip_client.specs.Client.{ClientState, new_client}
 use Rattle.enip_replay.specs.Replay.{IsUnopened, stop_of, assembly_printed, assemblies_printed}
 use Rattle.enip_commands.specs.declared.asking.TheConstants.{WANTS}
-use Rattle.enip_replay.specs.declared.replaying.ReplayFailure.{ReplayFailure}
+use Rattle.enip_faults.specs.declared.replay_failure.ReplayFailure.{ReplayFailure}
 
 -- Why no bench was made.
 pub no_bench : {T : Type 0} (adapter : AdapterState) (client : ClientState) (made : Result CountingWorld BenchFault) (fault : BenchFault)
