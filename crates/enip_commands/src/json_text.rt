@@ -16,3 +16,4 @@ pub(crate) use entry::{host_of, identity_line, service_line};
 pub(crate) use fields::fields_line;
 pub(crate) use latin::latin_text;
 pub(crate) use reply::{data_line, refusal_line, timed_line, values_line};
+pub use value::json_of;

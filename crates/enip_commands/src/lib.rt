@@ -13,6 +13,8 @@
 //!   address that each came from. A [`DiscoveryAnswer`] is compared with others.
 //! - An [`InterfaceConfiguration`] is printed as lines or, by [`interface_object`], as JSON.
 //!
+//! [`json_of`] is a value of an elementary type as JSON.
+//!
 //! A command over lines is built from [`TakeLines`], [`read_lines`], [`decode`], [`decimal`] and [`Digits`].
 //! `enip_replay` uses them for scripts.
 //!
@@ -58,6 +60,7 @@ pub use enip_faults::{
 };
 pub use input_lines::{TakeLines, read_lines};
 pub use interface::{InterfaceConfiguration, interface_object};
+pub use json_text::json_of;
 pub use lines::decimal;
 pub use list_objects::{objects_over, print_device_objects};
 pub use listing::{list_over, print_devices};

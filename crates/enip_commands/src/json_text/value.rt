@@ -31,7 +31,11 @@ pub(crate) fn list_of(alloc: Global, values: &[Value<'_>]) -> Result<Json, Alloc
 
 /// A value: a BOOL is `true` or `false`, an integer, a bit string or a duration is a number, and a string, a path, a date
 /// or a time of day is a string.
-pub(crate) fn json_of(alloc: Global, value: Value<'_>) -> Result<Json, AllocError>
+///
+/// # Errors
+///
+/// `AllocError` if memory is refused.
+pub fn json_of(alloc: Global, value: Value<'_>) -> Result<Json, AllocError>
     ensures { IfOk result (λ json. IsJsonOf (value_in value.entry) (view json)) }
 {
     match value {

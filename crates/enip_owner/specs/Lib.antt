@@ -1,0 +1,5 @@
+pub mod Streams
+pub mod HandOvers
+pub mod Requests
+pub mod Reading
+pub mod Values
