@@ -84,14 +84,14 @@ pub(crate) fn take_round<W: Wire + Drop>(
     add_accepted(peers, now, accepted);
     mark_ready(peers, ready.as_slice());
     let end = peers.round(now);
-    if !make_room(peers, now, room_for) {
-        return end;
+    if make_room(peers, now, room_for) {
+        return RoundEnd {
+            ended: end.ended + 1,
+            ready: end.ready,
+            next: peers.next_moment(),
+        };
     }
-    RoundEnd {
-        ended: end.ended + 1,
-        ready: end.ready,
-        next: peers.next_moment(),
-    }
+    end
 }
 
 /// Makes room for a client of a group that waits for a slot. Returns whether a peer gave way to it.
