@@ -126,11 +126,11 @@ more_begun a rights group peer is =
     × ((after_call a (Begins_peer rights group)).state.places ≡ a.state.places)
     = each-begun P a.state rights group (λ full begins. absurd (cc))
     (λ begins.
-        let same : a.state.next_handle ≡ peer = cc in (
-          map-append (λ (p : Session). p.handle) a.state.peers (new_session a.state.next_handle rights group ∷ [])
-              ∙ ap (λ n. handles a.state ++ n ∷ []) same,
-          refl,
-        ))
+    let same : a.state.next_handle ≡ peer = cc in (
+      map-append (λ (p : Session). p.handle) a.state.peers (new_session a.state.next_handle rights group ∷ [])
+          ∙ ap (λ n. handles a.state ++ n ∷ []) same,
+      refl,
+    ))
     is in
     record { handles_now = m.0; places = m.1 }
 
@@ -358,8 +358,12 @@ module _ {W : Type 0} where
       record {
         held = subst (λ ns. AreHeld ns (slice_set slots slot None)) (sym less.handles_left)
             (held_freed (handles a.state) slots slot io apart there held);
-        count = omega (arith, free_freed slots slot io there, ap length less.handles_left,
-            length_without io.peer (handles a.state) (held_at (handles a.state) slots slot io there held));
+        count = omega (
+          arith,
+          free_freed slots slot io there,
+          ap length less.handles_left,
+          length_without io.peer (handles a.state) (held_at (handles a.state) slots slot io there held),
+        );
         size = length-set slots slot None;
         limit = less.places;
       }
@@ -403,8 +407,12 @@ module _ {W : Type 0} where
         held = subst (λ ns. AreHeld ns (slice_set slots slot (Some io))) (sym more.handles_now)
             (held_set (handles a.state ++ io.peer ∷ []) slots slot io (holds_last io.peer (handles a.state))
             (held_more io.peer (handles a.state) slots held));
-        count = omega (arith, free_taken slots slot io there, ap length more.handles_now,
-            length_push (handles a.state) io.peer);
+        count = omega (
+          arith,
+          free_taken slots slot io there,
+          ap length more.handles_now,
+          length_push (handles a.state) io.peer,
+        );
         size = length-set slots slot (Some io);
         limit = more.places;
       }

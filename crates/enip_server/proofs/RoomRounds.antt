@@ -381,8 +381,12 @@ module _ {W : Type 0} where
   place_for : (p : ServerState W) (at : ℕ) → slice_get p.slots at ≡ Some None → IsRoomy p
       → length p.adapter.state.peers < p.adapter.state.places
   place_for p at there roomy =
-      omega (arith, free_some p.slots at there, roomy.all (slots_some p.slots at None there),
-      length-map p.adapter.state.peers (λ (q : Session). q.handle))
+      omega (
+        arith,
+        free_some p.slots at there,
+        roomy.all (slots_some p.slots at None there),
+        length-map p.adapter.state.peers (λ (q : Session). q.handle),
+      )
 
   begins_for : (old : ServerState W) (now : ℕ) (rights : Rights) (group : Option ℕ) (at : ℕ) → AreSound old → IsRoomy old
       → slot_for old now group ≡ Ok at

@@ -1,6 +1,6 @@
 -- A client that is added with rights, as one of a group: which slot it gets, which peer gives way to it, and how room is
 -- made for it before it is added.
-use Rattle.std.specs.Prelude.{ℕ, suc, ◌-◌, ◌≡◌, nat_lt, Bool, true, false, not, ◌&&◌, if◌then◌else◌, List, [], ◌∷◌}
+use Rattle.std.specs.Prelude.{ℕ, suc, ◌-◌, ◌≡◌, nat_lt, Bool, false, not, ◌&&◌, if◌then◌else◌, List, [], ◌∷◌}
 use Rattle.std.specs.Prelude.{Option, Some, None, Result, Ok, Err, slice_get, slice_set}
 use Rattle.std.specs.Option.{option_map}
 use Rattle.enip_adapter.specs.declared.adapter.Full.{Full}

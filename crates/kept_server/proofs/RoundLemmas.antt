@@ -1,6 +1,6 @@
 -- Rounds of peers whose wires hold back what is written to them.
-use Rattle.std.proofs.Common.{◌≡◌, ◌≢◌, ◌<◌, ◌≤◌, ◌+◌, ℕ, zero, suc, List, [], ◌∷◌, ◌++◌, length, slice_get, slice_set}
-use Rattle.std.proofs.Common.{Bool, true, false, if◌then◌else◌, eqb, Option, Some, None, Result, Ok, Err, inl, inr, refl, sym}
+use Rattle.std.proofs.Common.{◌≡◌, ◌<◌, ◌≤◌, ◌+◌, ℕ, zero, suc, List, [], ◌∷◌, ◌++◌, length, slice_get, slice_set}
+use Rattle.std.proofs.Common.{Bool, true, false, if◌then◌else◌, eqb, Option, Some, None, Result, Ok, Err, refl, sym}
 use Rattle.std.proofs.Common.{ap, subst, ◌∙◌, arith}
 use Rattle.std.proofs.lemmas.Bool.{eqb-true, eqb-false}
 use Rattle.enip_adapter.specs.declared.adapter.Full.{Full}
@@ -16,7 +16,7 @@ use Rattle.enip_server.specs.Rounds.{nobody, no_answer, same_nobody, ended_in, h
 use Rattle.enip_server.specs.declared.peers.RoundEnd.{RoundEnd}
 use Rattle.enip_server.specs.Transfers.{AreAsked}
 use Rattle.enip_server.proofs.HeldLemmas.{round_released, same_released}
-use Rattle.enip_server.proofs.ApartLemmas.{IsOf, AreOf}
+use Rattle.enip_server.proofs.ApartLemmas.{AreOf}
 use Rattle.enip_server.proofs.LifeLemmas.{get_set_other, get_set_same, ends_before, freed_elsewhere, freed_here, freed_leads}
 use Rattle.enip_server.proofs.RoundMoves.{round_of}
 use Rattle.enip_server.proofs.EvictionLemmas.{added_elsewhere, added_leads}

@@ -95,11 +95,7 @@ pub(crate) fn take_round<W: Wire + Drop>(
 }
 
 /// Makes room for a client of a group that waits for a slot. Returns whether a peer gave way to it.
-fn make_room<W: Wire + Drop>(
-    peers: &mut Peers<HeldWire<W>>,
-    now: u64,
-    group: Option<u128>,
-) -> bool
+fn make_room<W: Wire + Drop>(peers: &mut Peers<HeldWire<W>>, now: u64, group: Option<u128>) -> bool
     ensures room { state_of peers.new ≡ with_room (state_of peers.old) now group }
     ensures still { IsFalse result → state_of peers.new ≡ state_of peers.old }
     ensures ended { IsTrue result → IsOneEnded (state_of peers.old) (state_of peers.new) }

@@ -11,8 +11,12 @@ overflow_add-result g c =
     let served : ServerState (HeldWire g.row.W.Denot) = state_of c.round-end.new.self in
     let new : ServerState (HeldWire g.row.W.Denot) = state_of c.make_room.new.peers in
     let one : IsOneEnded served new = c.make_room.ensures.ended c.if-make_room.true in
-    omega (arith, c.round-end.ensures.ended,
-    not_all_ended (state_of c.mark_ready.new.peers).slots served.slots one.0 one.1 one.2, slots_small c.round-end.new.self)
+    omega (
+      arith,
+      c.round-end.ensures.ended,
+      not_all_ended (state_of c.mark_ready.new.peers).slots served.slots one.0 one.1 one.2,
+      slots_small c.round-end.new.self,
+    )
 
 -- a peer gave way
 pub returns-then-make_room : goal.returns-then-make_room
