@@ -3,3 +3,7 @@ pub mod HandOvers
 pub mod Requests
 pub mod Reading
 pub mod Values
+pub mod Events
+pub mod Parts
+pub mod Shown
+pub mod Hello

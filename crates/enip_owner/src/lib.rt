@@ -27,17 +27,28 @@
 #![tactic(auto)]
 
 mod attribute_ref;
+mod event;
+mod event_fault;
 mod hand_over;
+mod hello;
 pub mod laws;
 mod line_buffer;
 mod owner_fault;
+mod part;
 mod reading;
 mod request;
+mod shown_values;
 mod token;
 mod written_values;
 
 pub use attribute_ref::AttributeRef;
+pub use event::{
+    ChangedEvent, CommandEvent, EndedEvent, ValueEvent, write_changed, write_command, write_ended,
+    write_error, write_ok, write_value,
+};
+pub use event_fault::EventFault;
 pub use hand_over::{HandOver, HandedOver};
+pub use hello::{DescribedAttribute, DescribedObject, HelloEvent, write_hello};
 pub use line_buffer::{LINE_LIMIT, LineBuffer, LineOutcome};
 pub use owner_fault::{OwnerFault, RequestKey};
 pub use reading::read_request;

@@ -1,0 +1,42 @@
+-- Values that are written to a line.
+use Rattle.std.specs.Prelude.{◌≡◌, ℕ, decimal, List, [], ◌∷◌, ◌++◌, codes, Option, Some, None, Result, OnOk}
+use Rattle.json.specs.Json.{Json}
+use Rattle.json.specs.Token.{Token, key, string, number, begin_object, begin_array}
+use Rattle.json.specs.Tree.{json_tokens, items_tokens}
+use Rattle.json.specs.Value.{items_of}
+use Rattle.json.specs.Written.{Written}
+use Rattle.hex.specs.Hex.{encode_lower}
+use Rattle.enip_owner.specs.declared.attribute_ref.AttributeRef.{AttributeRef}
+use Rattle.cip_values.specs.Values.{Value}
+use Rattle.cip_values.specs.declared.element.ValueType.{ValueType}
+use Rattle.enip_owner.specs.Events.{EachShownAs, AreShownAs}
+
+-- One of these JSON values is written after the others, unless memory is refused.
+pub record AddsOne {E : Type 0} (r : Result (Unit {0}) E) (old new : Written) (Is : Json → Type 0) : Type 0 where
+  pub ok : OnOk r ((j : Json) × (Is j × (new.tokens ≡ old.tokens ++ json_tokens j)))
+  pub before : new.before ≡ old.before
+
+-- A list of values, as the value of `values`.
+abbrev pub list_tokens : List Json → List Token
+list_tokens js = key (codes "values") ∷ begin_array ∷ items_tokens (items_of js)
+
+-- The values are written as a list.
+pub record AddsValues {E : Type 0} (r : Result (Unit {0}) E) (old new : Written) (values : List Value) : Type 0 where
+  pub ok : OnOk r ((js : List Json) × (EachShownAs values js × (new.tokens ≡ old.tokens ++ list_tokens js)))
+  pub before : new.before ≡ old.before
+
+abbrev pub shown_tokens : Option (List Json) → List Token
+shown_tokens None = []
+shown_tokens (Some js) = list_tokens js
+
+-- The values of bytes are written, if they are values.
+pub record AddsShown {E : Type 0} (r : Result (Unit {0}) E) (old new : Written) (value_type : Option ValueType) (bytes : List ℕ) : Type 0 where
+  pub ok : OnOk r ((shown : Option (List Json)) × (AreShownAs value_type bytes shown × (new.tokens ≡ old.tokens ++ shown_tokens shown)))
+  pub before : new.before ≡ old.before
+
+-- The beginning of a line about an attribute, up to `data`.
+abbrev pub attribute_head : List ℕ → AttributeRef → List ℕ → List Token
+attribute_head name a bytes =
+    begin_object ∷ key name ∷ begin_object ∷ key (codes "class") ∷ number (decimal a.class) ∷ key (codes "instance")
+    ∷ number (decimal a.instance) ∷ key (codes "attribute") ∷ number (decimal a.attribute) ∷ key (codes "data")
+    ∷ string (encode_lower bytes) ∷ []

@@ -1,0 +1,220 @@
+//! The lines of the device about commands, sets and connections, and its answers to lines of the owner.
+
+ghost use Rattle.enip_owner.specs.Parts.{Adds};
+ghost use Rattle.enip_owner.specs.Shown.{attribute_head};
+ghost use Rattle.enip_owner.specs.Events.{IsWritten, IsWrittenOne, command_json, ended_json, ok_json, error_json, IsChanged, IsValue};
+
+use crate::attribute_ref::AttributeRef;
+use crate::event_fault::EventFault;
+use crate::part::{Part, begin_line, line_from, write_line, write_parts};
+use crate::shown_values::write_shown;
+use cip_values::ValueType;
+use json::Writer;
+use std::alloc::{AllocError, Global};
+use std::net::IpAddr;
+
+/// A command that the owner is to execute.
+#[derive(Clone, Copy, Debug)]
+pub struct CommandEvent<'a> {
+    /// Its ticket.
+    pub ticket: u32,
+    /// The class of the object.
+    pub class: u16,
+    /// The instance number of the object.
+    pub instance: u32,
+    /// The service code.
+    pub service: u8,
+    /// The data.
+    pub data: &'a [u8],
+    /// The address of the peer that sent it. Not known after a restart.
+    pub by: Option<IpAddr>,
+    /// Whether it was handed over before.
+    pub again: bool,
+}
+
+/// An attribute that a peer set.
+#[derive(Clone, Copy, Debug)]
+pub struct ChangedEvent<'a> {
+    /// The attribute.
+    pub attribute: AttributeRef,
+    /// The type of its value, if that is known.
+    pub value_type: Option<ValueType>,
+    /// The bytes of its value.
+    pub data: &'a [u8],
+    /// The address of the peer.
+    pub by: IpAddr,
+}
+
+/// The value of an attribute that the owner read.
+#[derive(Clone, Copy, Debug)]
+pub struct ValueEvent<'a> {
+    /// The attribute.
+    pub attribute: AttributeRef,
+    /// The type of its value, if that is known.
+    pub value_type: Option<ValueType>,
+    /// The bytes of its value.
+    pub data: &'a [u8],
+}
+
+/// A connection that ended.
+#[derive(Clone, Copy, Debug)]
+pub struct EndedEvent<'a> {
+    /// The connection.
+    pub connection: u32,
+    /// Why it ended.
+    pub reason: &'a str,
+}
+
+/// The line of a command, with its newline.
+///
+/// ```
+/// write_command(alloc, &CommandEvent {
+///     ticket: 7,
+///     class: 768,
+///     instance: 1,
+///     service: 50,
+///     data: &[5, 0, 0, 0],
+///     by: None,
+///     again: true,
+/// })?;
+/// // {"command":{"ticket":7,"class":768,"instance":1,"service":50,"data":"05000000","again":true}}
+/// ```
+///
+/// # Errors
+///
+/// `TooLong` if the line has more than 64 KiB, `Memory` if memory is refused.
+pub fn write_command(alloc: Global, event: &CommandEvent<'_>) -> Result<Vec<u8>, EventFault>
+    ensures { IsWritten (command_json event.now) result }
+{
+    write_line(
+        alloc,
+        &[
+            Part::Open,
+            Part::OpenAt("command"),
+            Part::Number("ticket", u64::from(event.ticket)),
+            Part::Number("class", u64::from(event.class)),
+            Part::Number("instance", u64::from(event.instance)),
+            Part::Number("service", u64::from(event.service)),
+            Part::Bytes("data", event.data),
+            Part::MaybeAddress("by", event.by),
+            Part::Truth("again", event.again),
+            Part::Close,
+            Part::Close,
+        ],
+    )
+}
+
+/// The line of a set, with its newline. If the type is known and the bytes are values of it, it has the values.
+///
+/// # Errors
+///
+/// `TooLong` if the line has more than 64 KiB, `Memory` if memory is refused.
+pub fn write_changed(alloc: Global, event: &ChangedEvent<'_>) -> Result<Vec<u8>, EventFault>
+    ensures { IsWrittenOne (IsChanged event.now) result }
+{
+    let mut writer = begin_line(alloc)?;
+    write_head(alloc, &mut writer, "changed", event.attribute, event.data)?;
+    write_shown(alloc, &mut writer, event.value_type, event.data)?;
+    write_parts(
+        alloc,
+        &mut writer,
+        &[
+            Part::MaybeAddress("by", Some(event.by)),
+            Part::Close,
+            Part::Close,
+        ],
+    )?;
+    line_from(writer)
+}
+
+/// The line of a value, with its newline: the answer to `read`. If the type is known and the bytes are values of it, it
+/// has the values.
+///
+/// # Errors
+///
+/// `TooLong` if the line has more than 64 KiB, `Memory` if memory is refused.
+pub fn write_value(alloc: Global, event: &ValueEvent<'_>) -> Result<Vec<u8>, EventFault>
+    ensures { IsWrittenOne (IsValue event.now) result }
+{
+    let mut writer = begin_line(alloc)?;
+    write_head(alloc, &mut writer, "value", event.attribute, event.data)?;
+    write_shown(alloc, &mut writer, event.value_type, event.data)?;
+    write_parts(alloc, &mut writer, &[Part::Close, Part::Close])?;
+    line_from(writer)
+}
+
+/// The line of a connection that ended, with its newline.
+///
+/// # Errors
+///
+/// `TooLong` if the line has more than 64 KiB, `Memory` if memory is refused.
+pub fn write_ended(alloc: Global, event: &EndedEvent<'_>) -> Result<Vec<u8>, EventFault>
+    ensures { IsWritten (ended_json event.now) result }
+{
+    write_line(
+        alloc,
+        &[
+            Part::Open,
+            Part::OpenAt("ended"),
+            Part::Number("connection", u64::from(event.connection)),
+            Part::Text("reason", event.reason),
+            Part::Close,
+            Part::Close,
+        ],
+    )
+}
+
+/// The answer to a line that was done, with its newline. `line` is the number of the owner's line.
+///
+/// # Errors
+///
+/// `Memory` if memory is refused.
+pub fn write_ok(alloc: Global, line: u64) -> Result<Vec<u8>, EventFault>
+    ensures { IsWritten (ok_json line) result }
+{
+    write_line(alloc, &[Part::Open, Part::Number("ok", line), Part::Close])
+}
+
+/// The answer to a line that was refused, with its newline. `line` is the number of the owner's line, and `text` the
+/// reason.
+///
+/// # Errors
+///
+/// `TooLong` if the line has more than 64 KiB, `Memory` if memory is refused.
+pub fn write_error(alloc: Global, line: u64, text: &str) -> Result<Vec<u8>, EventFault>
+    ensures { IsWritten (error_json line text.now) result }
+{
+    write_line(
+        alloc,
+        &[
+            Part::Open,
+            Part::Number("error", line),
+            Part::Text("text", text),
+            Part::Close,
+        ],
+    )
+}
+
+/// Writes the beginning of a line about an attribute, up to `data`.
+fn write_head<'a>(
+    alloc: Global,
+    writer: &mut Writer,
+    name: &'a str,
+    attribute: AttributeRef,
+    data: &'a [u8],
+) -> Result<(), AllocError>
+    ensures { Adds result writer.old writer.new (attribute_head name.now attribute «data».now) }
+{
+    write_parts(
+        alloc,
+        writer,
+        &[
+            Part::Open,
+            Part::OpenAt(name),
+            Part::Number("class", u64::from(attribute.class)),
+            Part::Number("instance", u64::from(attribute.instance)),
+            Part::Number("attribute", u64::from(attribute.attribute)),
+            Part::Bytes("data", data),
+        ],
+    )
+}
