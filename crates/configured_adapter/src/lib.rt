@@ -1,7 +1,7 @@
 //! The adapter that a configuration describes.
 //!
-//! - [`adapter_from`] makes the adapter of a configuration (`specs/Configured.antt`), [`adapter_in_life`] that of another
-//!   life of its ledger, and [`unshared_adapter_from`] that for peers without addresses.
+//! - [`adapter_from`] makes the adapter of a configuration (`specs/Configured.antt`), [`adapter_in_life`] that of
+//!   another life of its ledger, and [`unshared_adapter_from`] that for peers without addresses.
 //! - [`shares_from`] gives what one address may hold, by the table `access`.
 //!
 //! `enip_config` reads the configuration, and says what is wrong with a refused one.

@@ -17,8 +17,8 @@ IsStatus status = (status ≡ 0) ⊎ ((status ≡ 3) ⊎ ((status ≡ 4) ⊎ (st
 abbrev pub IsReplayStatus : ℕ → Type 0
 IsReplayStatus status = IsStatus status ⊎ (status ≡ 6)
 
--- A run over a configuration may end with this fault: a refusal is the configuration's own, and a line is read only once
--- the configuration is accepted.
+-- A run over a configuration may end with this fault: a refusal is the configuration's own, and a line is read only
+-- once the configuration is accepted.
 abbrev pub IsFaultOf : List ℕ → Fault → Type 0
 IsFaultOf text (Refused refusal) = IsRefused text refusal
 IsFaultOf text Setup = ⊥

@@ -15,8 +15,9 @@ use Rattle.enip_client.specs.declared.wants.Wants.{Wants}
 use Rattle.enip_commands.specs.declared.asking.ReplyOutcome.{ReplyOutcome}
 use Rattle.enip_commands.specs.declared.asking.ReplyOutcome.TheVariants.{Done, Refused}
 use Rattle.enip_faults.specs.declared.request_failure.RequestFailure.{RequestFailure}
-use Rattle.enip_faults.specs.declared.request_failure.RequestFailure.TheVariants.{Hex, Session, Client, Shape, Fields, Program}
-use Rattle.enip_faults.specs.declared.fault.ProgramFault.TheVariants.{Device, Memory}
+use Rattle.enip_faults.specs.declared.request_failure.RequestFailure.TheVariants.{Hex, Session, Client}
+use Rattle.enip_faults.specs.declared.request_failure.RequestFailure.TheVariants.{Shape, Fields, Program}
+use Rattle.enip_faults.specs.declared.fault.ProgramFault.TheVariants.{Memory}
 use Rattle.enip_commands.specs.declared.style.Style.{Style}
 use Rattle.enip_commands.specs.Digits.{bytes_spelled}
 use Rattle.enip_faults.specs.Failures.{stop_of}

@@ -17,8 +17,8 @@
 //! `enip_replay` uses them for scripts.
 //!
 //! A [`ProgramFault`] or a [`RequestFailure`] of `enip_faults` says why a command ended early. Its text is the line for
-//! standard error. `specs/InputLines.antt` defines the lines of an input, `specs/Lines.antt` what those of `answer` mean,
-//! and `specs/Answering.antt` what they do.
+//! standard error. `specs/InputLines.antt` defines the lines of an input, `specs/Lines.antt` what those of `answer`
+//! mean, and `specs/Answering.antt` what they do.
 //!
 //! This crate opens no file and no socket, and it knows neither the command line nor the configuration file. The
 //! caller makes the adapter.

@@ -1,9 +1,9 @@
-//! Why a command of the program `enip` ends early. The text of each fault is the code for scripts on standard error, and
+//! Why a command of the program `enip` ends early. The text of a fault is the code for scripts on standard error, and
 //! `specs/Statuses.antt` defines its exit status.
 //!
-//! - A [`ProgramFault`] is that of a line of the input, of a file or a stream, or of memory. A [`LineFault`] says what is
-//!   wrong with the line.
-//! - A [`RequestFailure`] is that of a request to a device, and a [`ReplayFailure`] that of a replay.
+//! - A [`ProgramFault`] is about a line of the input, a file, a stream or memory. A [`LineFault`] says what is wrong with
+//!   the line.
+//! - A [`RequestFailure`] is about a request to a device, and a [`ReplayFailure`] about a replay.
 //! - A [`OnceRefusal`] says why a command that is executed once is not sent, a [`CommandFileFault`] what is wrong with
 //!   its file, and a [`LedgerRefusal`] what it means that a ledger refuses it.
 //! - [`Digits`] prints bytes in hexadecimal.
