@@ -38,7 +38,11 @@ fn assert_slot<A: Abort>(
 fn room_is_made_for_a_client(rt: HostRuntime) -> Result<(), Fail> {
     let made = [Cell::new(0), Cell::new(0), Cell::new(0)];
     let calls = [Call::Later];
-    let registers = [Call::Gives(REGISTER), Call::Takes(REGISTERED, 28), Call::Later];
+    let registers = [
+        Call::Gives(REGISTER),
+        Call::Takes(REGISTERED, 28),
+        Call::Later,
+    ];
     let mut peers = two_slots(rt.alloc(), 1)?;
     let session = ScriptedWire::new(&registers, &made[0]);
     assert_eq!(rt; peers.add_as(0, session, Rights::Write, Some(1)), Ok(0));

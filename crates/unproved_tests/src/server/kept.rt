@@ -250,11 +250,8 @@ fn room_is_made_at_the_end_of_a_round(rt: HostRuntime) -> Result<(), Fail> {
     };
     let made = [Cell::new(0), Cell::new(0)];
     let calls = [Call::Later];
-    let mut server: Served<'_> = Server::start(
-        rt.alloc(),
-        MemoryKeeper::new(rt.alloc()),
-        &device,
-    )?;
+    let keeper = MemoryKeeper::new(rt.alloc());
+    let mut server: Served<'_> = Server::start(rt.alloc(), keeper, &device)?;
     server.round(input(0, Some(ScriptedWire::new(&calls, &made[0])), &[]))?;
     for (now, room_for, ended) in [
         (EVICTION_SILENCE, None, 0),
@@ -270,7 +267,8 @@ fn room_is_made_at_the_end_of_a_round(rt: HostRuntime) -> Result<(), Fail> {
     }
     assert_eq!(rt; server.device().peers().first_free(), Some(0));
     // the client is accepted in the next round
-    server.round(input(EVICTION_SILENCE, Some(ScriptedWire::new(&calls, &made[1])), &[]))?;
+    let client = ScriptedWire::new(&calls, &made[1]);
+    server.round(input(EVICTION_SILENCE, Some(client), &[]))?;
     assert_eq!(rt; server.device().peers().first_free(), None);
     assert_eq!(rt; (made[0].get(), made[1].get()), (1, 1));
     Ok(())
