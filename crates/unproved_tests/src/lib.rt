@@ -22,6 +22,8 @@ mod keep;
 #[cfg(test)]
 mod layouts;
 #[cfg(test)]
+mod owner_lines;
+#[cfg(test)]
 mod server;
 #[cfg(test)]
 mod states;
