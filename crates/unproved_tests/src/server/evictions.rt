@@ -81,7 +81,10 @@ fn nobody_gives_way_if_no_session_handle_is_left(rt: HostRuntime) -> Result<(), 
     assert!(rt; !peers.adapter().has_handle());
     // the slots are looked at before the handle
     assert_slot(&rt, &mut peers, 0, Err(Full::Places));
-    assert_eq!(rt; peers.slot_for(EVICTION_SILENCE, Some(3)), Err(Full::Handles));
+    assert_eq!(rt;
+        peers.slot_for(EVICTION_SILENCE, Some(3)),
+        Err(Full::Handles)
+    );
     assert!(rt; !peers.make_room(EVICTION_SILENCE, Some(3)));
     let client = ScriptedWire::new(&[], &made[2]);
     assert_eq!(rt;

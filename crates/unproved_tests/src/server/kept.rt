@@ -263,7 +263,11 @@ fn room_is_made_at_the_end_of_a_round(rt: HostRuntime) -> Result<(), Fail> {
         asked.room_for = room_for;
         server.round(asked)?;
         let end = server.device().last_round();
-        assert_eq!(rt; (end.ended, end.ready, end.next), (ended, false, None), "{now}");
+        assert_eq!(rt;
+            (end.ended, end.ready, end.next),
+            (ended, false, None),
+            "{now}"
+        );
     }
     assert_eq!(rt; server.device().peers().first_free(), Some(0));
     // the client is accepted in the next round
