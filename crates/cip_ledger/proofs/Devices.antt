@@ -10,10 +10,10 @@ use Rattle.cip_message.specs.Request.{Request as Spelled, request_of}
 use Rattle.cip_ledger.specs.declared.status.Status.TheVariants as statuses
 use Rattle.cip_ledger.specs.declared.request.TheConstants.{LEDGER}
 use Rattle.cip_ledger.specs.Requests.{LedgerRequest, ledger_request, request_by_path, request_by_parts, is_barred}
-use Rattle.cip_ledger.specs.Services.{Replies, Executes, Frees, KEPT_LIMIT, reply_to, refusal}
+use Rattle.cip_ledger.specs.Services.{Replies, Executes, Queues, Frees, KEPT_LIMIT, reply_to, refusal}
 use Rattle.cip_ledger.specs.Turn.{Fate, Passed, Served, fate, Turn, turn_by}
 use Rattle.cip_ledger.specs.Runs.{Request, node_of, node_after}
-use Rattle.cip_ledger.specs.Device.{Device, exec_device, run}
+use Rattle.cip_ledger.specs.Device.{Device, owned_standing, exec_device, run}
 use Rattle.cip_ledger.proofs.Fates.{Means, fate-means}
 use Rattle.cip_ledger.proofs.Forms.{in-form, passes}
 
@@ -31,7 +31,7 @@ form = record {
 
 pub exec_device-begins : (device : Device) (max_size : ℕ) (request : List ℕ) → 8 ≤ max_size → 2 ≤ length request →
     IsReplyTo request (exec_device device max_size request).answer
-exec_device-begins device max_size request least enough = (in-form after answer form).begins device max_size request least enough
+exec_device-begins device max_size request least enough = (in-form after answer owned_standing form).begins device max_size request least enough
 
 within-by : (f : Fate) (device : Device) (request : Request) → Means device.ledger request f → 8 ≤ request.0 →
     length (turn_by after answer f device.ledger device.router request.0 request.1).answer ≤ request.0
@@ -47,18 +47,21 @@ within-by (Served service (Executes command)) device request means least =
         length (if barred then reply_to (slice_index command.request 0) (refusal statuses.ServiceNotSupported) else answer device.router KEPT_LIMIT command.request) ≤ KEPT_LIMIT
     embedded true = omega arith
     embedded false = exec_owned_within device.router KEPT_LIMIT command.request (omega arith)
+within-by (Served service (Queues command ticket)) device request means least =
+    let fits = means.means.fits in omega (arith, fits)
 within-by (Served service (Frees freed)) device request means least = omega (arith, least)
 
 pub exec_device-within : (device : Device) (max_size : ℕ) (request : List ℕ) → 8 ≤ max_size →
     length (exec_device device max_size request).answer ≤ max_size
 exec_device-within device max_size request least =
-    within-by (fate device.ledger max_size request) device (max_size, request) (fate-means device.ledger (max_size, request)) least
+    within-by (fate owned_standing device.ledger device.router max_size request) device (max_size, request)
+    (fate-means owned_standing device.ledger device.router (max_size, request)) least
 
 -- a request that is not to the ledger and leaves the objects as they are leaves the device as it is
 pub exec_device-passed : (device : Device) (max_size : ℕ) (request : List ℕ) → ledger_request request ≡ None →
     (exec_owned device.router max_size request).after ≡ device.router → (exec_device device max_size request).after ≡ device
 exec_device-passed device max_size request other same =
-    ap (λ (done : Turn OwnedState). node_of done) (passes after answer device (max_size, request) (inr other))
+    ap (λ (done : Turn OwnedState). node_of done) (passes after answer owned_standing device (max_size, request) (inr other))
     ∙ ap (λ (objects : OwnedState). (let d : Device = record { ledger = device.ledger; router = objects } in d)) same
 
 -- a request to another class is not to the ledger
@@ -79,7 +82,7 @@ other_class text request path read found other =
     by_class false is = refl
 
 -- a run ends as the runs of the laws do
-pub run-ends : (device : Device) (requests : List Request) → (run device requests).after ≡ node_after after answer device requests
+pub run-ends : (device : Device) (requests : List Request) → (run device requests).after ≡ node_after after answer owned_standing device requests
 run-ends device [] = refl
 run-ends device (request ∷ requests) = run-ends (exec_device device request.0 request.1).after requests
 

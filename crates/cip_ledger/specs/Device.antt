@@ -3,6 +3,8 @@ use Rattle.std.specs.Prelude.{ℕ, Option, None, List, [], ◌∷◌}
 use Rattle.cip_objects.specs.Contents.{Contents}
 use Rattle.cip_owner.specs.Owned.{OwnedState, exec_owned}
 use Rattle.cip_ledger.specs.declared.router.LedgerRouter.{LedgerRouter}
+use Rattle.cip_ledger.specs.declared.target.Standing.{Standing}
+use Rattle.cip_ledger.specs.declared.target.Standing.TheVariants as standings
 use Rattle.cip_ledger.specs.Ledger.{LedgerState}
 use Rattle.cip_ledger.specs.Runs.{Request}
 use Rattle.cip_ledger.specs.Turn.{Turn, turn}
@@ -14,10 +16,15 @@ Device = LedgerRouter OwnedState
 abbrev pub device_of : Option LedgerState → Contents → Device
 device_of ledger objects = record { ledger = ledger; router = record { objects = objects; prepared = None } }
 
+-- No service is queued.
+abbrev pub owned_standing : OwnedState → List ℕ → Standing
+owned_standing owned request = standings.Final
+
 abbrev pub device_turn : Device → ℕ → List ℕ → Turn OwnedState
 device_turn device max_size request =
     turn (λ owned max_size request. (exec_owned owned max_size request).after)
-    (λ owned max_size request. (exec_owned owned max_size request).answer) device.ledger device.router max_size request
+    (λ owned max_size request. (exec_owned owned max_size request).answer) owned_standing device.ledger device.router
+    max_size request
 
 -- the device after a request, and its reply
 pub record Executed : Type 0 where
