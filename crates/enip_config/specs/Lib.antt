@@ -1,5 +1,6 @@
 pub mod Keys
 pub mod Types
+pub mod Commands
 pub mod Objects
 pub mod ObjectTypes
 pub mod Known

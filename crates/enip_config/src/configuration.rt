@@ -1,17 +1,20 @@
 //! The values of a configuration.
 //! Text: docs/PROGRAM.md, "The configuration".
 
-ghost use Rattle.std.specs.Prelude.{◌≡◌, IfOk, IfErr, None, Some, option_map};
+ghost use Rattle.std.specs.Prelude.{◌≡◌, ◌≤◌, IfOk, IfErr, IfSome, None, Some, option_map};
 ghost use Rattle.toml.specs.View.{table_view};
 ghost use Rattle.cip_objects.specs.Configuration.{fault_of};
 ghost use Rattle.enip_config.specs.Access.{lists_of, lists_seen, IsBadList};
-ghost use Rattle.enip_config.specs.Documents.{IsDescribed, IsFaultOf, IsInRange, IsLedgerInRange, AreSharesInRange, IsUnread, HasValues};
+ghost use Rattle.enip_config.specs.Configured.{queue_limit};
+ghost use Rattle.enip_config.specs.Documents.{IsDescribed, IsFaultOf, IsInRange, IsLedgerInRange, IsQueueInRange};
+ghost use Rattle.enip_config.specs.Documents.{AreSharesInRange, IsUnread, HasValues, has_unused_queue};
 
 use crate::access::{shares_of, with_lists};
 use crate::assemblies::assemblies_of;
 use crate::attribute_type::AttributeType;
+use crate::commands::{has_queued, queue_of};
 use crate::fault::{ConfigurationRefusal, LoadFault};
-use crate::key::NumberKey;
+use crate::key::{DEFAULT_QUEUE, NumberKey};
 use crate::known::has_unknown_key;
 use crate::ledger::{LedgerConfig, ledger_of};
 use crate::object_types::types_of;
@@ -23,7 +26,7 @@ use std::alloc::Global;
 use toml::Table;
 
 /// A device as a configuration describes it: its objects, the address and port that it reports, its limits, its
-/// command ledger if it has one, and the types of its own attributes.
+/// command ledger if it has one, how many queued commands can wait, and the types of its own attributes.
 ///
 /// ```
 /// const DEVICE: &[u8] = b"vendor = 1
@@ -58,6 +61,8 @@ pub struct Configuration {
     pub first_id: u32,
     /// The command ledger before the objects, if there is one.
     pub ledger: Option<LedgerConfig>,
+    /// How many queued commands can wait, 1 to 256, by the table `commands`. `None` if it is left out.
+    pub queue: Option<u16>,
     /// Who may connect and who may change something, if the configuration says so. Otherwise everybody may.
     pub access: Option<Access>,
     /// The types of the attributes of each own object, in the order of the file.
@@ -71,11 +76,12 @@ impl Configuration {
     ///
     /// `LoadFault::Refused` with the first check that fails, in this order: `NotToml` (7); `UnknownKey` (9) if any key
     /// is unknown; `BadValue` (8) if a required key is missing, or a value has another type or is out of range; the
-    /// checks of the objects (1 to 5, 10 to 12); `Access` (13). `LoadFault::Memory` if memory is refused.
+    /// checks of the objects (1 to 5, 10 to 12); `Access` (13); `Commands` (14). `LoadFault::Memory` if memory is refused.
     pub fn from_bytes(alloc: Global, bytes: &[u8]) -> Result<Configuration, LoadFault>
         ensures read { IfOk result (IsDescribed bytes.now) }
         ensures in_range { IfOk result IsInRange }
         ensures ledger { IfOk result IsLedgerInRange }
+        ensures queue { IfOk result IsQueueInRange }
         ensures shares { IfOk result AreSharesInRange }
         ensures refused { IfErr result (IsFaultOf bytes.now) }
     {
@@ -88,10 +94,33 @@ impl Configuration {
             return Err(LoadFault::Refused(ConfigurationRefusal::UnknownKey));
         }
         let values = Configuration::from_table(alloc, &table)?;
-        match values.objects.fault() {
-            Some(check) => Err(LoadFault::from(check)),
-            None => values.with_lists(&table),
+        if let Some(check) = values.objects.fault() {
+            return Err(LoadFault::from(check));
         }
+        let configuration = values.with_lists(&table)?;
+        if configuration.has_unused_queue() {
+            return Err(LoadFault::Refused(ConfigurationRefusal::Commands));
+        }
+        Ok(configuration)
+    }
+
+    /// How many queued commands can wait. `None` if no service is queued, so that the device has no queue.
+    pub fn queue_limit(&self) -> Option<u16>
+        ensures value { result ≡ queue_limit self.now }
+        ensures from { IsQueueInRange self.now → IfSome result (λ n. 1 ≤ n) }
+        ensures to { IsQueueInRange self.now → IfSome result (λ n. n ≤ 256) }
+    {
+        if !has_queued(&self.objects.objects) {
+            return None;
+        }
+        Some(self.queue.unwrap_or(DEFAULT_QUEUE))
+    }
+
+    /// Whether there is a table `commands`, but no service is queued.
+    fn has_unused_queue(&self) -> bool
+        ensures { result ≡ has_unused_queue self.now }
+    {
+        self.queue.is_some() && !has_queued(&self.objects.objects)
     }
 
     /// The same configuration with the lists of the table `access`.
@@ -137,6 +166,7 @@ impl Configuration {
             first_handle: number(text, NumberKey::FirstHandle)?,
             first_id: number(text, NumberKey::FirstId)?,
             ledger: ledger_of(text)?,
+            queue: queue_of(text)?,
             access: shares_of(text)?,
             attribute_types: types_of(alloc, text)?,
         })

@@ -72,4 +72,8 @@ value = "ready"
 # [[object.service]]
 # number = 51
 # sizes = [0, 8]               # the least and the greatest number of bytes, instead of size
+# queued = true                # answered at once by a ticket, and executed later; default false
+#
+# [commands]                   # the queue of the device, for services with queued = true
+# queue = 16                   # how many commands can wait in it: 1 to 256; default 16
 "#;
