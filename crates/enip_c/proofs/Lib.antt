@@ -5,3 +5,4 @@ pub mod ClientLemmas
 pub mod CommanderLemmas
 pub mod StateLemmas
 pub mod StartLemmas
+pub mod QueuedLemmas
