@@ -294,6 +294,7 @@ fn start_of(
         first_handle,
         first_id,
         ledger,
+        queue: _,
         access: _,
         attribute_types: _,
     } = configuration;
@@ -319,6 +320,7 @@ fn start_of(
     Some(AdapterStart {
         objects,
         ledger,
+        queue: None,
         begins_life,
         listen: Listen { address, port },
         limits,
