@@ -5,6 +5,7 @@ mod held;
 mod kept;
 mod kept_adapter;
 mod owner;
+mod queued;
 mod saved_adapter;
 mod turns;
 mod wires;

@@ -2,7 +2,9 @@
 
 use super::turns::{OPENED, joined};
 use super::wires::{Call, ScriptedWire};
-use cip_application::{AttributeConfig, AttributeKind, ObjectConfig, ServiceConfig};
+use cip_application::{
+    AttributeConfig, AttributeKind, ObjectConfig, ServiceConfig, ServiceKind,
+};
 use cip_objects::Objects;
 use cip_owner::{OwnRequest, Owner, OwnerReply};
 use enip_adapter::Adapter;
@@ -71,6 +73,7 @@ fn adapter_with_machine(alloc: Global) -> Result<Adapter, Fail> {
         least: 4,
         most: 4,
         reply: 4,
+        kind: ServiceKind::Asked,
     })?;
     let mut config = config(alloc)?;
     config.objects.push(ObjectConfig {
