@@ -33,10 +33,7 @@ fn adapter(alloc: Global) -> Result<Adapter, Fail> {
 /// The same with its first peer, who has registered session 1 and opened connection 1.
 fn with_peer(alloc: Global, rights: Rights) -> Result<(Adapter, Peer), Fail> {
     let mut adapter = adapter(alloc)?;
-    let peer = adapter
-        .begin_as(rights, None)
-        .ok()
-        .ok_or("a slot is free")?;
+    let peer = adapter.begin_as(rights, None).ok().ok_or("a slot is free")?;
     let _ = feed(&mut adapter, &peer, REGISTER);
     let _ = feed(&mut adapter, &peer, OPEN);
     Ok((adapter, peer))
@@ -69,12 +66,38 @@ fn finished_by_the_owner(rt: HostRuntime) -> Result<(), Fail> {
     let queued = request(alloc, QUEUED, 1, b"\x05\0\0\0")?;
     let result = request(alloc, GET_RESULT, 1, b"\x01\0\0\0")?;
     let asked = request(alloc, ASKED, 1, b"\x05\0\0\0")?;
-    assert!(rt; adapter.asked(0, &peer, &unconnected(alloc, &queued)?).is_none());
-    assert!(rt; adapter.asked(0, &peer, &unconnected(alloc, &result)?).is_none());
-    assert!(rt; adapter.asked(0, &peer, &unconnected(alloc, &asked)?).is_some());
+    assert!(rt;
+        adapter
+            .asked(0, &peer, &unconnected(alloc, &queued)?)
+            .is_none()
+    );
+    assert!(rt;
+        adapter
+            .asked(0, &peer, &unconnected(alloc, &result)?)
+            .is_none()
+    );
+    assert!(rt;
+        adapter
+            .asked(0, &peer, &unconnected(alloc, &asked)?)
+            .is_some()
+    );
     assert_eq!(rt; waiting(&adapter), Some(0));
-    check(&rt, alloc, &mut adapter, &peer, &queued, b"\xb3\0\0\0\x01\0\0\0")?;
-    check(&rt, alloc, &mut adapter, &peer, &queued, b"\xb3\0\0\0\x02\0\0\0")?;
+    check(
+        &rt,
+        alloc,
+        &mut adapter,
+        &peer,
+        &queued,
+        b"\xb3\0\0\0\x01\0\0\0",
+    )?;
+    check(
+        &rt,
+        alloc,
+        &mut adapter,
+        &peer,
+        &queued,
+        b"\xb3\0\0\0\x02\0\0\0",
+    )?;
     check(&rt, alloc, &mut adapter, &peer, &queued, b"\xb3\0\x02\0")?;
     check(&rt, alloc, &mut adapter, &peer, &result, b"\xce\0\0\0\x01")?;
     assert_eq!(rt; waiting(&adapter), Some(2));
@@ -82,7 +105,14 @@ fn finished_by_the_owner(rt: HostRuntime) -> Result<(), Fail> {
     assert!(rt; adapter.finish(1, &reply(0, b"\x2a")?));
     assert!(rt; !adapter.finish(1, &reply(0, b"\x2a")?));
     assert_eq!(rt; waiting(&adapter), Some(1));
-    check(&rt, alloc, &mut adapter, &peer, &result, b"\xce\0\0\0\0\0\x2a")?;
+    check(
+        &rt,
+        alloc,
+        &mut adapter,
+        &peer,
+        &result,
+        b"\xce\0\0\0\0\0\x2a",
+    )?;
     Ok(())
 }
 
@@ -92,7 +122,10 @@ fn repeated_on_a_connection(rt: HostRuntime) -> Result<(), Fail> {
     let alloc = rt.alloc();
     let (mut adapter, peer) = with_peer(alloc, Rights::Write)?;
     let queued = request(alloc, QUEUED, 2, b"\x05\0\0\0")?;
-    let (to, from) = (b"\xa1\0\x04\0\x01\0\0\0\xb1\0", b"\xa1\0\x04\0\x44\x33\x22\x11\xb1\0");
+    let (to, from) = (
+        b"\xa1\0\x04\0\x01\0\0\0\xb1\0",
+        b"\xa1\0\x04\0\x44\x33\x22\x11\xb1\0",
+    );
     let first = frame(alloc, 0x70, to, b"\x01\0", &queued)?;
     let answer = frame(alloc, 0x70, from, b"\x01\0", b"\xb3\0\0\0\x01\0\0\0")?;
     for _ in 0..3 {
@@ -130,9 +163,23 @@ fn through_the_ledger(rt: HostRuntime) -> Result<(), Fail> {
         assert_eq!(rt; waiting(&adapter), Some(1));
     }
     assert!(rt; adapter.finish(1, &reply(0x1f, b"")?));
-    check(&rt, alloc, &mut adapter, &peer, &once, b"\xcb\0\0\0\0\xb3\0\x1f\0")?;
+    check(
+        &rt,
+        alloc,
+        &mut adapter,
+        &peer,
+        &once,
+        b"\xcb\0\0\0\0\xb3\0\x1f\0",
+    )?;
     assert!(rt; !adapter.finish(1, &reply(0, b"")?));
-    check(&rt, alloc, &mut adapter, &peer, &once, b"\xcb\0\0\0\0\xb3\0\x1f\0")?;
+    check(
+        &rt,
+        alloc,
+        &mut adapter,
+        &peer,
+        &once,
+        b"\xcb\0\0\0\0\xb3\0\x1f\0",
+    )?;
     assert_eq!(rt; waiting(&adapter), Some(0));
     Ok(())
 }

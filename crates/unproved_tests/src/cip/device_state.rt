@@ -38,12 +38,14 @@ fn used_device(rt: &impl Abort, alloc: Global) -> Result<(Objects, Option<Ledger
     assert!(rt; objects.write_attribute(768, 2, 1, 0, b"\x03xyz"));
     assert!(rt; objects.write_attribute(768, 2, 3, 0, b"\xff\xff")); // out of the range of peers
     let mut ledger = Ledger::new(alloc, 2, 0x0102)?;
-    assert!(rt; ledger.restore(KeptCommand {
-        originator: 9,
-        number: 5,
-        reply: Some(b"\xb2\x00\x00\x00".as_slice()),
-        ticket: None,
-    }));
+    assert!(rt;
+        ledger.restore(KeptCommand {
+            originator: 9,
+            number: 5,
+            reply: Some(b"\xb2\x00\x00\x00".as_slice()),
+            ticket: None,
+        })
+    );
     Ok((objects, Some(ledger)))
 }
 

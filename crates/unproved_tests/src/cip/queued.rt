@@ -38,7 +38,9 @@ fn check_queued(
     data: &[u8],
     wanted: &[u8],
 ) -> Result<(), Fail> {
-    let mut text = [0x33, 0x03, 0x21, 0x00, 0x00, 0x03, 0x24, instance, 0, 0, 0, 0, 0];
+    let mut text = [
+        0x33, 0x03, 0x21, 0x00, 0x00, 0x03, 0x24, instance, 0, 0, 0, 0, 0,
+    ];
     text[8..8 + data.len()].copy_from_slice(data);
     check(rt, device, 504, &text[..8 + data.len()], wanted);
     Ok(())
@@ -52,7 +54,9 @@ fn check_result(
     ticket: u32,
     wanted: &[u8],
 ) {
-    let mut text = [GET_RESULT, 0x03, 0x21, 0x00, 0x00, 0x03, 0x24, instance, 0, 0, 0, 0];
+    let mut text = [
+        GET_RESULT, 0x03, 0x21, 0x00, 0x00, 0x03, 0x24, instance, 0, 0, 0, 0,
+    ];
     text[8..].copy_from_slice(&ticket.to_le_bytes());
     check(rt, device, 504, &text, wanted);
 }
@@ -67,7 +71,10 @@ fn queue<'a>(device: &'a mut OwnedObjects) -> Result<&'a mut Queue, Fail> {
 fn check_waiting(rt: &impl Abort, queue: &Queue, wanted: &[u32]) {
     assert_eq!(rt; queue.waiting_count(), wanted.len());
     for (index, ticket) in wanted.iter().enumerate() {
-        assert_eq!(rt; queue.waiting(index).map(|command| command.ticket), Some(*ticket));
+        assert_eq!(rt;
+            queue.waiting(index).map(|command| command.ticket),
+            Some(*ticket)
+        );
     }
     assert!(rt; queue.waiting(wanted.len()).is_none());
 }
@@ -77,27 +84,63 @@ fn check_waiting(rt: &impl Abort, queue: &Queue, wanted: &[u32]) {
 fn a_ticket_each(rt: HostRuntime) -> Result<(), Fail> {
     let alloc = rt.alloc();
     let mut device = queued_objects(alloc, 3)?;
-    check_queued(&rt, &mut device, 1, b"\x05\x06\x07\x08", b"\xb3\0\0\0\x01\0\0\0")?;
-    check_queued(&rt, &mut device, 2, b"\x01\x00\x00\x00", b"\xb3\0\0\0\x02\0\0\0")?;
+    check_queued(
+        &rt,
+        &mut device,
+        1,
+        b"\x05\x06\x07\x08",
+        b"\xb3\0\0\0\x01\0\0\0",
+    )?;
+    check_queued(
+        &rt,
+        &mut device,
+        2,
+        b"\x01\x00\x00\x00",
+        b"\xb3\0\0\0\x02\0\0\0",
+    )?;
     let longest = request(alloc, LARGEST, 1, &[7; 480])?;
     check(&rt, &mut device, 8, &longest, b"\xb4\0\0\0\x03\0\0\0");
     let queue = queue(&mut device)?;
     check_waiting(&rt, queue, &[1, 2, 3]);
     let first = queue.waiting(0).ok_or("a command")?;
-    assert_eq!(rt; (first.class, first.instance, first.service), (CLASS, 1, QUEUED));
+    assert_eq!(rt;
+        (first.class, first.instance, first.service),
+        (CLASS, 1, QUEUED)
+    );
     assert_eq!(rt; first.data, b"\x05\x06\x07\x08".as_slice());
     assert_eq!(rt; first.reply_limit, 4);
     let last = queue.waiting(2).ok_or("a command")?;
-    assert_eq!(rt; (last.service, last.data.len(), last.reply_limit), (LARGEST, 480, 476));
+    assert_eq!(rt;
+        (last.service, last.data.len(), last.reply_limit),
+        (LARGEST, 480, 476)
+    );
     Ok(())
 }
 
 /// What is refused before the queue is looked at: with room in it, and without.
 fn check_refused_before(rt: &impl Abort, device: &mut OwnedObjects) -> Result<(), Fail> {
     // a path size past the end, a path that ends early, a class, an instance, and an object without the service
-    check(rt, device, 504, b"\x33\x04\x21\x00\x00\x03\x24\x01", b"\xb3\x00\x26\x00");
-    check(rt, device, 504, b"\x33\x02\x21\x00\x00\x03", b"\xb3\x00\x04\x00");
-    check(rt, device, 504, b"\x33\x03\x21\x00\x01\x03\x24\x01\x00\x00\x00\x00", b"\xb3\x00\x05\x00");
+    check(
+        rt,
+        device,
+        504,
+        b"\x33\x04\x21\x00\x00\x03\x24\x01",
+        b"\xb3\x00\x26\x00",
+    );
+    check(
+        rt,
+        device,
+        504,
+        b"\x33\x02\x21\x00\x00\x03",
+        b"\xb3\x00\x04\x00",
+    );
+    check(
+        rt,
+        device,
+        504,
+        b"\x33\x03\x21\x00\x01\x03\x24\x01\x00\x00\x00\x00",
+        b"\xb3\x00\x05\x00",
+    );
     check_queued(rt, device, 4, b"\x01\x00\x00\x00", b"\xb3\x00\x05\x00")?;
     check_queued(rt, device, 3, b"\x01\x00\x00\x00", b"\xb3\x00\x08\x00")?;
     check_queued(rt, device, 3, b"\x01\x00\x00", b"\xb3\x00\x08\x00")?;
@@ -110,7 +153,13 @@ fn refused_before(rt: HostRuntime) -> Result<(), Fail> {
     let mut device = queued_objects(rt.alloc(), 1)?;
     check_refused_before(&rt, &mut device)?;
     check_waiting(&rt, queue(&mut device)?, &[]);
-    check_queued(&rt, &mut device, 1, b"\x01\x00\x00\x00", b"\xb3\0\0\0\x01\0\0\0")?;
+    check_queued(
+        &rt,
+        &mut device,
+        1,
+        b"\x01\x00\x00\x00",
+        b"\xb3\0\0\0\x01\0\0\0",
+    )?;
     check_refused_before(&rt, &mut device)?;
     check_waiting(&rt, queue(&mut device)?, &[1]);
     Ok(())
@@ -120,13 +169,31 @@ fn refused_before(rt: HostRuntime) -> Result<(), Fail> {
 #[test]
 fn full(rt: HostRuntime) -> Result<(), Fail> {
     let mut device = queued_objects(rt.alloc(), 2)?;
-    check_queued(&rt, &mut device, 1, b"\x01\x00\x00\x00", b"\xb3\0\0\0\x01\0\0\0")?;
-    check_queued(&rt, &mut device, 1, b"\x02\x00\x00\x00", b"\xb3\0\0\0\x02\0\0\0")?;
+    check_queued(
+        &rt,
+        &mut device,
+        1,
+        b"\x01\x00\x00\x00",
+        b"\xb3\0\0\0\x01\0\0\0",
+    )?;
+    check_queued(
+        &rt,
+        &mut device,
+        1,
+        b"\x02\x00\x00\x00",
+        b"\xb3\0\0\0\x02\0\0\0",
+    )?;
     check_queued(&rt, &mut device, 1, b"\x03\x00\x00\x00", FULL)?;
     check_queued(&rt, &mut device, 2, b"\x03\x00\x00\x00", FULL)?;
     check_waiting(&rt, queue(&mut device)?, &[1, 2]);
     assert!(rt; queue(&mut device)?.finish(1, &reply(0, b"")?));
-    check_queued(&rt, &mut device, 2, b"\x04\x00\x00\x00", b"\xb3\0\0\0\x03\0\0\0")?;
+    check_queued(
+        &rt,
+        &mut device,
+        2,
+        b"\x04\x00\x00\x00",
+        b"\xb3\0\0\0\x03\0\0\0",
+    )?;
     check_queued(&rt, &mut device, 1, b"\x05\x00\x00\x00", FULL)?;
     check_waiting(&rt, queue(&mut device)?, &[2, 3]);
     Ok(())
@@ -153,7 +220,13 @@ fn greatest_and_none(rt: HostRuntime) -> Result<(), Fail> {
 fn last_ticket(rt: HostRuntime) -> Result<(), Fail> {
     let mut device = queued_objects(rt.alloc(), 2)?;
     assert!(rt; queue(&mut device)?.set_next(0xffff_ffff));
-    check_queued(&rt, &mut device, 1, b"\x01\x00\x00\x00", b"\xb3\0\0\0\xff\xff\xff\xff")?;
+    check_queued(
+        &rt,
+        &mut device,
+        1,
+        b"\x01\x00\x00\x00",
+        b"\xb3\0\0\0\xff\xff\xff\xff",
+    )?;
     check_queued(&rt, &mut device, 1, b"\x01\x00\x00\x00", FULL)?;
     check_result(&rt, &mut device, 1, 0xffff_ffff, PENDING);
     assert!(rt; queue(&mut device)?.finish(0xffff_ffff, &reply(0, b"")?));
@@ -166,8 +239,20 @@ fn last_ticket(rt: HostRuntime) -> Result<(), Fail> {
 fn results(rt: HostRuntime) -> Result<(), Fail> {
     let mut device = queued_objects(rt.alloc(), 2)?;
     check_result(&rt, &mut device, 1, 1, UNKNOWN);
-    check_queued(&rt, &mut device, 1, b"\x01\x00\x00\x00", b"\xb3\0\0\0\x01\0\0\0")?;
-    check_queued(&rt, &mut device, 2, b"\x01\x00\x00\x00", b"\xb3\0\0\0\x02\0\0\0")?;
+    check_queued(
+        &rt,
+        &mut device,
+        1,
+        b"\x01\x00\x00\x00",
+        b"\xb3\0\0\0\x01\0\0\0",
+    )?;
+    check_queued(
+        &rt,
+        &mut device,
+        2,
+        b"\x01\x00\x00\x00",
+        b"\xb3\0\0\0\x02\0\0\0",
+    )?;
     check_result(&rt, &mut device, 1, 0, UNKNOWN);
     check_result(&rt, &mut device, 1, 1, PENDING);
     check_result(&rt, &mut device, 2, 1, UNKNOWN);
@@ -216,7 +301,13 @@ fn largest_result(rt: HostRuntime) -> Result<(), Fail> {
 fn finished_once(rt: HostRuntime) -> Result<(), Fail> {
     let mut device = queued_objects(rt.alloc(), 3)?;
     for ticket in 1..=3u8 {
-        check_queued(&rt, &mut device, 1, &[ticket, 0, 0, 0], &[0xb3, 0, 0, 0, ticket, 0, 0, 0])?;
+        check_queued(
+            &rt,
+            &mut device,
+            1,
+            &[ticket, 0, 0, 0],
+            &[0xb3, 0, 0, 0, ticket, 0, 0, 0],
+        )?;
     }
     let queue = queue(&mut device)?;
     // never given, too long, and a status that says that nothing was executed
@@ -288,7 +379,13 @@ fn put_back(rt: HostRuntime) -> Result<(), Fail> {
     let alloc = rt.alloc();
     let mut old = queued_objects(alloc, 3)?;
     for ticket in 1..=3u8 {
-        check_queued(&rt, &mut old, 1, &[ticket, 0, 0, 0], &[0xb3, 0, 0, 0, ticket, 0, 0, 0])?;
+        check_queued(
+            &rt,
+            &mut old,
+            1,
+            &[ticket, 0, 0, 0],
+            &[0xb3, 0, 0, 0, ticket, 0, 0, 0],
+        )?;
     }
     assert!(rt; queue(&mut old)?.finish(2, &reply(0, b"\x2a")?));
     let mut new = queued_objects(alloc, 3)?;

@@ -109,7 +109,11 @@ pub fn node(alloc: Global) -> Result<LedgerRouter<OwnedObjects>, Fail> {
 }
 
 /// A ledger of so many slots, in this life, before these objects.
-pub fn node_of(alloc: Global, originators: u16, life: u64) -> Result<LedgerRouter<OwnedObjects>, Fail> {
+pub fn node_of(
+    alloc: Global,
+    originators: u16,
+    life: u64,
+) -> Result<LedgerRouter<OwnedObjects>, Fail> {
     Ok(LedgerRouter {
         ledger: Some(Ledger::new(alloc, originators, life)?),
         router: OwnedObjects::new(objects(alloc)?),
