@@ -1,6 +1,10 @@
 pub mod SavingLemmas
+pub mod QueueStays
+pub mod GivenTickets
 pub mod LedgerStays
 pub mod PutBack
+pub mod QueueLeaves
+pub mod QueueBack
 pub mod LedgerBack
 pub mod Restarted
 pub mod LifeLemmas
