@@ -1,14 +1,13 @@
 -- What every step keeps of a queue, and what a step does by its tests.
-use Rattle.std.proofs.Common.{◌≡◌, ℕ, zero, suc, ◌+◌, ◌<◌, ◌≤◌, ◌^◌, ◌==◌, Bool, true, false, ◌&&◌, not, if◌then◌else◌, nat_lt, nat_le, Option, Some, None, unwrap_or, List, [], ◌∷◌, ◌++◌, length, drop, refl, ap, sym, subst, ◌∙◌, arith}
+use Rattle.std.proofs.Common.{◌≡◌, ℕ, ◌+◌, ◌<◌, ◌≤◌, ◌^◌, ◌==◌, Bool, true, false, ◌&&◌, not, if◌then◌else◌, nat_lt, nat_le, Option, Some, None, unwrap_or, List, [], ◌∷◌, ◌++◌, length, drop, refl, ap, ◌∙◌, arith}
 use Rattle.std.proofs.lemmas.Bool.Decides.{nat_tests}
 use Rattle.std.proofs.lemmas.List.{length-append}
-use Rattle.std.specs.Prelude.{is_some}
 use Rattle.std.specs.List.{AllByRecursion}
 use Rattle.cip_objects.specs.OwnRequests.{Asked}
-use Rattle.cip_owner.specs.Queue.{QueueState, QueuedCommand, QueueResult, IsQueued, IsResult, IsQueue, has_room, has_widths, takes, next_ticket, command_with, pushed, after_push, command_ticket, command_of, without_command, can_be_reply, result_with, with_result, with_finished, finished_by, finished, can_finish}
+use Rattle.cip_owner.specs.Queue.{QueueState, QueuedCommand, QueueResult, IsQueued, IsResult, IsQueue, has_room, has_widths, takes, next_ticket, command_with, pushed, after_push, command_ticket, command_of, without_command, can_be_reply, result_with, with_result, with_finished, finished_by, finished}
 use Rattle.cip_owner.specs.QueueRuns.{QueueStep, Pushes, Finishes, after_step, after_steps}
 use Rattle.cip_owner.specs.Replies.{Reply}
-use Rattle.cip_owner.proofs.ListLemmas.{all-append, all-filter, all-rest, length-filter_at_most, first-number, first-all}
+use Rattle.cip_owner.proofs.ListLemmas.{all-append, all-filter, all-rest, length-filter_at_most, first-all}
 
 pub both_true : (a b : Bool) → a && b ≡ true → (a ≡ true) × (b ≡ true)
 both_true true b e = (refl, e)

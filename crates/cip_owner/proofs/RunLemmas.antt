@@ -1,18 +1,18 @@
 -- The queue over any number of steps.
-use Rattle.std.proofs.Common.{◌≡◌, ◌≢◌, ℕ, zero, suc, ◌+◌, ◌-◌, ◌<◌, ◌≤◌, ◌==◌, Bool, true, false, not, ◌&&◌, ◌||◌, if◌then◌else◌, nat_lt, Option, Some, None, unwrap_or, List, [], ◌∷◌, ◌++◌, length, map, drop, append_assoc, refl, ap, sym, subst, ◌∙◌, arith}
+use Rattle.std.proofs.Common.{◌≡◌, ◌≢◌, ℕ, suc, ◌+◌, ◌-◌, ◌<◌, ◌≤◌, ◌==◌, Bool, true, false, not, ◌&&◌, ◌||◌, if◌then◌else◌, nat_lt, Option, Some, None, unwrap_or, List, [], ◌∷◌, ◌++◌, length, map, drop, append_assoc, refl, ap, sym, subst, ◌∙◌, arith}
 use Rattle.std.proofs.lemmas.Bool.{eq-eqb, ne_eqb, eqb-true}
 use Rattle.std.proofs.lemmas.Bool.Decides.{nat_tests}
 use Rattle.std.proofs.lemmas.List.{append-nil, length-append}
 use Rattle.std.proofs.lemmas.List.Elements.{filter-append}
-use Rattle.std.specs.List.{AllByRecursion, filter, list_any, range_with_len}
+use Rattle.std.specs.List.{AllByRecursion, list_any, range_with_len}
 use Rattle.cip_objects.specs.OwnRequests.{Asked}
-use Rattle.cip_owner.specs.Queue.{QueueState, QueuedCommand, QueueResult, Done, Unknown, takes, command_with, pushed, command_ticket, result_ticket, command_of, kept_result, without_command, can_be_reply, result_with, with_result, with_finished, finished_by, finished, outcome_by, outcome_of}
+use Rattle.cip_owner.specs.Queue.{QueueState, QueuedCommand, QueueResult, Done, Unknown, takes, command_with, pushed, command_ticket, result_ticket, command_of, kept_result, without_command, can_be_reply, result_with, with_result, with_finished, finished_by, outcome_by, outcome_of}
 use Rattle.cip_owner.specs.QueueLaws.{AreApart, HasTickets, numbers_law, unfinished, waiting_law, last_results, results_law, IsResultOf, IsResultOfSome, once_law, finished_law}
 use Rattle.cip_owner.specs.QueueRuns.{QueueStep, Pushes, Finishes, after_step, after_steps, result_of_reply, commands_in, results_in}
 use Rattle.cip_owner.specs.Replies.{Reply}
-use Rattle.cip_owner.proofs.ListLemmas.{all-append, all-rest, all-weaker, all-both, first-absent, first-number, first-front, first-behind}
+use Rattle.cip_owner.proofs.ListLemmas.{all-rest, all-weaker, all-both, first-absent, first-number, first-front, first-behind}
 use Rattle.cip_owner.proofs.QueueLemmas.{reply_is, finish_done, length-with_result}
-use Rattle.cip_owner.proofs.TicketLemmas.{gone, others_stay, still_gone, not_given, behind_others, ticket_given, no_result_yet, some_none, step_tickets}
+use Rattle.cip_owner.proofs.TicketLemmas.{gone, still_gone, behind_others, ticket_given, no_result_yet, some_none, step_tickets}
 
 -- what one step does to the commands and the results of a run
 abbrev Run : QueueState → List QueuedCommand → List QueueResult → List QueueStep → (List QueuedCommand → List QueueResult → QueueState → Type 0) → Type 0

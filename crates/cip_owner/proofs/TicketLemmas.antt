@@ -1,10 +1,10 @@
 -- The tickets of a queue: they rise, and each has at most one command and one result.
-use Rattle.std.proofs.Common.{◌≡◌, ◌≢◌, ℕ, zero, suc, ◌+◌, ◌<◌, ◌≤◌, ◌==◌, Bool, true, false, not, if◌then◌else◌, nat_lt, Option, Some, None, List, [], ◌∷◌, ◌++◌, length, drop, refl, ap, sym, subst, ◌∙◌, arith}
-use Rattle.std.proofs.lemmas.Bool.{eq-eqb, ne_eqb, eqb-true, eqb-false}
+use Rattle.std.proofs.Common.{◌≡◌, ◌≢◌, ℕ, ◌+◌, ◌<◌, ◌≤◌, ◌==◌, Bool, true, false, not, if◌then◌else◌, nat_lt, Option, Some, None, List, [], ◌∷◌, ◌++◌, length, drop, refl, ap, sym, subst, ◌∙◌, arith}
+use Rattle.std.proofs.lemmas.Bool.{ne_eqb, eqb-true, eqb-false}
 use Rattle.std.specs.List.{AllByRecursion, filter}
 use Rattle.cip_objects.specs.OwnRequests.{Asked}
-use Rattle.cip_owner.specs.Queue.{QueueState, QueuedCommand, QueueResult, empty_queue, takes, command_with, pushed, command_ticket, command_of, without_command, can_be_reply, result_with, with_result, with_finished, first_with}
-use Rattle.cip_owner.specs.QueueLaws.{IsBefore, TicketsRise, AreApart, HasTickets, tickets_law}
+use Rattle.cip_owner.specs.Queue.{QueueState, QueuedCommand, QueueResult, command_with, pushed, command_ticket, command_of, without_command, result_with, with_result, with_finished}
+use Rattle.cip_owner.specs.QueueLaws.{TicketsRise, AreApart, HasTickets, tickets_law}
 use Rattle.cip_owner.specs.QueueRuns.{QueueStep, Pushes, Finishes, after_step, after_steps}
 use Rattle.cip_owner.specs.Replies.{Reply}
 use Rattle.cip_owner.proofs.ListLemmas.{all-append, all-filter, all-rest, all-weaker, all-both, first-number, first-all, first-behind}

@@ -6,3 +6,4 @@ pub mod OwnedLaws
 pub mod OwnerLaws
 pub mod QueueRuns
 pub mod QueueLaws
+pub mod QueueRows

@@ -16,7 +16,7 @@ use Rattle.cip_owner.specs.Queue.{QueueState, QueueResult, QueueOutcome, Pending
 use Rattle.cip_owner.specs.Replies.{Reply}
 use Rattle.cip_owner.specs.Owned.{OwnedState, Executed, answered, exec_owned, by_owner, given, is_fit, after_reply}
 use Rattle.cip_owner.specs.Owned.{answer_with, refused_with, NOT_PREPARED, RESOURCE_UNAVAILABLE, is_asked, asks}
-use Rattle.cip_owner.specs.Owned.{asked_within, queued, done_answer, outcome_answer, result_answer, of_kind}
+use Rattle.cip_owner.specs.Owned.{asked_within, queued, outcome_answer, result_answer, of_kind}
 
 -- ---- a reply that is too large goes with an unchanged state
 

@@ -1,5 +1,5 @@
 -- What the code holds and lends of a queue, as contracts see it.
-use Rattle.std.specs.Prelude.{ℕ, ◌≤◌, List, [], length, vec_len}
+use Rattle.std.specs.Prelude.{ℕ, ◌≤◌, List, length, vec_len}
 use Rattle.std.specs.Global.{Vec}
 use Rattle.std.specs.List.{AllByRecursion}
 use Rattle.std.specs.Vec.{vec_capacity}
