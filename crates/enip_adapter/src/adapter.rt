@@ -11,14 +11,14 @@ ghost use Rattle.cip_manager.specs.declared.connection.Connection.{Connection};
 ghost use Rattle.cip_manager.specs.Connection.{earliest_deadline, has_id};
 ghost use Rattle.cip_manager.specs.ConnectionInfo.{connection_info};
 ghost use Rattle.enip_adapter.specs.Turn.{session_of, sent};
-ghost use Rattle.cip_ledger.specs.Device.{device_of};
+ghost use Rattle.cip_ledger.specs.Device.{device_of, queued_device, finished_in};
 ghost use Rattle.cip_ledger.specs.Doubt.{settled};
 ghost use Rattle.cip_objects.specs.Changes.{changes_of, changes_at};
 ghost use Rattle.cip_objects.specs.DeviceWrites.{device_write, with_device_status, with_device_state};
 ghost use Rattle.cip_objects.specs.ObjectMap.{key};
 ghost use Rattle.enip_adapter.specs.Adapter.{full_number, feed_output};
 ghost use Rattle.enip_adapter.specs.Groups.{has_share};
-ghost use Rattle.enip_adapter.specs.Device.{with_objects, with_prepared, with_ledger};
+ghost use Rattle.enip_adapter.specs.Device.{with_device, with_objects, with_prepared, with_ledger};
 ghost use Rattle.enip_adapter.specs.OwnWrites.{OwnWrite, attribute_write, can_settle_in};
 ghost use Rattle.enip_adapter.specs.Replies.{written};
 ghost use Rattle.enip_adapter.specs.Discovery.{discovered};
@@ -35,7 +35,7 @@ use cip_bytes::protocol::ASSEMBLY;
 use cip_ledger::{Ledger, LedgerRouter};
 use cip_manager::{ConnectionInfo, Manager, Steps};
 use cip_objects::{Objects, ReplyBuf};
-use cip_owner::{OwnedObjects, OwnerReply};
+use cip_owner::{OwnedObjects, OwnerReply, Queue};
 use std::alloc::{AllocError, Global};
 use std::marker::Model;
 use thiserror::Error;
@@ -252,9 +252,46 @@ impl Adapter {
         requires connection_share_to { shares.connections ≤ 64 }
         ensures { IfOk result (λ a. a ≡ shared_adapter (device_of ledger objects) listen limits shares) }
     {
+        Adapter::queued(alloc, objects, ledger, None, listen, limits, shares)
+    }
+
+    /// Makes an adapter as `shared` does, with a queue for the commands of queued services. A request for one is answered
+    /// at once: by its ticket, or by the state byte 1 if a numbered command embeds it. The program that owns the device
+    /// reads the commands that wait (`queue`), and finishes each by its ticket (`finish`).
+    ///
+    /// ```
+    /// let queue = Queue::new(alloc, 16)?;
+    /// let mut adapter =
+    ///     Adapter::queued(alloc, objects, Some(ledger), Some(queue), listen, limits, Shares::NONE)?;
+    /// ```
+    ///
+    /// # Errors
+    ///
+    /// `AllocError` if memory is refused.
+    pub fn queued(
+        alloc: Global,
+        objects: Objects,
+        ledger: Option<Ledger>,
+        queue: Option<Queue>,
+        listen: Listen,
+        limits: Limits,
+        shares: Shares,
+    ) -> Result<Adapter, AllocError>
+        requires peers_from { 1 ≤ limits.peers }
+        requires peers_to { limits.peers ≤ 16 }
+        requires connections_from { 1 ≤ limits.connections }
+        requires connections_to { limits.connections ≤ 64 }
+        requires handle { 1 ≤ limits.first_handle }
+        requires id { 1 ≤ limits.first_id }
+        requires share_from { 1 ≤ shares.peers }
+        requires share_to { shares.peers ≤ 16 }
+        requires connection_share_from { 1 ≤ shares.connections }
+        requires connection_share_to { shares.connections ≤ 64 }
+        ensures { IfOk result (λ a. a ≡ shared_adapter (queued_device ledger objects queue) listen limits shares) }
+    {
         let device = LedgerRouter {
             ledger,
-            router: OwnedObjects::new(objects),
+            router: OwnedObjects::with_queue(objects, queue),
         };
         Adapter::of_device(alloc, device, listen, limits, shares)
     }
@@ -535,6 +572,36 @@ impl Adapter {
             Some(ledger) => ledger.settle(originator, number, reply),
             None => false,
         }
+    }
+
+    /// Finishes a queued command, by its ticket, with the owner's reply: it waits no longer, and its result is kept. If a
+    /// numbered command embeds it, a repeat of that one gets this reply from now on.
+    ///
+    /// Returns `false`, and changes nothing, if no command with this ticket waits, if the reply is longer than its service
+    /// allows, or if its status says that it is too large (0x11). Nothing else of the adapter changes.
+    ///
+    /// ```
+    /// if let Some(command) = adapter.queue().and_then(|queue| queue.waiting(0)) {
+    ///     let ticket = command.ticket;
+    ///     // execute it, and then
+    ///     adapter.finish(ticket, &reply);
+    /// }
+    /// ```
+    pub fn finish(&mut self, ticket: u32, reply: &OwnerReply) -> bool
+        ensures written { self.new ≡ with_device self.old (unwrap_or
+            (finished_in ticket reply.now self.old.state.shared.objects) self.old.state.shared.objects) }
+        ensures told { result ≡ is_some (finished_in ticket reply.now self.old.state.shared.objects) }
+        ensures call { self.new ≡ after_call self.old (Call.Writes (OwnWrite.Finishes ticket reply.now)) }
+    {
+        self.shared.objects.finish(ticket, reply)
+    }
+
+    /// The queue of commands: those that wait, in the order of their tickets, and the last 256 results. `None` if the
+    /// adapter has none.
+    pub fn queue(&self) -> Option<&Queue>
+        ensures { option_map (λ queue. queue.now) result ≡ self.now.state.shared.objects.router.queue }
+    {
+        self.shared.objects.router.queue.as_ref()
     }
 
     /// The reply that the next request to the owner takes, if one is prepared.

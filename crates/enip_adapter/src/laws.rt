@@ -17,6 +17,7 @@ ghost use Rattle.enip_adapter.specs.DeviceRuns.{device_law, run_law, objects_law
 ghost use Rattle.enip_adapter.specs.Discovery.{discovered};
 ghost use Rattle.enip_adapter.specs.OwnerLaws.{one_asked_law, asked_alike_law, repeat_law, given_law, unasked_law};
 ghost use Rattle.enip_adapter.specs.OwnerLaws.{answered_law, nobody_law, calls_law, asked_once_law};
+ghost use Rattle.enip_adapter.specs.QueueLaws.{queue_steps_law, handed_over_law, pending_law};
 ghost use Rattle.enip_adapter.specs.RightsLaws.{unchanged_law, unasked_by_reading_law, readers_law, readers_ask_nothing_law};
 ghost use Rattle.enip_adapter.specs.ShareLaws.{peers_share_law, connections_share_law, refused_begin_law};
 ghost use Rattle.enip_adapter.specs.ShareLaws.{under_share_law, slot_for_each_share_law};
@@ -234,6 +235,18 @@ pub fn owner_is_asked()
     ensures nobody { nobody_law }
     ensures calls { calls_law }
     ensures once { asked_once_law }
+{}
+
+/// Queued commands are handed over in order, each until it is done. Whatever calls are made, the queue changes only by the
+/// requests of queued services that reach the objects and by the commands that the device finishes: it is the one after
+/// these steps, in order. So tickets are numbers in a row. The commands that wait are those that were put into the queue
+/// and not finished, in the order of their tickets: none is lost or made up, and none waits again once it is finished.
+/// Each command has one result at most, and the last 256 results are kept. A command of the ledger that is pending is one
+/// that waits.
+pub fn queued_commands_are_handed_over()
+    ensures steps { queue_steps_law }
+    ensures handed_over { handed_over_law }
+    ensures pending { pending_law }
 {}
 
 /// A request that is not a change, by its service and class alone, leaves the device as it was: the objects, the command

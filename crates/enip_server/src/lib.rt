@@ -14,8 +14,9 @@
 //! - `round_asking` does the same, and asks the owner of the device (`cip_owner::Owner`) about each request to it: its
 //!   reply is the answer to that frame. In `round` such a request is answered "device state conflict" (0x10).
 //! - `release` lets the answers of a round leave, if each wire is a `HeldWire`, which holds back what is written to it.
-//! - Between rounds, `adapter` reads the objects and connections, and `write_data`, `write_attribute`,
-//!   `set_device_status` and `set_device_state` write on behalf of the device itself.
+//! - Between rounds, `adapter` reads the objects, connections and queued commands, `write_data`, `write_attribute`,
+//!   `set_device_status` and `set_device_state` write on behalf of the device itself, and `finish` finishes a queued
+//!   command.
 //!
 //! No call after `Peers::new` allocates memory.
 //!

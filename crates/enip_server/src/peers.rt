@@ -4,6 +4,7 @@
 ghost use Rattle.std.specs.Prelude.{◌≡◌, ◌≤◌, ◌<◌, length, IfOk, IfSome, is_some};
 ghost use Rattle.std.specs.List.{list_any};
 ghost use Rattle.std.specs.Option.{option_map};
+ghost use Rattle.cip_ledger.specs.Device.{finished_in};
 ghost use Rattle.cip_objects.specs.DeviceWrites.{device_write};
 ghost use Rattle.enip_adapter.specs.Discovery.{discovered};
 ghost use Rattle.enip_adapter.specs.OwnWrites.{OwnWrite, attribute_write};
@@ -18,7 +19,7 @@ use crate::evictions::longest_silent;
 use crate::held_wire::HeldWire;
 use crate::peer_io::{PeerIo, Turn};
 use crate::wire::Wire;
-use cip_owner::{NoOwner, Owner};
+use cip_owner::{NoOwner, Owner, OwnerReply};
 use enip_adapter::{Adapter, DiscoveryBuffer, Full, LONGEST_ANSWER, Rights};
 use std::alloc::{AllocError, Global};
 use std::boxed::BoxedSlice;
@@ -307,6 +308,24 @@ impl<W: Wire + Drop> Peers<W> {
         ensures { state_of self.new ≡ written_by (OwnWrite.SetsState state) (state_of self.old) }
     {
         self.adapter.set_device_state(state);
+    }
+
+    /// Finishes a queued command, by its ticket, with the owner's reply: it waits no longer, and peers that are served later
+    /// get its result. The commands that wait are in the queue of the adapter (`Adapter::queue`).
+    ///
+    /// Returns `false`, and changes nothing, if no command with this ticket waits, or if the reply cannot be given to it
+    /// (`Adapter::finish`). No slot, wire, buffer or idle timeout changes.
+    ///
+    /// ```
+    /// let finished = peers.finish(ticket, &reply);
+    /// ```
+    pub fn finish(&mut self, ticket: u32, reply: &OwnerReply) -> bool
+        ensures call { state_of self.new
+            ≡ written_by (OwnWrite.Finishes ticket reply.now) (state_of self.old) }
+        ensures told { result
+            ≡ is_some (finished_in ticket reply.now (state_of self.old).adapter.state.shared.objects) }
+    {
+        self.adapter.finish(ticket, reply)
     }
 
     /// The answer to a datagram, written into `room`. A datagram is answered if it is exactly one ListIdentity,
