@@ -1,18 +1,18 @@
 -- What a device executes over restarts that go on with its ledger and its queue.
-use Rattle.std.proofs.Common.{◌≡◌, ◌≢◌, ℕ, ◌+◌, ◌<◌, Bool, true, false, if◌then◌else◌, Option, Some, None, List, [], ◌∷◌}
+use Rattle.std.proofs.Common.{◌≡◌, ◌≢◌, ℕ, ◌+◌, ◌<◌, ◌&&◌, Bool, true, false, if◌then◌else◌, Option, Some, None, List, [], ◌∷◌}
 use Rattle.std.proofs.Common.{◌++◌, refl, ap, sym, ◌∙◌, subst, arith, ◌⊎◌, inl, inr, unwrap_or}
-use Rattle.std.specs.Prelude.{option_map}
+use Rattle.std.specs.Prelude.{option_map, is_some, not}
 use Rattle.std.specs.List.{AllByRecursion}
 use Rattle.cip_ledger.specs.declared.service.TheConstants as services
 use Rattle.cip_ledger.specs.Device.{Device, owned_standing}
 use Rattle.cip_ledger.specs.Doubt.{can_settle, with_last, settled, is_kept_reply}
 use Rattle.cip_ledger.specs.Ledger.{LedgerState, SlotState, slot_of}
 use Rattle.cip_ledger.specs.Laws.{UntilFreed, Rises, IsNotFreed, Succeeds}
-use Rattle.cip_ledger.specs.Pending.{completed_slot, with_completed, completed}
+use Rattle.cip_ledger.specs.Pending.{has_ticket, is_pending_at, done_with, completed_slot, with_completed, completed}
 use Rattle.cip_ledger.specs.PendingLaws.{completed_if}
 use Rattle.cip_ledger.specs.Runs.{Request, slot_in, Executed, Freed, Event, answer_to, journal, events_by}
-use Rattle.cip_ledger.specs.Services.{Replies, Executes, Queues, Frees, DONE, PENDING, success, reply_to, last_content}
-use Rattle.cip_ledger.specs.Services.{state_content}
+use Rattle.cip_ledger.specs.Services.{Replies, Executes, Queues, Frees, DONE, PENDING, IN_DOUBT, success, reply_to}
+use Rattle.cip_ledger.specs.Services.{last_content, state_content}
 use Rattle.cip_ledger.specs.Turn.{Fate, Passed, Served, fate, turn_by, with_executed, with_queued, with_freed}
 use Rattle.cip_ledger.specs.Turn.{embedded_reply}
 use Rattle.cip_ledger.proofs.Answered.{settles, again-by}
@@ -259,16 +259,28 @@ other_ledger (Some ledger) by number originator reply other = other_slot ledger 
 abbrev NotPending : List ℕ → Type 0
 NotPending content = content ≡ PENDING ∷ [] → ⊥
 
-done_content : (slot : SlotState) (ticket : ℕ) (reply content : List ℕ) (own : Option (List ℕ)) (given : Option ℕ)
-    → slot.reply ≡ own → slot.ticket ≡ given → last_content slot ≡ content → NotPending content
+by_reply : (slot : SlotState) (ticket : ℕ) (kept : Option (List ℕ)) → slot.reply ≡ kept
+    → is_pending_at ticket slot ≡ not (is_some kept) && has_ticket ticket slot.ticket
+by_reply slot ticket kept e = ap (λ r. not (is_some r) && has_ticket ticket slot.ticket) e
+
+content_by : (slot : SlotState) (kept : Option (List ℕ)) (given : Option ℕ) → slot.reply ≡ kept → slot.ticket ≡ given
+    → last_content slot ≡ state_content kept given
+content_by slot kept given e f = ap (λ r. state_content r slot.ticket) e ∙ ap (state_content kept) f
+
+not_pending : (slot : SlotState) (ticket : ℕ) (reply content : List ℕ) → is_pending_at ticket slot ≡ false
+    → last_content slot ≡ content → last_content (completed_slot ticket reply slot) ≡ content
+not_pending slot ticket reply content off e =
+    ap (λ b. last_content (if b then done_with reply slot else slot)) off ∙ e
+
+done_content : (slot : SlotState) (ticket : ℕ) (reply content : List ℕ) (kept : Option (List ℕ)) (given : Option ℕ)
+    → slot.reply ≡ kept → slot.ticket ≡ given → last_content slot ≡ content → NotPending content
     → last_content (completed_slot ticket reply slot) ≡ content
 done_content slot ticket reply content (Some r) given done t e final =
-    ap (λ b. last_content (if b then record slot { reply = Some reply; ticket = None } else slot)) (rw done refl) ∙ e
+    not_pending slot ticket reply content (by_reply slot ticket (Some r) done) e
 done_content slot ticket reply content None None none t e final =
-    ap (λ b. last_content (if b then record slot { reply = Some reply; ticket = None } else slot)) (rw (none, t) refl) ∙ e
+    not_pending slot ticket reply content (by_reply slot ticket None none ∙ ap (has_ticket ticket) t) e
 done_content slot ticket reply content None (Some given) none t e final =
-    let pending : state_content slot.reply slot.ticket ≡ PENDING ∷ [] = rw (none, t) refl in
-    absurd (final (sym e ∙ pending))
+    absurd (final (sym e ∙ content_by slot None (Some given) none t))
 
 settled_final : (ticket : ℕ) (reply : List ℕ) (number : ℕ) (content : List ℕ) (found : Option SlotState)
     → NotPending content → Settled number content found
@@ -340,13 +352,20 @@ stays_settled own device (Restarts start ∷ steps) originator number content ar
     (sym (going_on own device start are.runs are.on.0)) settled)
 
 -- what a command is answered by says that it is pending, or not
-pending_or_not : (slot : SlotState) (own : Option (List ℕ)) (given : Option ℕ) → slot.reply ≡ own → slot.ticket ≡ given
-    → (last_content slot ≡ PENDING ∷ []) ⊎ NotPending (last_content slot)
+other_state : (content : List ℕ) (state : ℕ) (rest : List ℕ) → content ≡ state ∷ rest → (state ≡ PENDING → ⊥)
+    → NotPending content
+other_state content state rest e other pending = other (first state PENDING rest [] (sym e ∙ pending))
+  where
+    first : (a b : ℕ) (xs ys : List ℕ) → a ∷ xs ≡ b ∷ ys → a ≡ b
+    first a b xs ys e = cc
+
+pending_or_not : (slot : SlotState) (kept : Option (List ℕ)) (given : Option ℕ) → slot.reply ≡ kept
+    → slot.ticket ≡ given → (last_content slot ≡ PENDING ∷ []) ⊎ NotPending (last_content slot)
 pending_or_not slot (Some r) given done t =
-    inr (λ e. let same : ◌≡◌ {A = List ℕ} (DONE ∷ r) (PENDING ∷ []) = sym (rw done refl) ∙ e in absurd (cc))
-pending_or_not slot None (Some given) none t = inl (rw (none, t) refl)
+    inr (other_state (last_content slot) DONE r (content_by slot (Some r) given done t) (λ e. omega (arith, e)))
+pending_or_not slot None (Some given) none t = inl (content_by slot None (Some given) none t)
 pending_or_not slot None None none t =
-    inr (λ e. let same : ◌≡◌ {A = List ℕ} (2 ∷ []) (PENDING ∷ []) = sym (rw (none, t) refl) ∙ e in absurd (cc))
+    inr (other_state (last_content slot) IN_DOUBT [] (content_by slot None None none t) (λ e. omega (arith, e)))
 
 pub same_answer : (own : Sizes) (device : Device) (first again : Request) (between : List LifeStep)
     (originator number : ℕ) → AreGoingOn own device (Does (Requested first) ∷ between)
@@ -379,13 +398,13 @@ same_answer own device first again between originator number are others is again
     by (inl pending) =
         inr (s.answered ∙ ap (λ c. reply_to services.DO_ONCE (success c)) (sym s.content_is ∙ pending))
     by (inr final) =
-        let not_pending : NotPending s.content = subst NotPending s.content_is final in
+        let still : NotPending s.content = subst NotPending s.content_is final in
         inl (again-by objects_after objects_answer last again originator number again_is.has_ledger again_is.command
         again_is.given again_is.originator_is again_is.number_is
         (fate owned_standing last.ledger last.router again.0 again.1) s.content
         (fate-means owned_standing last.ledger last.router again)
         (stays_settled own next between originator number s.content
-        (later own device (Does (Requested first)) between are) others kept not_pending s.settled) again_is.status_is
+        (later own device (Does (Requested first)) between are) others kept still s.settled) again_is.status_is
         ∙ sym s.answered)
 
 -- ---- the queue
