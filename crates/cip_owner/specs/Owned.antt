@@ -40,8 +40,8 @@ is_asked kinds.Queued = false
 is_asked kinds.Result = false
 
 -- What the owner is asked by a request whose reply may have `max_size` bytes, if anything. There must be room for the
--- longest reply, as no reply of the owner may be too large. The owner is not asked for a service that is queued, nor for
--- a result.
+-- longest reply, as no reply of the owner may be too large. The owner is not asked for a service that is queued, nor
+-- for a result.
 abbrev pub asked_within : ℕ → Option (Result Asked Refusal) → Option Asked
 asked_within max_size None = None
 asked_within max_size (Some (Err refusal)) = None

@@ -12,7 +12,8 @@ use Rattle.cip_objects.specs.Execution.{exec}
 use Rattle.cip_objects.specs.ExecutionLaws.{exec_too_large, exec_begins, exec_within}
 use Rattle.cip_objects.specs.OwnRequests.{Asked, own_request}
 use Rattle.cip_objects.specs.Router.{general_status, IsReplyTo, REPLY_TOO_LARGE}
-use Rattle.cip_owner.specs.Queue.{QueueState, QueueResult, QueueOutcome, Pending, Done, Unknown, takes, pushed, result_of}
+use Rattle.cip_owner.specs.Queue.{QueueState, QueueResult, QueueOutcome, Pending, Done, Unknown, takes, pushed}
+use Rattle.cip_owner.specs.Queue.{result_of}
 use Rattle.cip_owner.specs.Replies.{Reply}
 use Rattle.cip_owner.specs.Owned.{OwnedState, Executed, answered, exec_owned, by_owner, given, is_fit, after_reply}
 use Rattle.cip_owner.specs.Owned.{answer_with, refused_with, NOT_PREPARED, RESOURCE_UNAVAILABLE, is_asked, asks}
@@ -188,7 +189,8 @@ within_done max_size service r false h e = grind (arith, nat_tests)
 within_outcome : (max_size service : ℕ) (outcome : QueueOutcome) → 8 ≤ max_size
     → length (outcome_answer max_size service outcome) ≤ max_size
 within_outcome max_size service Pending h = omega (arith, h)
-within_outcome max_size service (Done r) h = within_done max_size service r (nat_lt max_size (6 + length r.content)) h refl
+within_outcome max_size service (Done r) h =
+    within_done max_size service r (nat_lt max_size (6 + length r.content)) h refl
 within_outcome max_size service Unknown h = omega (arith, h)
 
 within_result : (max_size service : ℕ) (asked : Asked) (queue : Option QueueState) → 8 ≤ max_size

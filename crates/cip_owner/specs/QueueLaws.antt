@@ -82,7 +82,8 @@ abbrev pub once_law : Type 0
 once_law =
     (q : QueueState) (steps : List QueueStep) → HasTickets q
     → AreApart (results_in q steps)
-    × AllByRecursion (λ r. IsResultOfSome r (command_of r.ticket (q.waiting ++ commands_in q steps))) (results_in q steps)
+    × AllByRecursion (λ r. IsResultOfSome r (command_of r.ticket (q.waiting ++ commands_in q steps)))
+    (results_in q steps)
 
 -- Get_Result of its object answers a command that was just finished with the owner's reply.
 abbrev pub finished_law : Type 0

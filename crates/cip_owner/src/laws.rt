@@ -1,5 +1,5 @@
-//! What holds of every execution of a request by the objects and their owner, and of the queue over any number of steps.
-//! The functions do nothing: their clauses are the laws.
+//! What holds of every execution of a request by the objects and their owner, and of the queue over any number of
+//! steps. The functions do nothing: their clauses are the laws.
 
 ghost use Rattle.cip_objects.specs.Router.{RepliesWellFormed};
 ghost use Rattle.cip_owner.specs.Owned.{OwnedState, exec_owned};
@@ -38,8 +38,8 @@ pub fn queue_takes_requests_alone()
     ensures { queue_law }
 {}
 
-/// In every queue that began empty the tickets of the waiting commands rise, and no result has a ticket of another, of a
-/// waiting command, or that was not given.
+/// In every queue that began empty the tickets of the waiting commands rise, and no result has a ticket of another, of
+/// a waiting command, or that was not given.
 pub fn tickets_rise()
     ensures { tickets_law }
 {}
@@ -49,8 +49,8 @@ pub fn tickets_are_in_a_row()
     ensures { numbers_law }
 {}
 
-/// The commands that wait are those that were put into the queue and not finished, in the order of their tickets. None is
-/// lost, and none is made up.
+/// The commands that wait are those that were put into the queue and not finished, in the order of their tickets. None
+/// is lost, and none is made up.
 pub fn waiting_commands_are_those_not_finished()
     ensures { waiting_law }
 {}

@@ -6,8 +6,8 @@
 //! (0x10) and changes nothing. `exec_owned` in `specs/Owned.antt` defines the state after a request, and its reply.
 //!
 //! A request of a queued service is put into the queue, and answered at once by its ticket. The owner reads the waiting
-//! commands in order and finishes each by its ticket. Get_Result of the same object answers the result. `specs/Queue.antt`
-//! defines the queue, and `specs/QueueLaws.antt` says what holds over any number of steps.
+//! commands in order and finishes each by its ticket. Get_Result of the same object answers the result.
+//! `specs/Queue.antt` defines the queue, and `specs/QueueLaws.antt` says what holds over any number of steps.
 //!
 //! ```
 //! let mut device = OwnedObjects::new(objects);

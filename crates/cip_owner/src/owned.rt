@@ -1,5 +1,5 @@
 //! The objects, with a reply that the owner of the device prepared, and the queue of commands that wait for the owner.
-ghost use Rattle.std.specs.Prelude.{◌≡◌, ◌≤◌, [], ◌∷◌, length, None, is_some, IfSome, MatchOption};
+ghost use Rattle.std.specs.Prelude.{◌≡◌, ◌≤◌, [], length, None, is_some, IfSome, MatchOption};
 ghost use Rattle.std.specs.Option.{option_map};
 ghost use Rattle.cip_objects.specs.OwnRequests.{own_request, asked_in};
 ghost use Rattle.cip_objects.specs.Router.{general_status};
@@ -42,8 +42,8 @@ const HEAD_SIZE: usize = 4;
 /// The bytes of the data of Get_Result's reply before the owner's: the state byte and the owner's general status.
 const RESULT_FRONT: usize = 2;
 
-/// The objects of a device, the reply of its owner that is prepared, if one is, and the queue of commands, if the device
-/// has one.
+/// The objects of a device, the reply of its owner that is prepared, if one is, and the queue of commands, if the
+/// device has one.
 ///
 /// ```
 /// let mut device = OwnedObjects::with_queue(objects, Some(Queue::new(alloc, 16)?));

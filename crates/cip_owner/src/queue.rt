@@ -1,5 +1,6 @@
 //! The queue of commands that wait for the owner of the device, and the results of those that it finished.
-ghost use Rattle.std.specs.Prelude.{◌≡◌, ◌≤◌, ℕ, length, nat_le, Some, None, IfOk, IfSome, option_map, unwrap_or, is_some};
+//! Text: docs/PROTOCOL.md, "Queued commands".
+ghost use Rattle.std.specs.Prelude.{◌≡◌, ◌≤◌, length, nat_le, IfOk, IfSome, option_map, unwrap_or, is_some};
 ghost use Rattle.std.specs.Prelude.{slice_get, if◌then◌else◌};
 ghost use Rattle.cip_objects.specs.OwnRequests.{asked_in};
 ghost use Rattle.cip_owner.specs.Queue.{empty_queue, has_widths, takes, next_ticket, after_push, command_of};
@@ -130,8 +131,8 @@ impl Model for Queue {
 }
 
 impl Queue {
-    /// An empty queue in which so many commands may wait, at most 256. All memory is taken here: some 500 bytes for each
-    /// of these commands, and for each of 256 results.
+    /// An empty queue in which so many commands may wait, at most 256. All memory is taken here: some 500 bytes for
+    /// each of these commands, and for each of 256 results.
     ///
     /// # Errors
     ///
@@ -308,8 +309,8 @@ impl Queue {
 
     /// Sets the next ticket, and returns whether it did. A number over 2^32 changes nothing.
     ///
-    /// With this call, `restore_waiting` and `restore_result` a device starts from what was kept of its queue, before it
-    /// answers any peer.
+    /// With this call, `restore_waiting` and `restore_result` a device starts from what was kept of its queue, before
+    /// it answers any peer.
     ///
     /// ```
     /// let mut queue = Queue::new(alloc, 16)?;
@@ -328,8 +329,8 @@ impl Queue {
         true
     }
 
-    /// Puts a waiting command behind the others, as it was kept, and returns whether it did. If no more may wait, or its
-    /// data have over 500 bytes or its reply over 476, nothing changes.
+    /// Puts a waiting command behind the others, as it was kept, and returns whether it did. If no more may wait, or
+    /// its data have over 500 bytes or its reply over 476, nothing changes.
     pub fn restore_waiting(&mut self, command: WaitingCommand<'_>) -> bool
         ensures restored { self.new
             ≡ unwrap_or (restored_waiting (waiting_in command.entry) self.old) self.old }

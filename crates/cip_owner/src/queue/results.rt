@@ -1,5 +1,5 @@
 //! The results of commands that the owner finished. No call after `new` takes memory.
-ghost use Rattle.std.specs.Prelude.{◌≡◌, ◌≤◌, ◌<◌, [], length, nat_lt, Some, None, option_map};
+ghost use Rattle.std.specs.Prelude.{◌≡◌, ◌≤◌, ◌<◌, [], length, Some, None, option_map};
 ghost use Rattle.std.specs.Prelude.{IfOk, IfSome, IfNone, slice_get, slice_index_or};
 ghost use Rattle.std.specs.List.{AllByRecursion};
 ghost use Rattle.cip_owner.specs.Queue.{QueueResult, IsResult, kept_result, with_result};
