@@ -3,7 +3,7 @@ use Rattle.std.proofs.Common.{◌≡◌, ℕ, ◌+◌, ◌==◌, nat_lt, Bool, t
 use Rattle.cip_ledger.specs.declared.service.TheConstants as services
 use Rattle.cip_ledger.specs.declared.target.Standing.{Standing}
 use Rattle.cip_ledger.specs.declared.target.Standing.TheVariants as standings
-use Rattle.cip_ledger.specs.Ledger.{LedgerState, SlotState, slot_of, with_slot}
+use Rattle.cip_ledger.specs.Ledger.{LedgerState, SlotState, slot_of}
 use Rattle.cip_ledger.specs.Requests.{Command}
 use Rattle.cip_ledger.specs.Standings.{embedded_standing, by_standing, at_router}
 use Rattle.cip_ledger.specs.Services.{Answer, Action, Replies, Executes, do_new, do_by_slot, do_command, success, within, reply_to, DONE, HEAD_SIZE}
@@ -70,19 +70,29 @@ module _ {M : Type 0} (after : M → ℕ → List ℕ → M) (answer : M → ℕ
   agree_if last true a b c d if_true if_false = if_true
   agree_if last false a b c d if_true if_false = if_false
 
+  -- the router executes a command at once
+  executes-final : (last : Option (ℕ × List ℕ)) (done : Turn M) →
+      acted after answer (Executes own) services.DO_ONCE (Some (filled_by originator last ledger)) router ≡ done →
+      acted after answer (at_router standing router (Executes own)) services.DO_ONCE (Some (filled_by originator last ledger)) router
+      ≡ done
+  executes-final last done is =
+      ap (λ s. acted after answer (by_standing s own) services.DO_ONCE (Some (filled_by originator last ledger)) router) final ∙ is
+
+  executes-event : events_by after answer (Served services.DO_ONCE (at_router standing router (Executes own))) router
+      ≡ Executed own reply_of ∷ []
+  executes-event = ap (λ s. events_by after answer (Served services.DO_ONCE (by_standing s own)) router) final
+
+  abbrev executed_with : List SlotState → Turn M
+  executed_with taken =
+      turn_of (Some (record ledger { taken = taken })) (after_embedded after answer router request) (said_bytes (IsDone reply_of))
+
   executes-agree : (last : Option (ℕ × List ℕ)) → Agrees last (Executes own) Appended
-  executes-agree last = (
-    ap (λ is. acted after answer (by_standing is own) services.DO_ONCE (Some (filled_by originator last ledger)) router) final
-        ∙ ap (λ taken. turn_of (Some (record ledger { taken = taken })) (after_embedded after answer router request) (said_bytes (IsDone reply_of)))
-        (put-agree last),
-    ap (λ is. events_by after answer (Served services.DO_ONCE (by_standing is own)) router) final,
+  executes-agree None =
+      (executes-final None _ (ap executed_with (with_slot-blank originator number reply_of ledger.taken)), executes-event)
+  executes-agree (Some last) = (
+    executes-final (Some last) _ (ap executed_with (with_slot-filled originator number last.0 reply_of last.1 ledger.taken)),
+    executes-event,
   )
-    where
-      put-agree : (last : Option (ℕ × List ℕ)) →
-          with_slot (own_slot originator number reply_of) (filled_by originator last ledger).taken
-          ≡ (filled_by originator (Some (number, reply_of)) (with_blank originator ledger)).taken
-      put-agree None = with_slot-blank originator number reply_of ledger.taken
-      put-agree (Some last) = with_slot-filled originator number last.0 reply_of last.1 ledger.taken
 
   new-agree : (last : Option (ℕ × List ℕ)) → Agrees last (do_new max_size own) (new_number max_size)
   new-agree last = agree_if last (nat_lt max_size 485) _ _ _ _ (refl, refl) (executes-agree last)

@@ -1,19 +1,24 @@
 -- The objects with a ledger before them: every reply is well-formed, and which requests change nothing.
-use Rattle.std.proofs.Common.{◌≡◌, ℕ, ◌≤◌, ◌==◌, Bool, true, false, if◌then◌else◌, None, Option, Some, inr, List, [], ◌∷◌, ◌++◌, length, slice_index, Ok, refl, ap, ◌∙◌, arith}
+use Rattle.std.proofs.Common.{◌≡◌, ℕ, ◌≤◌, ◌==◌, Bool, true, false, if◌then◌else◌, None, Option, Some, option_map, inr, List, [], ◌∷◌, ◌++◌, length, slice_index, Ok, refl, ap, ◌∙◌, arith}
 use Rattle.std.proofs.lemmas.Bool.{eqb-true}
 use Rattle.cip_objects.specs.Router.{IsReplyTo, RepliesWellFormed}
-use Rattle.cip_owner.specs.Owned.{OwnedState, exec_owned}
-use Rattle.cip_owner.specs.OwnedLaws.{exec_owned_begins, exec_owned_within}
+use Rattle.cip_objects.specs.OwnRequests.{Asked, own_request}
+use Rattle.cip_owner.specs.Owned.{OwnedState, exec_owned, asks}
+use Rattle.cip_owner.specs.Queue.{QueueState}
+use Rattle.cip_owner.specs.QueueRuns.{after_steps, steps_of}
+use Rattle.cip_owner.proofs.OwnedLemmas.{queue as queue_changes}
+use Rattle.cip_owner.specs.OwnedLaws.{exec_owned_begins, exec_owned_within, asks_own}
 use Rattle.cip_message.specs.declared.path.Path.{Path}
 use Rattle.cip_message.specs.PathReading.{path_of}
 use Rattle.cip_message.specs.Request.{Request as Spelled, request_of}
 use Rattle.cip_ledger.specs.declared.status.Status.TheVariants as statuses
+use Rattle.cip_ledger.specs.declared.target.Standing.TheVariants as standings
 use Rattle.cip_ledger.specs.declared.request.TheConstants.{LEDGER}
 use Rattle.cip_ledger.specs.Requests.{LedgerRequest, ledger_request, request_by_path, request_by_parts, is_barred}
 use Rattle.cip_ledger.specs.Services.{Replies, Executes, Queues, Frees, KEPT_LIMIT, reply_to, refusal}
 use Rattle.cip_ledger.specs.Turn.{Fate, Passed, Served, fate, Turn, turn_by}
-use Rattle.cip_ledger.specs.Runs.{Request, node_of, node_after}
-use Rattle.cip_ledger.specs.Device.{Device, owned_standing, exec_device, run}
+use Rattle.cip_ledger.specs.Runs.{Request, node_of, node_after, router_after, StaysFinal}
+use Rattle.cip_ledger.specs.Device.{Device, standing_of_kind, standing_of_own, standing_in, owned_standing, exec_device, run}
 use Rattle.cip_ledger.proofs.Fates.{Means, fate-means}
 use Rattle.cip_ledger.proofs.Forms.{in-form, passes}
 
@@ -90,3 +95,29 @@ pub run-two : (device : Device) (first second : List Request) →
     (run device (first ++ second)).after ≡ (run (run device first).after second).after
 run-two device [] second = refl
 run-two device (request ∷ first) second = run-two (exec_device device request.0 request.1).after first second
+
+-- ---- what becomes of a command
+
+-- a request that the owner is asked about is executed at once
+pub asked-final : (w : OwnedState) (max_size : ℕ) (text : List ℕ) (asked : Asked) → asks w.objects max_size text ≡ Some asked →
+    owned_standing w text ≡ standings.Final
+asked-final w max_size text asked is = go w.queue
+  where
+    go : (queue : Option QueueState) → standing_in queue (own_request w.objects text) ≡ standings.Final
+    go None = refl
+    go (Some queue) =
+        let own = asks_own w.objects max_size text asked is in
+        ap (standing_of_own queue) own.0 ∙ ap (λ kind. standing_of_kind kind queue asked) own.1
+
+-- without a queue each request is executed at once, and no request makes one
+without-queue : (w : OwnedState) (requests : List Request) → w.queue ≡ None →
+    (router_after after answer w requests).queue ≡ None
+without-queue w [] none = none
+without-queue w (request ∷ requests) none =
+    without-queue (after w request.0 request.1) requests
+    (queue_changes w request.0 request.1 ∙ ap (option_map (λ q. after_steps q (steps_of w.objects request.1))) none)
+
+pub final-without_queue : (w : OwnedState) → w.queue ≡ None → StaysFinal after answer owned_standing w
+final-without_queue w none requests request =
+    ap (λ queue. standing_in queue (own_request (router_after after answer w requests).objects request))
+    (without-queue w requests none)

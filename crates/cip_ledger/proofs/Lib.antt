@@ -4,6 +4,7 @@ pub mod RequestLemmas
 pub mod Fates
 pub mod CompletedSlots
 pub mod Settled
+pub mod Finals
 pub mod Answered
 pub mod Executions
 pub mod Doubts

@@ -1,8 +1,8 @@
 -- Commands in doubt.
 --
 -- A device that starts from a kept state may not know whether an originator's last command was executed. Such a command
--- is never executed, and is answered by its state alone, until the owner settles it: gives the reply that it should have
--- had. A command that is pending is not in doubt: it is in the queue of the router.
+-- is never executed, and is answered by its state alone, until the owner settles it: gives the reply that it should
+-- have had. A command that is pending is not in doubt: it is in the queue of the router.
 use Rattle.std.specs.Prelude.{ℕ, ◌==◌, ◌&&◌, nat_lt, nat_le, not, Bool, false, is_some, if◌then◌else◌, Option, Some, None}
 use Rattle.std.specs.Prelude.{List, length, filter}
 use Rattle.cip_ledger.specs.Ledger.{SlotState, LedgerState, slot_of, with_slot}

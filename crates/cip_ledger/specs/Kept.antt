@@ -18,8 +18,8 @@ kept_in kept = record {
 abbrev pub with_life : ℕ → LedgerState → LedgerState
 with_life life ledger = record ledger { life = life }
 
--- a last command can be put back: a slot is free, its originator has none, its reply is not too long, and it is not both
--- done and pending
+-- a last command can be put back: a slot is free, its originator has none, its reply is not too long, and it is not
+-- both done and pending
 abbrev pub can_restore : SlotState → LedgerState → Bool
 can_restore slot ledger =
     nat_lt (length ledger.taken) ledger.slots && not (is_some (slot_of slot.originator ledger.taken))

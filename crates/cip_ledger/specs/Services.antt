@@ -65,8 +65,8 @@ within max_size answer =
     if nat_lt max_size (HEAD_SIZE + length answer.content) then refusal statuses.ReplyDataTooLarge else answer
 
 -- What the ledger does with a request: it only replies, executes a command and keeps its reply, executes a command that
--- the router puts into its queue and keeps its ticket, or frees the slot of an originator. The ledger alone decides between
--- all but the third (`action_of`); that the router queues a command is decided by the router (`Standings`).
+-- the router puts into its queue and keeps its ticket, or frees the slot of an originator. The ledger alone decides
+-- between all but the third (`action_of`); that the router queues a command is decided by the router (`Standings`).
 pub data Action : Type 0 where
   Replies : (answer : Answer) → Action
   Executes : (command : Command) → Action

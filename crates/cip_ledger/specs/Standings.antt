@@ -6,8 +6,8 @@ use Rattle.cip_ledger.specs.declared.target.Standing.TheVariants as standings
 use Rattle.cip_ledger.specs.Requests.{Command, is_barred}
 use Rattle.cip_ledger.specs.Services.{Action, Replies, Executes, Queues, Frees, refuses}
 
--- What the ledger does with a new command: it executes it, executes it and keeps the ticket under which the router queues
--- it, or refuses it.
+-- What the ledger does with a new command: it executes it, executes it and keeps the ticket under which the router
+-- queues it, or refuses it.
 abbrev pub by_standing : Standing → Command → Action
 by_standing standings.Final command = Executes command
 by_standing (standings.Pending ticket) command = Queues command ticket

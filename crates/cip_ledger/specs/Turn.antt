@@ -19,8 +19,8 @@ module _ {M : Type 0} (standing : M → List ℕ → Standing) where
   fate_of ledger router max_size (Some request) =
       Served request.service (at_router standing router (action_of ledger max_size request))
 
-  -- The fate of a request depends on the ledger, and on what the router makes of a command. Without a ledger every request
-  -- goes to the router.
+  -- The fate of a request depends on the ledger, and on what the router makes of a command. Without a ledger every
+  -- request goes to the router.
   abbrev pub fate : Option LedgerState → M → ℕ → List ℕ → Fate
   fate None router max_size text = Passed
   fate (Some ledger) router max_size text = fate_of ledger router max_size (ledger_request text)

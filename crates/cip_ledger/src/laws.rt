@@ -46,8 +46,8 @@ pub fn same_bytes<R: Target>()
     ensures { same_bytes_law R.after R.answer R.standing }
 {}
 
-/// From an empty ledger on, every success answer has the reply of the execution of its number, or says that the command is
-/// pending, which was executed too.
+/// From an empty ledger on, every success answer has the reply of the execution of its number, or says that the command
+/// is pending, which was executed too.
 pub fn reply_of_execution<R: Target>()
     ensures { of_execution_law R.after R.answer R.standing }
 {}
@@ -62,14 +62,14 @@ pub fn freed_by_its_number<R: Target>()
     ensures { frees_law R.after R.answer R.standing }
 {}
 
-/// A new command is executed, if a slot is its originator's or free, the longest reply fits the reply limit, and the router
-/// takes it.
+/// A new command is executed, if a slot is its originator's or free, the longest reply fits the reply limit, and the
+/// router takes it.
 pub fn new_is_executed<R: Target>()
     ensures { executes_law R.after R.answer R.standing }
 {}
 
-/// What becomes of a new command is what the router makes of its embedded request: it is executed and kept with its reply,
-/// executed and kept with the ticket under which the router queues it, or refused, and then nothing changes.
+/// What becomes of a new command is what the router makes of its embedded request: it is executed and kept with its
+/// reply, executed and kept with the ticket under which the router queues it, or refused, and then nothing changes.
 pub fn new_is_as_the_router_says<R: Target>()
     ensures { standing_law R.after R.answer R.standing }
 {}
@@ -90,8 +90,8 @@ pub fn once_over_all_lives<R: Target>()
     ensures { lives_law R.after R.answer R.standing }
 {}
 
-/// A number that an originator's slot has, whether its command is done, pending or in doubt, is never executed again: until
-/// the slot is freed, only greater numbers of that originator are.
+/// A number that an originator's slot has, whether its command is done, pending or in doubt, is never executed again:
+/// until the slot is freed, only greater numbers of that originator are.
 pub fn kept_numbers_are_not_executed<R: Target>()
     ensures { kept_law R.after R.answer R.standing }
 {}
@@ -131,8 +131,8 @@ pub fn a_pending_command_is_not_executed<R: Target>()
     ensures { pending_law R.after R.answer R.standing }
 {}
 
-/// Once a reply is given to the ticket of a pending command, the command is answered by this reply, and is not executed:
-/// nothing changes.
+/// Once a reply is given to the ticket of a pending command, the command is answered by this reply, and is not
+/// executed: nothing changes.
 pub fn completed_is_answered<R: Target>()
     ensures { completed_law R.after R.answer R.standing }
 {}
@@ -147,8 +147,8 @@ pub fn completing_keeps_numbers()
     ensures { completed_numbers_law }
 {}
 
-/// Every two success answers to a number have the same bytes, or the first says that the command is pending and the other
-/// one has the one result of the command, over every list of requests and of replies to tickets.
+/// Every two success answers to a number have the same bytes, or the first says that the command is pending and the
+/// other one has the one result of the command, over every list of requests and of replies to tickets.
 pub fn answers_never_go_back<R: Target>()
     ensures answers { never_back_law R.after R.answer R.standing }
     ensures done { done_law R }

@@ -5,6 +5,7 @@ ghost use Rattle.cip_ledger.specs.Kept.{kept_in, with_life, restored, IsLedger};
 ghost use Rattle.cip_ledger.specs.Ledger.{empty_ledger};
 ghost use Rattle.cip_ledger.specs.Requests as requests;
 ghost use Rattle.cip_ledger.specs.Doubt.{doubtful_in, command_name, can_settle, settled, can_doubt, doubted};
+ghost use Rattle.cip_ledger.specs.Doubt.{is_kept_reply};
 ghost use Rattle.cip_ledger.specs.Pending.{can_complete, completed};
 ghost use Rattle.cip_ledger.specs.Services.{do_command, KEPT_LIMIT};
 ghost use Rattle.cip_ledger.specs.Services as services;
@@ -18,8 +19,6 @@ ghost use Rattle.cip_ledger.specs.AttributeValue.{values_in};
 mod commands;
 mod executing;
 
-pub(crate) use commands::embedded_standing;
-
 use crate::attributes::{Attributes, class_value, write_single};
 use crate::doubt::DoubtfulCommand;
 use crate::reply::{DONE, HEAD_SIZE, IN_DOUBT, LONGEST_DONE, PENDING, answer, begin, size_fault};
@@ -31,6 +30,7 @@ use crate::status::Status;
 use crate::target::Target;
 use byteorder::{ByteOrder, LittleEndian};
 use cip_objects::{REPLY_LIMIT, ReplyBuf};
+pub(crate) use commands::embedded_standing;
 use std::alloc::{AllocError, Global};
 use std::marker::Model;
 
@@ -57,8 +57,8 @@ pub struct KeptCommand<'a> {
     pub ticket: Option<u32>,
 }
 
-/// The ledger of a device: for each originator the last command that was executed, and its reply or its ticket, or a command
-/// that is in doubt.
+/// The ledger of a device: for each originator the last command that was executed, and its reply or its ticket, or a
+/// command that is in doubt.
 ///
 /// A caller sees it as `LedgerState`: how many slots there are, the number of the device's life, and the taken slots.
 /// No call after `new` takes memory.
@@ -115,8 +115,8 @@ impl Ledger {
         is_new
     }
 
-    /// Settles a command in doubt: its kept reply is this one from now on, and a repeat of the command gets it. False if
-    /// this command is not in doubt, or if the reply does not have 4 to 480 bytes. Nothing has changed then.
+    /// Settles a command in doubt: its kept reply is this one from now on, and a repeat of the command gets it. False
+    /// if this command is not in doubt, or if the reply does not have 4 to 480 bytes. Nothing has changed then.
     ///
     /// `reply` is the whole reply that the embedded request should have had, with its head.
     ///
@@ -128,7 +128,7 @@ impl Ledger {
         ensures result { result ≡ can_settle self.old originator number reply.now }
         ensures state { self.new ≡ settled self.old originator number reply.now }
     {
-        if reply.len() < HEAD_SIZE || reply.len() > KEPT_LIMIT {
+        if !is_kept_reply(reply) {
             return false;
         }
         let index = self.position(originator);
@@ -142,9 +142,9 @@ impl Ledger {
         is_doubtful
     }
 
-    /// Keeps the reply to a pending command: it is done with this reply from now on, and a repeat of the command gets it.
-    /// `ticket` is the one that the router gave the command. False if no command is pending with this ticket, or if the
-    /// reply does not have 4 to 480 bytes. Nothing has changed then.
+    /// Keeps the reply to a pending command: it is done with this reply from now on, and a repeat of the command gets
+    /// it. `ticket` is the one that the router gave the command. False if no command is pending with this ticket, or if
+    /// the reply does not have 4 to 480 bytes. Nothing has changed then.
     ///
     /// `reply` is the whole reply to the embedded request, with its head.
     ///
@@ -156,7 +156,7 @@ impl Ledger {
         ensures result { result ≡ can_complete self.old ticket reply.now }
         ensures state { self.new ≡ completed self.old ticket reply.now }
     {
-        if reply.len() < HEAD_SIZE || reply.len() > KEPT_LIMIT {
+        if !is_kept_reply(reply) {
             return false;
         }
         self.slots.complete(ticket, reply)
@@ -201,7 +201,8 @@ impl Ledger {
         usize::from(self.slots.taken())
     }
 
-    /// The last command in a taken slot, by the slot's index in the order in which they were taken. `None` past the last.
+    /// The last command in a taken slot, by the slot's index in the order in which they were taken. `None` past the
+    /// last.
     pub fn slot(&self, index: usize) -> Option<KeptCommand<'_>>
         ensures kept { option_map kept_in result ≡ slice_get self.now.taken index }
         ensures short { IfSome result (λ kept. IfSome kept.reply (λ reply. length reply.now ≤ KEPT_LIMIT)) }
@@ -217,8 +218,9 @@ impl Ledger {
         }
     }
 
-    /// Puts the last command of an originator into a free slot, as it was kept, and returns whether it did. If no slot is
-    /// free, the originator has one, the reply has over 480 bytes, or there are both a reply and a ticket, nothing changes.
+    /// Puts the last command of an originator into a free slot, as it was kept, and returns whether it did. If no slot
+    /// is free, the originator has one, the reply has over 480 bytes, or there are both a reply and a ticket, nothing
+    /// changes.
     ///
     /// With this call a device starts from what was kept of its ledger, before it answers any peer.
     ///
@@ -504,6 +506,13 @@ fn serve_class(request: LedgerRequest<'_>, max_size: usize, reply: &mut ReplyBuf
         max_size,
         reply,
     );
+}
+
+/// Whether a reply has a head at least, and is no longer than one that a slot keeps.
+fn is_kept_reply(reply: &[u8]) -> bool
+    ensures { result ≡ is_kept_reply reply.now }
+{
+    HEAD_SIZE <= reply.len() && reply.len() <= KEPT_LIMIT
 }
 
 /// The state of the last command of a slot, and what is kept of the reply to it.

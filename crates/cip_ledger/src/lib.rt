@@ -9,8 +9,8 @@
 //! A router that has a queue puts some commands into it ([`Standing`]). Such a command is pending: the ledger keeps its
 //! ticket, answers that it is pending, and answers its reply once that is given to the ticket (`Ledger::complete`).
 //!
-//! A [`LedgerRouter`] is a ledger before any router that keeps the laws of `cip_objects::Router` and is a [`Target`], and
-//! a router itself. Only `Ledger::new` allocates: 64 slots take some 32 KB.
+//! A [`LedgerRouter`] is a ledger before any router that keeps the laws of `cip_objects::Router` and is a [`Target`],
+//! and a router itself. Only `Ledger::new` allocates: 64 slots take some 32 KB.
 //!
 //! ```
 //! let mut device = LedgerRouter {
@@ -24,6 +24,7 @@
 
 mod attributes;
 mod doubt;
+mod finishing;
 pub mod laws;
 mod ledger;
 mod reply;

@@ -57,8 +57,9 @@ impl<R: Target> LedgerRouter<R> {
         Some((command.request, KEPT_LIMIT))
     }
 
-    /// The command that would be executed with a final reply if a request were executed now. `None` if the request is not
-    /// Do_Once, or if its command would be refused, put into the queue of the router, or answered by what its slot keeps.
+    /// The command that would be executed with a final reply if a request were executed now. `None` if the request is
+    /// not Do_Once, or if its command would be refused, put into the queue of the router, or answered by what its slot
+    /// keeps.
     ///
     /// ```
     /// let command = device.executing(request, 504);

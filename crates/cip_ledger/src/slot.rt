@@ -12,8 +12,8 @@ use std::marker::Model;
 /// The most bytes of a kept reply, and so the reply limit of an embedded request.
 pub const KEPT_LIMIT: usize = 480;
 
-/// An originator's slot: the last of its commands, and the reply to it, unless the command is pending or in doubt. A pending
-/// one has a ticket.
+/// An originator's slot: the last of its commands, and the reply to it, unless the command is pending or in doubt. A
+/// pending one has a ticket.
 #[derive(Drop)]
 pub(crate) struct Slot {
     originator: u64,
@@ -91,7 +91,10 @@ impl Slot {
     pub(crate) fn ticket(&self) -> Option<u32>
         ensures { result ≡ self.now.ticket }
     {
-        if self.is_done { None } else { self.ticket }
+        if !self.is_done {
+            return self.ticket;
+        }
+        None
     }
 
     /// The reply to the last command, `None` if that is pending or in doubt.
@@ -148,8 +151,7 @@ impl Slot {
         if own != ticket {
             return false;
         }
-        self.is_done = true;
-        keep_reply(&mut self.reply, reply);
+        self.keep(self.number, reply);
         true
     }
 }

@@ -155,8 +155,8 @@ impl Slots {
         self.taken[index].kept()
     }
 
-    /// Keeps the last command of an originator without a reply, pending with this ticket or in doubt, in the slot that was
-    /// found at this index or in a free one.
+    /// Keeps the last command of an originator without a reply, pending with this ticket or in doubt, in the slot that
+    /// was found at this index or in a free one.
     pub(crate) fn await_reply(
         &mut self,
         index: Option<usize>,

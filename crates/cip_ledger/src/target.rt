@@ -1,10 +1,13 @@
 //! What the ledger asks the router behind it before it executes a command.
 ghost use Rattle.std.specs.Prelude.{◌≡◌, ◌≤◌, ℕ, List, length};
 ghost use Rattle.cip_ledger.specs.declared.target.Standing.{Standing as CommandStanding};
-ghost use Rattle.cip_ledger.specs.Device.{owned_standing};
+ghost use Rattle.std.specs.Option.{option_map};
+ghost use Rattle.cip_bytes.specs.Reading.{map_ok};
+ghost use Rattle.cip_objects.specs.OwnRequests.{asked_in};
+ghost use Rattle.cip_ledger.specs.Device.{owned_standing, standing_of_own};
 
-use cip_objects::Router;
-use cip_owner::OwnedObjects;
+use cip_objects::{Refusal, Router, ServiceKind};
+use cip_owner::{OwnRequest, OwnedObjects, Queue};
 
 /// What becomes of a command that the router executes.
 #[derive(Clone, Copy, Debug, PartialEq, Eq)]
@@ -19,8 +22,8 @@ pub enum Standing {
 
 /// A router that a ledger can be put before: it says what would become of a command.
 ///
-/// A command is a request that Do_Once embeds. The ledger asks before it executes one, and keeps its reply or its ticket,
-/// or refuses it.
+/// A command is a request that Do_Once embeds. The ledger asks before it executes one, and keeps its reply or its
+/// ticket, or refuses it.
 ///
 /// ```
 /// match router.standing(embedded) {
@@ -42,9 +45,29 @@ pub trait Target: Router {
 impl Target for OwnedObjects {
     ghost standing = { owned_standing };
 
-    /// Every command is executed at once.
+    /// A request of a queued service is put into the queue, and every other one is executed at once. Allocates nothing.
     #[inline(always)]
-    fn standing(&self, _request: &[u8]) -> Standing {
-        Standing::Final
+    fn standing(&self, request: &[u8]) -> Standing {
+        // Most devices have no queue, and then this is all.
+        match &self.queue {
+            Some(queue) => standing_of_own(queue, self.objects.own_request(request)),
+            None => Standing::Final,
+        }
+    }
+}
+
+/// What would become of a request to the owner.
+fn standing_of_own(queue: &Queue, own: Option<Result<OwnRequest<'_>, Refusal>>) -> Standing
+    ensures { result ≡ standing_of_own queue.now (option_map (map_ok asked_in) own.entry) }
+{
+    let Some(Ok(own)) = own else {
+        return Standing::Final;
+    };
+    match own.kind {
+        ServiceKind::Asked | ServiceKind::Result => Standing::Final,
+        ServiceKind::Queued => match queue.next_ticket(own) {
+            Some(ticket) => Standing::Pending(ticket),
+            None => Standing::Refused,
+        },
     }
 }

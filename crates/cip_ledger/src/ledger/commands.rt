@@ -131,16 +131,18 @@ impl Ledger {
     }
 }
 
-/// What the router makes of a command that embeds this request. The reply to a request that goes to the Connection Manager
-/// or to the ledger is final, as that does not reach the router.
+/// What the router makes of a command that embeds this request. The reply to a request that goes to the Connection
+/// Manager or to the ledger is final, as that does not reach the router.
 pub(crate) fn embedded_standing<R: Target>(router: &R, request: &[u8]) -> Standing
     requires { 2 ≤ length request.now }
     ensures { result ≡ embedded_standing R.standing router.now request.now }
 {
-    if is_barred(request) {
-        return Standing::Final;
+    let reaches = !is_barred(request);
+    if reaches {
+        router.standing(request)
+    } else {
+        Standing::Final
     }
-    router.standing(request)
 }
 
 /// Executes an embedded request, unless it goes to the Connection Manager or to the ledger.
