@@ -212,7 +212,9 @@ kept-short : (service : ℕ) (command : QueuedCommand) (reply : Reply) → can_b
     → is_kept_reply (finished_text service reply) ≡ true
 kept-short service command reply can =
     let short : length reply.content ≤ 476 = (reply_is command reply can).short in
-    and_from _ _ (le-leb _ _ (omega arith)) (le-leb _ _ (omega (arith, short)))
+    let least : 4 ≤ length (finished_text service reply) = omega arith in
+    let most : length (finished_text service reply) ≤ 480 = omega (arith, short) in
+    and_from _ _ (le-leb _ _ least) (le-leb _ _ most)
 
 -- A slot that is pending after a reply was given to another ticket was so before.
 record WasPending (ticket given : ℕ) (slot : SlotState) (found : Option SlotState) : Type 0 where

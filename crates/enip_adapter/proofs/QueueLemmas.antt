@@ -87,18 +87,16 @@ pub handed-over : (a : AdapterState) (calls : List Call) (before : QueueState) �
 handed-over a calls before is has =
     let steps : List QueueStep = queue_steps_of_calls a calls in
     let row = numbers before steps in
-    let results = once before steps has in (
+    let done = once before steps has in (
       after_steps before steps,
-      (
-        calls-queue a calls ∙ ap (run steps) is,
-        record {
-          tickets = row.0;
-          next = row.1;
-          waiting = waiting before steps has;
-          results = λ few. results_kept before steps few;
-          once = results.0;
-          own = results.1;
-          goes_on = tickets.1 before steps has;
-        },
-      ),
+      calls-queue a calls ∙ ap (run steps) is,
+      record {
+        tickets = row.0;
+        next = row.1;
+        waiting = waiting before steps has;
+        results = λ few. results_kept before steps few;
+        once = done.0;
+        own = done.1;
+        goes_on = tickets.1 before steps has;
+      },
     )

@@ -301,7 +301,7 @@ asked-by-fate device request (Served service (Executes command)) means r =
     absurd (not-executed request means.asked command r means.asked_is means.means.given_is)
 asked-by-fate device request (Served service (Queues command ticket)) means r =
     absurd (not-executed request means.asked command r means.asked_is means.means.given_is)
-by-fate device request (Served service (Frees originator)) means r = refl
+asked-by-fate device request (Served service (Frees originator)) means r = refl
 
 pub nothing-asked : (device : Device) (max_size : ℕ) (request : List ℕ) → is_change request ≡ false
     → asks_by_step device (Requested (max_size, request)) ≡ []
