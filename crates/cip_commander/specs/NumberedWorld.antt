@@ -109,63 +109,63 @@ abbrev pub world_back : NumberedWorld → Option (ℕ × Said) → NumberedWorld
 world_back world None = world
 world_back world (Some said) = if awaits world.commander said.0 then said_of said.1 world else world
 
-module _ {M : Type 0} (after : M → ℕ → List ℕ → M) (answer : M → ℕ → List ℕ → List ℕ) (standing : M → List ℕ → Standing)
-  where
-    abbrev pub turn_on : Device M → ℕ → List ℕ → Turn M
-    turn_on device max_size request = turn after answer standing (Some device.ledger) device.router max_size request
+module _ {M : Type 0} (after : M → ℕ → List ℕ → M) (answer : M → ℕ → List ℕ → List ℕ)
+    (standing : M → List ℕ → Standing) where
+  abbrev pub turn_on : Device M → ℕ → List ℕ → Turn M
+  turn_on device max_size request = turn after answer standing (Some device.ledger) device.router max_size request
 
-    -- the device once an entry was executed
-    abbrev pub device_step : ℕ → Device M → Entry → Device M
-    device_step originator device (Own number request) = record {
-      ledger = with_blank originator device.ledger;
-      router = after_embedded after answer device.router request;
-      last = Some (number, embedded_reply after answer device.router request);
-    }
-    device_step originator device (Another max_size request) = record device {
-      ledger = unwrap_or (turn_on device max_size request).ledger device.ledger;
-      router = (turn_on device max_size request).router;
-    }
+  -- the device once an entry was executed
+  abbrev pub device_step : ℕ → Device M → Entry → Device M
+  device_step originator device (Own number request) = record {
+    ledger = with_blank originator device.ledger;
+    router = after_embedded after answer device.router request;
+    last = Some (number, embedded_reply after answer device.router request);
+  }
+  device_step originator device (Another max_size request) = record device {
+    ledger = unwrap_or (turn_on device max_size request).ledger device.ledger;
+    router = (turn_on device max_size request).router;
+  }
 
-    -- the device after a log, from left to right
-    abbrev pub device_after : Opening M → List Entry → Device M
-    device_after opening log = fold (device_step opening.commander.originator) (device_at opening) log
+  -- the device after a log, from left to right
+  abbrev pub device_after : Opening M → List Entry → Device M
+  device_after opening log = fold (device_step opening.commander.originator) (device_at opening) log
 
-    abbrev pub arrived : Arrival → NumberedWorld → Device M → ℕ → List ℕ → NumberedWorld
-    arrived Appended world device number request = record world {
-      log = world.log ++ Own number request ∷ [];
-      back = world.back ++ (number, IsDone (embedded_reply after answer device.router request)) ∷ [];
-    }
-    arrived (Answered said) world device number request =
-        record world { back = world.back ++ (number, said) ∷ [] }
+  abbrev pub arrived : Arrival → NumberedWorld → Device M → ℕ → List ℕ → NumberedWorld
+  arrived Appended world device number request = record world {
+    log = world.log ++ Own number request ∷ [];
+    back = world.back ++ (number, IsDone (embedded_reply after answer device.router request)) ∷ [];
+  }
+  arrived (Answered said) world device number request =
+      record world { back = world.back ++ (number, said) ∷ [] }
 
-    abbrev pub world_reach : Opening M → NumberedWorld → ℕ → Option (ℕ × List ℕ) → NumberedWorld
-    world_reach opening world max_size None = world
-    world_reach opening world max_size (Some message) =
-        let device = device_after opening world.log in
-        arrived (arrival opening.commander.life device max_size message.0) world device message.0 message.1
+  abbrev pub world_reach : Opening M → NumberedWorld → ℕ → Option (ℕ × List ℕ) → NumberedWorld
+  world_reach opening world max_size None = world
+  world_reach opening world max_size (Some message) =
+      let device = device_after opening world.log in
+      arrived (arrival opening.commander.life device max_size message.0) world device message.0 message.1
 
-    abbrev pub world_step : Opening M → NumberedWorld → Event → NumberedWorld
-    world_step opening world (NewCommand request) = record world {
-      commander = after_command world.commander request;
-      given = world.given ++ gives world.commander request (command_refusal world.commander request);
-    }
-    world_step opening world Abandon = record world { commander = abandoned world.commander }
-    world_step opening world Send =
-        record world { sent = world.sent ++ sends world.commander world.commander.pending }
-    world_step opening world (Reach position max_size) =
-        world_reach opening world max_size (slice_get world.sent position)
-    world_step opening world (Back position) = world_back world (slice_get world.back position)
-    world_step opening world (Other max_size request) =
-        record world { log = world.log ++ Another max_size request ∷ [] }
+  abbrev pub world_step : Opening M → NumberedWorld → Event → NumberedWorld
+  world_step opening world (NewCommand request) = record world {
+    commander = after_command world.commander request;
+    given = world.given ++ gives world.commander request (command_refusal world.commander request);
+  }
+  world_step opening world Abandon = record world { commander = abandoned world.commander }
+  world_step opening world Send =
+      record world { sent = world.sent ++ sends world.commander world.commander.pending }
+  world_step opening world (Reach position max_size) =
+      world_reach opening world max_size (slice_get world.sent position)
+  world_step opening world (Back position) = world_back world (slice_get world.back position)
+  world_step opening world (Other max_size request) =
+      record world { log = world.log ++ Another max_size request ∷ [] }
 
-    -- the numbered world after these events
-    abbrev pub world_after : Opening M → List Event → NumberedWorld
-    world_after opening events = fold (world_step opening) (world_at opening) events
+  -- the numbered world after these events
+  abbrev pub world_after : Opening M → List Event → NumberedWorld
+  world_after opening events = fold (world_step opening) (world_at opening) events
 
-    abbrev pub seen_of_world : Opening M → NumberedWorld → Seen M
-    seen_of_world opening world = record {
-      machine = (device_after opening world.log).router;
-      commander = world.commander;
-      back = map answer_in world.back;
-      accepted = world.accepted;
-    }
+  abbrev pub seen_of_world : Opening M → NumberedWorld → Seen M
+  seen_of_world opening world = record {
+    machine = (device_after opening world.log).router;
+    commander = world.commander;
+    back = map answer_in world.back;
+    accepted = world.accepted;
+  }

@@ -115,24 +115,24 @@ seen_of_ends ends = record {
   accepted = ends.accepted;
 }
 
-module _ {M : Type 0} (after : M → ℕ → List ℕ → M) (answer : M → ℕ → List ℕ → List ℕ) (standing : M → List ℕ → Standing)
-  where
-    abbrev pub ends_reach : BothEnds M → ℕ → Option (ℕ × List ℕ) → BothEnds M
-    ends_reach ends max_size None = ends
-    ends_reach ends max_size (Some message) = record ends {
-      device = next after answer standing ends.device (max_size, message.1);
-      back = ends.back ++ (message.0, answer_to after answer standing ends.device (max_size, message.1)) ∷ [];
-    }
+module _ {M : Type 0} (after : M → ℕ → List ℕ → M) (answer : M → ℕ → List ℕ → List ℕ)
+    (standing : M → List ℕ → Standing) where
+  abbrev pub ends_reach : BothEnds M → ℕ → Option (ℕ × List ℕ) → BothEnds M
+  ends_reach ends max_size None = ends
+  ends_reach ends max_size (Some message) = record ends {
+    device = next after answer standing ends.device (max_size, message.1);
+    back = ends.back ++ (message.0, answer_to after answer standing ends.device (max_size, message.1)) ∷ [];
+  }
 
-    abbrev pub ends_step : BothEnds M → Event → BothEnds M
-    ends_step ends (NewCommand request) = record ends { commander = after_command ends.commander request }
-    ends_step ends Abandon = record ends { commander = abandoned ends.commander }
-    ends_step ends Send = record ends { sent = ends.sent ++ sends ends.commander (pending_message ends.commander) }
-    ends_step ends (Reach position max_size) = ends_reach ends max_size (slice_get ends.sent position)
-    ends_step ends (Back position) = ends_back ends (slice_get ends.back position)
-    ends_step ends (Other max_size request) =
-        record ends { device = next after answer standing ends.device (max_size, request) }
+  abbrev pub ends_step : BothEnds M → Event → BothEnds M
+  ends_step ends (NewCommand request) = record ends { commander = after_command ends.commander request }
+  ends_step ends Abandon = record ends { commander = abandoned ends.commander }
+  ends_step ends Send = record ends { sent = ends.sent ++ sends ends.commander (pending_message ends.commander) }
+  ends_step ends (Reach position max_size) = ends_reach ends max_size (slice_get ends.sent position)
+  ends_step ends (Back position) = ends_back ends (slice_get ends.back position)
+  ends_step ends (Other max_size request) =
+      record ends { device = next after answer standing ends.device (max_size, request) }
 
-    -- both ends after these events
-    abbrev pub ends_after : Opening M → List Event → BothEnds M
-    ends_after opening events = fold ends_step (ends_at opening) events
+  -- both ends after these events
+  abbrev pub ends_after : Opening M → List Event → BothEnds M
+  ends_after opening events = fold ends_step (ends_at opening) events

@@ -219,40 +219,40 @@ module _ {M : Type 0} (after : M → ℕ → List ℕ → M) (answer : M → ℕ
     older-by (Served service (Queues executed ticket)) means status = absurd (omega (arith, status))
     older-by (Served service (Frees freed)) means status = absurd (omega (arith, status))
 
-module _ {M : Type 0} (after : M → ℕ → List ℕ → M) (answer : M → ℕ → List ℕ → List ℕ) (standing : M → List ℕ → Standing)
-  where
-    pub settles : (node : LedgerRouter M) (request : Request) (originator number : ℕ) →
-        Succeeds after answer standing node request originator number →
-        Settles after answer (fate standing node.ledger node.router request.0 request.1) node request originator number
-    settles node request originator number is =
-        settles-by after answer node request originator number is.has_ledger is.command is.given is.originator_is is.number_is
-        (fate standing node.ledger node.router request.0 request.1) (fate-means standing node.ledger node.router request) is.status_is
+module _ {M : Type 0} (after : M → ℕ → List ℕ → M) (answer : M → ℕ → List ℕ → List ℕ)
+    (standing : M → List ℕ → Standing) where
+  pub settles : (node : LedgerRouter M) (request : Request) (originator number : ℕ) →
+      Succeeds after answer standing node request originator number →
+      Settles after answer (fate standing node.ledger node.router request.0 request.1) node request originator number
+  settles node request originator number is =
+      settles-by after answer node request originator number is.has_ledger is.command is.given is.originator_is is.number_is
+      (fate standing node.ledger node.router request.0 request.1) (fate-means standing node.ledger node.router request) is.status_is
 
-    -- only greater numbers are executed once a number was answered with success, or as too old
-    pub never-again : (node : LedgerRouter M) (request : Request) (later : List Request) (originator number status : ℕ) →
-        IsAnswered after answer standing node request originator number status → (status ≡ 0) ⊎ (status ≡ 0x0c) →
-        UntilFreed originator (λ command. number < command.number)
-        (journal after answer standing (next after answer standing node request) later)
-    never-again node request later originator number status is (inl success) =
-        let s = settles-by after answer node request originator number is.has_ledger is.command is.given is.originator_is is.number_is
-        (fate standing node.ledger node.router request.0 request.1) (fate-means standing node.ledger node.router request) (is.status_is ∙ success) in
-        journal-above after answer standing later (next after answer standing node request) originator number s.content s.settled
-    never-again node request later originator number status is (inr older) =
-        journal-above after answer standing later (next after answer standing node request) originator number []
-        (older-by after answer node request originator number is.has_ledger is.command is.given is.originator_is is.number_is
-        (fate standing node.ledger node.router request.0 request.1) (fate-means standing node.ledger node.router request) (is.status_is ∙ older))
+  -- only greater numbers are executed once a number was answered with success, or as too old
+  pub never-again : (node : LedgerRouter M) (request : Request) (later : List Request) (originator number status : ℕ) →
+      IsAnswered after answer standing node request originator number status → (status ≡ 0) ⊎ (status ≡ 0x0c) →
+      UntilFreed originator (λ command. number < command.number)
+      (journal after answer standing (next after answer standing node request) later)
+  never-again node request later originator number status is (inl success) =
+      let s = settles-by after answer node request originator number is.has_ledger is.command is.given is.originator_is is.number_is
+      (fate standing node.ledger node.router request.0 request.1) (fate-means standing node.ledger node.router request) (is.status_is ∙ success) in
+      journal-above after answer standing later (next after answer standing node request) originator number s.content s.settled
+  never-again node request later originator number status is (inr older) =
+      journal-above after answer standing later (next after answer standing node request) originator number []
+      (older-by after answer node request originator number is.has_ledger is.command is.given is.originator_is is.number_is
+      (fate standing node.ledger node.router request.0 request.1) (fate-means standing node.ledger node.router request) (is.status_is ∙ older))
 
-    -- two success answers to a number have the same bytes
-    pub same-bytes : (node : LedgerRouter M) (first again : Request) (between : List Request) (originator number : ℕ) →
-        Succeeds after answer standing node first originator number →
-        Succeeds after answer standing (node_after after answer standing node (first ∷ between)) again originator number →
-        IsNotFreed originator (journal after answer standing (next after answer standing node first) between) →
-        answer_to after answer standing (node_after after answer standing node (first ∷ between)) again ≡ answer_to after answer standing node first
-    same-bytes node first again between originator number is again_is kept =
-        let s = settles node first originator number is in
-        let last = node_after after answer standing node (first ∷ between) in
-        again-by after answer last again originator number again_is.has_ledger again_is.command again_is.given again_is.originator_is again_is.number_is
-        (fate standing last.ledger last.router again.0 again.1) s.content (fate-means standing last.ledger last.router again)
-        (settled-run after answer standing between (next after answer standing node first) originator number s.content s.settled kept)
-        again_is.status_is
-        ∙ sym s.answered
+  -- two success answers to a number have the same bytes
+  pub same-bytes : (node : LedgerRouter M) (first again : Request) (between : List Request) (originator number : ℕ) →
+      Succeeds after answer standing node first originator number →
+      Succeeds after answer standing (node_after after answer standing node (first ∷ between)) again originator number →
+      IsNotFreed originator (journal after answer standing (next after answer standing node first) between) →
+      answer_to after answer standing (node_after after answer standing node (first ∷ between)) again ≡ answer_to after answer standing node first
+  same-bytes node first again between originator number is again_is kept =
+      let s = settles node first originator number is in
+      let last = node_after after answer standing node (first ∷ between) in
+      again-by after answer last again originator number again_is.has_ledger again_is.command again_is.given again_is.originator_is again_is.number_is
+      (fate standing last.ledger last.router again.0 again.1) s.content (fate-means standing last.ledger last.router again)
+      (settled-run after answer standing between (next after answer standing node first) originator number s.content s.settled kept)
+      again_is.status_is
+      ∙ sym s.answered

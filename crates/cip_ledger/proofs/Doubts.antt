@@ -147,48 +147,48 @@ settled-stays ledger by given reply originator number content is =
 
 -- ---- the laws
 
-module _ {M : Type 0} (after : M → ℕ → List ℕ → M) (answer : M → ℕ → List ℕ → List ℕ) (standing : M → List ℕ → Standing)
-  where
-    pub repeat-at : (l : Option LedgerState) (ledger : LedgerState) (router : M) (request : Request) (command : Command) (slot : SlotState) →
-        l ≡ Some ledger → command_given request ≡ Some command → command.life ≡ ledger.life →
-        slot_of command.originator ledger.taken ≡ Some slot → slot.number ≡ command.number →
-        HEAD_SIZE + length (last_content slot) ≤ request.0 →
-        turn_by after answer (fate standing l router request.0 request.1) l router request.0 request.1
-        ≡ turn_of l router (reply_to services.DO_ONCE (success (last_content slot)))
-    repeat-at l ledger router request command slot is given life found same fits =
-        ap (λ o. turn_by after answer (fate standing o router request.0 request.1) l router request.0 request.1) is
-        ∙ ap (λ f. turn_by after answer f l router request.0 request.1)
-        (repeat_asked standing ledger router request.0 (ledger_request request.1) command slot given life found same fits)
+module _ {M : Type 0} (after : M → ℕ → List ℕ → M) (answer : M → ℕ → List ℕ → List ℕ)
+    (standing : M → List ℕ → Standing) where
+  pub repeat-at : (l : Option LedgerState) (ledger : LedgerState) (router : M) (request : Request) (command : Command) (slot : SlotState) →
+      l ≡ Some ledger → command_given request ≡ Some command → command.life ≡ ledger.life →
+      slot_of command.originator ledger.taken ≡ Some slot → slot.number ≡ command.number →
+      HEAD_SIZE + length (last_content slot) ≤ request.0 →
+      turn_by after answer (fate standing l router request.0 request.1) l router request.0 request.1
+      ≡ turn_of l router (reply_to services.DO_ONCE (success (last_content slot)))
+  repeat-at l ledger router request command slot is given life found same fits =
+      ap (λ o. turn_by after answer (fate standing o router request.0 request.1) l router request.0 request.1) is
+      ∙ ap (λ f. turn_by after answer f l router request.0 request.1)
+      (repeat_asked standing ledger router request.0 (ledger_request request.1) command slot given life found same fits)
 
-    -- what a slot has is never executed
-    pub kept-above : (node : LedgerRouter M) (requests : List Request) (originator : ℕ) (slot : SlotState) →
-        slot_in originator node.ledger ≡ Some slot →
-        UntilFreed originator (λ command. slot.number < command.number) (journal after answer standing node requests)
-    kept-above node requests originator slot found =
-        journal-above after answer standing requests node originator slot.number (last_content slot)
-        (subst (Settled slot.number (last_content slot)) (sym found) (inl (refl, refl)))
+  -- what a slot has is never executed
+  pub kept-above : (node : LedgerRouter M) (requests : List Request) (originator : ℕ) (slot : SlotState) →
+      slot_in originator node.ledger ≡ Some slot →
+      UntilFreed originator (λ command. slot.number < command.number) (journal after answer standing node requests)
+  kept-above node requests originator slot found =
+      journal-above after answer standing requests node originator slot.number (last_content slot)
+      (subst (Settled slot.number (last_content slot)) (sym found) (inl (refl, refl)))
 
-    pub doubt-answered : (node : LedgerRouter M) (ledger : LedgerState) (request : Request) (command : Command) →
-        node.ledger ≡ Some ledger → IsGiven ledger request command (HEAD_SIZE + 1) →
-        is_in_doubt ledger command.originator command.number ≡ true →
-        turn_at after answer standing node request
-        ≡ turn_of node.ledger node.router (reply_to services.DO_ONCE (success (IN_DOUBT ∷ [])))
-    doubt-answered node ledger request command is given doubt =
-        let parts = doubtful-slot command.number (slot_of command.originator ledger.taken) doubt in
-        let fits : HEAD_SIZE + length (last_content parts.0) ≤ request.0
-        = subst (λ content. HEAD_SIZE + length content ≤ request.0) (sym parts.3) given.fits in
-        repeat-at node.ledger ledger node.router request command parts.0 is given.given given.life parts.1 parts.2 fits
-        ∙ ap (λ content. turn_of node.ledger node.router (reply_to services.DO_ONCE (success content))) parts.3
+  pub doubt-answered : (node : LedgerRouter M) (ledger : LedgerState) (request : Request) (command : Command) →
+      node.ledger ≡ Some ledger → IsGiven ledger request command (HEAD_SIZE + 1) →
+      is_in_doubt ledger command.originator command.number ≡ true →
+      turn_at after answer standing node request
+      ≡ turn_of node.ledger node.router (reply_to services.DO_ONCE (success (IN_DOUBT ∷ [])))
+  doubt-answered node ledger request command is given doubt =
+      let parts = doubtful-slot command.number (slot_of command.originator ledger.taken) doubt in
+      let fits : HEAD_SIZE + length (last_content parts.0) ≤ request.0
+      = subst (λ content. HEAD_SIZE + length content ≤ request.0) (sym parts.3) given.fits in
+      repeat-at node.ledger ledger node.router request command parts.0 is given.given given.life parts.1 parts.2 fits
+      ∙ ap (λ content. turn_of node.ledger node.router (reply_to services.DO_ONCE (success content))) parts.3
 
-    pub settled-answered : (node : LedgerRouter M) (ledger : LedgerState) (request : Request) (command : Command) (reply : List ℕ) →
-        node.ledger ≡ Some (settled ledger command.originator command.number reply) →
-        IsGiven ledger request command (HEAD_SIZE + 1 + length reply) →
-        can_settle ledger command.originator command.number reply ≡ true →
-        turn_at after answer standing node request
-        ≡ turn_of node.ledger node.router (reply_to services.DO_ONCE (success (DONE ∷ reply)))
-    settled-answered node ledger request command reply is given can =
-        let slot = slot_settled command.originator command.number reply in
-        let fits = given.fits in
-        repeat-at node.ledger (with_last command.originator command.number (Some reply) ledger) node.router request command slot
-        (is ∙ ap (λ l. Some l) (settled-last ledger command.originator command.number reply can))
-        given.given given.life (slot_of-with_slot ledger.taken slot) refl (omega (arith, fits))
+  pub settled-answered : (node : LedgerRouter M) (ledger : LedgerState) (request : Request) (command : Command) (reply : List ℕ) →
+      node.ledger ≡ Some (settled ledger command.originator command.number reply) →
+      IsGiven ledger request command (HEAD_SIZE + 1 + length reply) →
+      can_settle ledger command.originator command.number reply ≡ true →
+      turn_at after answer standing node request
+      ≡ turn_of node.ledger node.router (reply_to services.DO_ONCE (success (DONE ∷ reply)))
+  settled-answered node ledger request command reply is given can =
+      let slot = slot_settled command.originator command.number reply in
+      let fits = given.fits in
+      repeat-at node.ledger (with_last command.originator command.number (Some reply) ledger) node.router request command slot
+      (is ∙ ap (λ l. Some l) (settled-last ledger command.originator command.number reply can))
+      given.given given.life (slot_of-with_slot ledger.taken slot) refl (omega (arith, fits))

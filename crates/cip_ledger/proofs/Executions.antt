@@ -155,82 +155,82 @@ module _ {M : Type 0} (after : M → ℕ → List ℕ → M) (answer : M → ℕ
   of_content service status content reply once zero (inr is) =
       inr (spelled service services.DO_ONCE status content (PENDING ∷ []) once zero is)
 
-module _ {M : Type 0} (after : M → ℕ → List ℕ → M) (answer : M → ℕ → List ℕ → List ℕ) (standing : M → List ℕ → Standing)
-  where
-    module _ (node : LedgerRouter M) (request : Request) (originator number : ℕ)
-        (is : Succeeds after answer standing node request originator number) where
-      new-done : (past : List Event) (executed : Command) (reply : List ℕ) → executed ≡ is.command →
-          IsDone originator number reply (past ++ Executed executed reply ∷ [])
-      new-done past executed reply same =
-          done-right past (Executed executed reply ∷ []) originator number reply
-          (inl (ap (λ (c : Command). c.originator) same ∙ is.originator_is, ap (λ (c : Command). c.number) same ∙ is.number_is, refl, tt))
+module _ {M : Type 0} (after : M → ℕ → List ℕ → M) (answer : M → ℕ → List ℕ → List ℕ)
+    (standing : M → List ℕ → Standing) where
+  module _ (node : LedgerRouter M) (request : Request) (originator number : ℕ)
+      (is : Succeeds after answer standing node request originator number) where
+    new-done : (past : List Event) (executed : Command) (reply : List ℕ) → executed ≡ is.command →
+        IsDone originator number reply (past ++ Executed executed reply ∷ [])
+    new-done past executed reply same =
+        done-right past (Executed executed reply ∷ []) originator number reply
+        (inl (ap (λ (c : Command). c.originator) same ∙ is.originator_is, ap (λ (c : Command). c.number) same ∙ is.number_is, refl, tt))
 
-      last-by : (f : Fate) (past : List Event) → Means node.ledger request f → Covered past node.ledger →
-          general_status (turn_by after answer f node.ledger node.router request.0 request.1).answer ≡ 0 →
-          IsAnswerOf after answer (past ++ events_by after answer f node.router)
-          (turn_by after answer f node.ledger node.router request.0 request.1).answer originator number
-      last-by Passed past means covered status = absurd (passed_none node.ledger request is.command means is.has_ledger is.given)
-      last-by (Served service (Replies replied)) past means covered status =
-          let kept = means.means.kept is.command is.given status in
-          let found : slot_in originator node.ledger ≡ Some kept.slot
-          = subst (λ l. slot_in originator l ≡ Some kept.slot) (sym means.ledger_is)
-          (subst (λ o. slot_of o means.state.taken ≡ Some kept.slot) is.originator_is kept.found) in
-          let parts = done-kept originator kept.slot.number kept.slot.reply kept.slot.ticket past (covered originator kept.slot found) in
-          record {
-            reply = parts.0;
-            done_is = done-left past [] originator number parts.0
-                (subst (λ n. IsDone originator n parts.0 past) (kept.number_is ∙ is.number_is) parts.2) tt;
-            given_is = of_content after answer service (status_number replied.status) replied.content parts.0
-                (once_service node.ledger request service (Replies replied) is.command means is.given) status
-                (subst (IsContentOf parts.0) (sym kept.content_is) parts.1);
-          }
-      last-by (Served service (Executes executed)) past means covered status =
-          let reply = embedded_reply after answer node.router executed.request in
-          record {
-            reply = reply;
-            done_is = new-done past executed reply (gives-unique (ledger_request request.1) executed is.command means.means.given_is is.given);
-            given_is = inl (ap (λ x. reply_to x (success (DONE ∷ reply)))
-                (once_service node.ledger request service (Executes executed) is.command means is.given));
-          }
-      last-by (Served service (Queues executed ticket)) past means covered status =
-          let reply = embedded_reply after answer node.router executed.request in
-          record {
-            reply = reply;
-            done_is = new-done past executed reply (gives-unique (ledger_request request.1) executed is.command means.means.given_is is.given);
-            given_is = inr (ap (λ x. reply_to x (success (PENDING ∷ [])))
-                (once_service node.ledger request service (Queues executed ticket) is.command means is.given));
-          }
-      last-by (Served service (Frees freed)) past means covered status =
-          absurd (none_some (command_given request) is.command means.means.no_command is.given)
+    last-by : (f : Fate) (past : List Event) → Means node.ledger request f → Covered past node.ledger →
+        general_status (turn_by after answer f node.ledger node.router request.0 request.1).answer ≡ 0 →
+        IsAnswerOf after answer (past ++ events_by after answer f node.router)
+        (turn_by after answer f node.ledger node.router request.0 request.1).answer originator number
+    last-by Passed past means covered status = absurd (passed_none node.ledger request is.command means is.has_ledger is.given)
+    last-by (Served service (Replies replied)) past means covered status =
+        let kept = means.means.kept is.command is.given status in
+        let found : slot_in originator node.ledger ≡ Some kept.slot
+        = subst (λ l. slot_in originator l ≡ Some kept.slot) (sym means.ledger_is)
+        (subst (λ o. slot_of o means.state.taken ≡ Some kept.slot) is.originator_is kept.found) in
+        let parts = done-kept originator kept.slot.number kept.slot.reply kept.slot.ticket past (covered originator kept.slot found) in
+        record {
+          reply = parts.0;
+          done_is = done-left past [] originator number parts.0
+              (subst (λ n. IsDone originator n parts.0 past) (kept.number_is ∙ is.number_is) parts.2) tt;
+          given_is = of_content after answer service (status_number replied.status) replied.content parts.0
+              (once_service node.ledger request service (Replies replied) is.command means is.given) status
+              (subst (IsContentOf parts.0) (sym kept.content_is) parts.1);
+        }
+    last-by (Served service (Executes executed)) past means covered status =
+        let reply = embedded_reply after answer node.router executed.request in
+        record {
+          reply = reply;
+          done_is = new-done past executed reply (gives-unique (ledger_request request.1) executed is.command means.means.given_is is.given);
+          given_is = inl (ap (λ x. reply_to x (success (DONE ∷ reply)))
+              (once_service node.ledger request service (Executes executed) is.command means is.given));
+        }
+    last-by (Served service (Queues executed ticket)) past means covered status =
+        let reply = embedded_reply after answer node.router executed.request in
+        record {
+          reply = reply;
+          done_is = new-done past executed reply (gives-unique (ledger_request request.1) executed is.command means.means.given_is is.given);
+          given_is = inr (ap (λ x. reply_to x (success (PENDING ∷ [])))
+              (once_service node.ledger request service (Queues executed ticket) is.command means is.given));
+        }
+    last-by (Served service (Frees freed)) past means covered status =
+        absurd (none_some (command_given request) is.command means.means.no_command is.given)
 
-    answer-run : (requests : List Request) (node : LedgerRouter M) (past : List Event) (request : Request) (originator number : ℕ) →
-        Covered past node.ledger → Succeeds after answer standing (node_after after answer standing node requests) request originator number →
-        IsAnswerOf after answer (past ++ journal after answer standing node (requests ++ request ∷ []))
-        (answer_to after answer standing (node_after after answer standing node requests) request) originator number
-    answer-run [] node past request originator number covered is =
-        let f = fate standing node.ledger node.router request.0 request.1 in
-        subst (λ events. IsAnswerOf after answer (past ++ events) (answer_to after answer standing node request) originator number)
-        (sym (append-nil (events_by after answer f node.router)))
-        (last-by node request originator number is f past (fate-means standing node.ledger node.router request) covered is.status_is)
-    answer-run (first ∷ requests) node past request originator number covered is =
-        let f = fate standing node.ledger node.router first.0 first.1 in
-        let now = events_by after answer f node.router in
-        let later = next after answer standing node first in
-        subst (λ events. IsAnswerOf after answer events (answer_to after answer standing (node_after after answer standing later requests) request) originator number)
-        (append_assoc past now (journal after answer standing later (requests ++ request ∷ [])))
-        (answer-run requests later (past ++ now) request originator number
-        (covered-by after answer f past node first (fate-means standing node.ledger node.router first) covered) is)
+  answer-run : (requests : List Request) (node : LedgerRouter M) (past : List Event) (request : Request) (originator number : ℕ) →
+      Covered past node.ledger → Succeeds after answer standing (node_after after answer standing node requests) request originator number →
+      IsAnswerOf after answer (past ++ journal after answer standing node (requests ++ request ∷ []))
+      (answer_to after answer standing (node_after after answer standing node requests) request) originator number
+  answer-run [] node past request originator number covered is =
+      let f = fate standing node.ledger node.router request.0 request.1 in
+      subst (λ events. IsAnswerOf after answer (past ++ events) (answer_to after answer standing node request) originator number)
+      (sym (append-nil (events_by after answer f node.router)))
+      (last-by node request originator number is f past (fate-means standing node.ledger node.router request) covered is.status_is)
+  answer-run (first ∷ requests) node past request originator number covered is =
+      let f = fate standing node.ledger node.router first.0 first.1 in
+      let now = events_by after answer f node.router in
+      let later = next after answer standing node first in
+      subst (λ events. IsAnswerOf after answer events (answer_to after answer standing (node_after after answer standing later requests) request) originator number)
+      (append_assoc past now (journal after answer standing later (requests ++ request ∷ [])))
+      (answer-run requests later (past ++ now) request originator number
+      (covered-by after answer f past node first (fate-means standing node.ledger node.router first) covered) is)
 
-    none_covered : (slots life : ℕ) → Covered [] (Some (empty_ledger slots life))
-    none_covered slots life originator slot at = absurd (cc)
+  none_covered : (slots life : ℕ) → Covered [] (Some (empty_ledger slots life))
+  none_covered slots life originator slot at = absurd (cc)
 
-    pub of-execution : (life : Life M) (request : Request) (originator number : ℕ) →
-        Succeeds after answer standing (node_after after answer standing (begun life) life.requests) request originator number →
-        (reply : List ℕ) × IsDone originator number reply (journal after answer standing (begun life) (life.requests ++ request ∷ []))
-        × IsOfExecution reply (answer_to after answer standing (node_after after answer standing (begun life) life.requests) request)
-    of-execution life request originator number is =
-        let found = answer-run life.requests (begun life) [] request originator number (none_covered life.slots life.number) is in
-        (found.reply, found.done_is, found.given_is)
+  pub of-execution : (life : Life M) (request : Request) (originator number : ℕ) →
+      Succeeds after answer standing (node_after after answer standing (begun life) life.requests) request originator number →
+      (reply : List ℕ) × IsDone originator number reply (journal after answer standing (begun life) (life.requests ++ request ∷ []))
+      × IsOfExecution reply (answer_to after answer standing (node_after after answer standing (begun life) life.requests) request)
+  of-execution life request originator number is =
+      let found = answer-run life.requests (begun life) [] request originator number (none_covered life.slots life.number) is in
+      (found.reply, found.done_is, found.given_is)
 
 -- ---- a command that is new
 
@@ -274,34 +274,34 @@ module _ {M : Type 0} (standing : M → List ℕ → Standing) (router : M) wher
       ap (λ o. fate standing o router request.0 request.1) ledger_is
       ∙ executes_asked ledger request.0 (ledger_request request.1) command given new roomy
 
-module _ {M : Type 0} (after : M → ℕ → List ℕ → M) (answer : M → ℕ → List ℕ → List ℕ) (standing : M → List ℕ → Standing)
-  where
-    -- a command that the router takes is executed
-    taken-event : (is : Standing) (command : Command) (router : M) → is ≢ standings.Refused →
-        events_by after answer (Served services.DO_ONCE (by_standing is command)) router
-        ≡ Executed command (embedded_reply after answer router command.request) ∷ []
-    taken-event standings.Final command router taken = refl
-    taken-event (standings.Pending ticket) command router taken = refl
-    taken-event standings.Refused command router taken = absurd (taken refl)
+module _ {M : Type 0} (after : M → ℕ → List ℕ → M) (answer : M → ℕ → List ℕ → List ℕ)
+    (standing : M → List ℕ → Standing) where
+  -- a command that the router takes is executed
+  taken-event : (is : Standing) (command : Command) (router : M) → is ≢ standings.Refused →
+      events_by after answer (Served services.DO_ONCE (by_standing is command)) router
+      ≡ Executed command (embedded_reply after answer router command.request) ∷ []
+  taken-event standings.Final command router taken = refl
+  taken-event (standings.Pending ticket) command router taken = refl
+  taken-event standings.Refused command router taken = absurd (taken refl)
 
-    pub executes : (node : LedgerRouter M) (ledger : LedgerState) (request : Request) (command : Command) →
-        node.ledger ≡ Some ledger → command_given request ≡ Some command → IsNew ledger command →
-        HEAD_SIZE + 1 + KEPT_LIMIT ≤ request.0 →
-        embedded_standing standing node.router command.request ≢ standings.Refused →
-        journal after answer standing node (request ∷ [])
-        ≡ Executed command (embedded_reply after answer node.router command.request) ∷ []
-    executes node ledger request command ledger_is given new roomy taken =
-        append-nil (events_by after answer (fate standing node.ledger node.router request.0 request.1) node.router)
-        ∙ ap (λ f. events_by after answer f node.router)
-        (executes_fate standing node.router node.ledger ledger request command ledger_is given new roomy)
-        ∙ taken-event (embedded_standing standing node.router command.request) command node.router taken
+  pub executes : (node : LedgerRouter M) (ledger : LedgerState) (request : Request) (command : Command) →
+      node.ledger ≡ Some ledger → command_given request ≡ Some command → IsNew ledger command →
+      HEAD_SIZE + 1 + KEPT_LIMIT ≤ request.0 →
+      embedded_standing standing node.router command.request ≢ standings.Refused →
+      journal after answer standing node (request ∷ [])
+      ≡ Executed command (embedded_reply after answer node.router command.request) ∷ []
+  executes node ledger request command ledger_is given new roomy taken =
+      append-nil (events_by after answer (fate standing node.ledger node.router request.0 request.1) node.router)
+      ∙ ap (λ f. events_by after answer f node.router)
+      (executes_fate standing node.router node.ledger ledger request command ledger_is given new roomy)
+      ∙ taken-event (embedded_standing standing node.router command.request) command node.router taken
 
-    -- what becomes of a new command is what the router makes of it
-    pub new-turn : (node : LedgerRouter M) (ledger : LedgerState) (request : Request) (command : Command) →
-        node.ledger ≡ Some ledger → command_given request ≡ Some command → IsNew ledger command →
-        HEAD_SIZE + 1 + KEPT_LIMIT ≤ request.0 →
-        turn_at after answer standing node request
-        ≡ acted after answer (new_at_router standing node.router command) services.DO_ONCE node.ledger node.router
-    new-turn node ledger request command ledger_is given new roomy =
-        ap (λ f. turn_by after answer f node.ledger node.router request.0 request.1)
-        (executes_fate standing node.router node.ledger ledger request command ledger_is given new roomy)
+  -- what becomes of a new command is what the router makes of it
+  pub new-turn : (node : LedgerRouter M) (ledger : LedgerState) (request : Request) (command : Command) →
+      node.ledger ≡ Some ledger → command_given request ≡ Some command → IsNew ledger command →
+      HEAD_SIZE + 1 + KEPT_LIMIT ≤ request.0 →
+      turn_at after answer standing node request
+      ≡ acted after answer (new_at_router standing node.router command) services.DO_ONCE node.ledger node.router
+  new-turn node ledger request command ledger_is given new roomy =
+      ap (λ f. turn_by after answer f node.ledger node.router request.0 request.1)
+      (executes_fate standing node.router node.ledger ledger request command ledger_is given new roomy)

@@ -45,59 +45,59 @@ service_first (service ∷ words ∷ rest) request e = by_size (nat_lt (length r
     by_size true e = absurd (cc)
     by_size false e = by_path (path_of (take (2 * words) rest)) e
 
-module _ {M : Type 0} (after : M → ℕ → List ℕ → M) (answer : M → ℕ → List ℕ → List ℕ) (standing : M → List ℕ → Standing)
-  where
-    -- without a ledger, or elsewhere, the turn is the router's
-    pub passes : (node : LedgerRouter M) (request : Request) → (node.ledger ≡ None) ⊎ (ledger_request request.1 ≡ None) →
-        turn_at after answer standing node request
-        ≡ turn_of node.ledger (after node.router request.0 request.1) (answer node.router request.0 request.1)
-    passes node request is = go node.ledger is
-      where
-        go : (l : Option LedgerState) → (l ≡ None) ⊎ (ledger_request request.1 ≡ None) →
-            turn_by after answer (fate standing l node.router request.0 request.1) l node.router request.0 request.1
-            ≡ turn_of l (after node.router request.0 request.1) (answer node.router request.0 request.1)
-        go None is = refl
-        go (Some ledger) (inl e) = absurd (cc)
-        go (Some ledger) (inr e) =
-            ap (λ asked. turn_by after answer (fate_of standing ledger node.router request.0 asked) (Some ledger) node.router request.0 request.1) e
+module _ {M : Type 0} (after : M → ℕ → List ℕ → M) (answer : M → ℕ → List ℕ → List ℕ)
+    (standing : M → List ℕ → Standing) where
+  -- without a ledger, or elsewhere, the turn is the router's
+  pub passes : (node : LedgerRouter M) (request : Request) → (node.ledger ≡ None) ⊎ (ledger_request request.1 ≡ None) →
+      turn_at after answer standing node request
+      ≡ turn_of node.ledger (after node.router request.0 request.1) (answer node.router request.0 request.1)
+  passes node request is = go node.ledger is
+    where
+      go : (l : Option LedgerState) → (l ≡ None) ⊎ (ledger_request request.1 ≡ None) →
+          turn_by after answer (fate standing l node.router request.0 request.1) l node.router request.0 request.1
+          ≡ turn_of l (after node.router request.0 request.1) (answer node.router request.0 request.1)
+      go None is = refl
+      go (Some ledger) (inl e) = absurd (cc)
+      go (Some ledger) (inr e) =
+          ap (λ asked. turn_by after answer (fate_of standing ledger node.router request.0 asked) (Some ledger) node.router request.0 request.1) e
 
-    module _ (form : RepliesWellFormed answer) where
-      embedded-within : (barred : Bool) (router : M) (request : List ℕ) → 2 ≤ length request →
-          length (if barred then reply_to (slice_index request 0) (refusal statuses.ServiceNotSupported) else answer router KEPT_LIMIT request) ≤ KEPT_LIMIT
-      embedded-within true router request enough = omega arith
-      embedded-within false router request enough = form.within router KEPT_LIMIT request (omega arith) enough
+  module _ (form : RepliesWellFormed answer) where
+    embedded-within : (barred : Bool) (router : M) (request : List ℕ) → 2 ≤ length request →
+        length (if barred then reply_to (slice_index request 0) (refusal statuses.ServiceNotSupported) else answer router KEPT_LIMIT request) ≤ KEPT_LIMIT
+    embedded-within true router request enough = omega arith
+    embedded-within false router request enough = form.within router KEPT_LIMIT request (omega arith) enough
 
-      within-by : (f : Fate) (node : LedgerRouter M) (request : Request) → Means node.ledger request f → 8 ≤ request.0 → 2 ≤ length request.1 →
-          length (turn_by after answer f node.ledger node.router request.0 request.1).answer ≤ request.0
-      within-by Passed node request means least enough = form.within node.router request.0 request.1 least enough
-      within-by (Served service (Replies reply)) node request means least enough =
-          let fits = means.means.fits least in omega (arith, fits)
-      within-by (Served service (Executes command)) node request means least enough =
-          let fits = means.means.fits in
-          let inner = embedded-within (is_barred command.request) node.router command.request means.means.request in
-          omega (arith, fits, inner)
-      within-by (Served service (Queues command ticket)) node request means least enough =
-          let fits = means.means.fits in omega (arith, fits)
-      within-by (Served service (Frees freed)) node request means least enough = omega (arith, least)
+    within-by : (f : Fate) (node : LedgerRouter M) (request : Request) → Means node.ledger request f → 8 ≤ request.0 → 2 ≤ length request.1 →
+        length (turn_by after answer f node.ledger node.router request.0 request.1).answer ≤ request.0
+    within-by Passed node request means least enough = form.within node.router request.0 request.1 least enough
+    within-by (Served service (Replies reply)) node request means least enough =
+        let fits = means.means.fits least in omega (arith, fits)
+    within-by (Served service (Executes command)) node request means least enough =
+        let fits = means.means.fits in
+        let inner = embedded-within (is_barred command.request) node.router command.request means.means.request in
+        omega (arith, fits, inner)
+    within-by (Served service (Queues command ticket)) node request means least enough =
+        let fits = means.means.fits in omega (arith, fits)
+    within-by (Served service (Frees freed)) node request means least enough = omega (arith, least)
 
-      begins-by : (f : Fate) (node : LedgerRouter M) (request : Request) → Means node.ledger request f → 8 ≤ request.0 → 2 ≤ length request.1 →
-          IsReplyTo request.1 (turn_by after answer f node.ledger node.router request.0 request.1).answer
-      begins-by Passed node request means least enough = form.begins node.router request.0 request.1 least enough
-      begins-by (Served service (Replies reply)) node request means least enough =
-          record { head = omega arith; service = ap reply_service (sym means.service_is ∙ service_first request.1 means.asked means.asked_is) }
-      begins-by (Served service (Executes command)) node request means least enough =
-          record { head = omega arith; service = ap reply_service (sym means.service_is ∙ service_first request.1 means.asked means.asked_is) }
-      begins-by (Served service (Queues command ticket)) node request means least enough =
-          record { head = omega arith; service = ap reply_service (sym means.service_is ∙ service_first request.1 means.asked means.asked_is) }
-      begins-by (Served service (Frees freed)) node request means least enough =
-          record { head = omega arith; service = ap reply_service (sym means.service_is ∙ service_first request.1 means.asked means.asked_is) }
+    begins-by : (f : Fate) (node : LedgerRouter M) (request : Request) → Means node.ledger request f → 8 ≤ request.0 → 2 ≤ length request.1 →
+        IsReplyTo request.1 (turn_by after answer f node.ledger node.router request.0 request.1).answer
+    begins-by Passed node request means least enough = form.begins node.router request.0 request.1 least enough
+    begins-by (Served service (Replies reply)) node request means least enough =
+        record { head = omega arith; service = ap reply_service (sym means.service_is ∙ service_first request.1 means.asked means.asked_is) }
+    begins-by (Served service (Executes command)) node request means least enough =
+        record { head = omega arith; service = ap reply_service (sym means.service_is ∙ service_first request.1 means.asked means.asked_is) }
+    begins-by (Served service (Queues command ticket)) node request means least enough =
+        record { head = omega arith; service = ap reply_service (sym means.service_is ∙ service_first request.1 means.asked means.asked_is) }
+    begins-by (Served service (Frees freed)) node request means least enough =
+        record { head = omega arith; service = ap reply_service (sym means.service_is ∙ service_first request.1 means.asked means.asked_is) }
 
-      pub in-form : RepliesWellFormed (λ (node : LedgerRouter M) max_size request. answer_to after answer standing node (max_size, request))
-      in-form = record {
-        begins = λ node max_size request least enough.
-            begins-by (fate standing node.ledger node.router max_size request) node (max_size, request)
-            (fate-means standing node.ledger node.router (max_size, request)) least enough;
-        within = λ node max_size request least enough.
-            within-by (fate standing node.ledger node.router max_size request) node (max_size, request)
-            (fate-means standing node.ledger node.router (max_size, request)) least enough;
-      }
+    pub in-form : RepliesWellFormed (λ (node : LedgerRouter M) max_size request. answer_to after answer standing node (max_size, request))
+    in-form = record {
+      begins = λ node max_size request least enough.
+          begins-by (fate standing node.ledger node.router max_size request) node (max_size, request)
+          (fate-means standing node.ledger node.router (max_size, request)) least enough;
+      within = λ node max_size request least enough.
+          within-by (fate standing node.ledger node.router max_size request) node (max_size, request)
+          (fate-means standing node.ledger node.router (max_size, request)) least enough;
+    }

@@ -166,93 +166,93 @@ held_content number slot None held = absurd held
 held_content number slot (Some own) (inl both) = inl (both.0, ap (λ (s : SlotState). last_content s) both.1)
 held_content number slot (Some own) (inr greater) = inr greater
 
-module _ {M : Type 0} (after : M → ℕ → List ℕ → M) (answer : M → ℕ → List ℕ → List ℕ) (standing : M → List ℕ → Standing)
-  where
-    pub pending-answered : (node : LedgerRouter M) (ledger : LedgerState) (request : Request) (command : Command) (ticket : ℕ) →
-        node.ledger ≡ Some ledger → IsGiven ledger request command (HEAD_SIZE + 1) →
-        IsPending ledger command.originator command.number ticket →
-        turn_at after answer standing node request
-        ≡ turn_of node.ledger node.router (reply_to services.DO_ONCE (success (PENDING ∷ [])))
-    pending-answered node ledger request command ticket is given pending =
-        let content = pending-content pending.slot ticket pending.no_reply pending.ticket_is in
-        let fits : HEAD_SIZE + length (last_content pending.slot) ≤ request.0
-        = subst (λ c. HEAD_SIZE + length c ≤ request.0) (sym content) given.fits in
-        repeat-at after answer standing node.ledger ledger node.router request command pending.slot is given.given given.life
-        pending.found pending.number_is fits
-        ∙ ap (λ c. turn_of node.ledger node.router (reply_to services.DO_ONCE (success c))) content
+module _ {M : Type 0} (after : M → ℕ → List ℕ → M) (answer : M → ℕ → List ℕ → List ℕ)
+    (standing : M → List ℕ → Standing) where
+  pub pending-answered : (node : LedgerRouter M) (ledger : LedgerState) (request : Request) (command : Command) (ticket : ℕ) →
+      node.ledger ≡ Some ledger → IsGiven ledger request command (HEAD_SIZE + 1) →
+      IsPending ledger command.originator command.number ticket →
+      turn_at after answer standing node request
+      ≡ turn_of node.ledger node.router (reply_to services.DO_ONCE (success (PENDING ∷ [])))
+  pending-answered node ledger request command ticket is given pending =
+      let content = pending-content pending.slot ticket pending.no_reply pending.ticket_is in
+      let fits : HEAD_SIZE + length (last_content pending.slot) ≤ request.0
+      = subst (λ c. HEAD_SIZE + length c ≤ request.0) (sym content) given.fits in
+      repeat-at after answer standing node.ledger ledger node.router request command pending.slot is given.given given.life
+      pending.found pending.number_is fits
+      ∙ ap (λ c. turn_of node.ledger node.router (reply_to services.DO_ONCE (success c))) content
 
-    pub completed-answered : (node : LedgerRouter M) (ledger : LedgerState) (request : Request) (command : Command) (ticket : ℕ)
-        (reply : List ℕ) → node.ledger ≡ Some (completed ledger ticket reply) →
-        IsGiven ledger request command (HEAD_SIZE + 1 + length reply) →
-        IsPending ledger command.originator command.number ticket → is_kept_reply reply ≡ true →
-        turn_at after answer standing node request
-        ≡ turn_of node.ledger node.router (reply_to services.DO_ONCE (success (DONE ∷ reply)))
-    completed-answered node ledger request command ticket reply is given pending kept =
-        let slot = done_with reply pending.slot in
-        let found : slot_of command.originator (with_completed ticket reply ledger).taken ≡ Some slot
-        = slot_of-completed ticket reply ledger.taken command.originator
-        ∙ ap (option_map (completed_slot ticket reply)) pending.found
-        ∙ ap (λ s. Some s) (own_ticket pending.slot ticket reply pending.no_reply pending.ticket_is) in
-        let fits = given.fits in
-        repeat-at after answer standing node.ledger (with_completed ticket reply ledger) node.router request command slot
-        (is ∙ ap (λ l. Some l) (completed-kept ledger ticket reply kept))
-        given.given given.life found pending.number_is (omega (arith, fits))
+  pub completed-answered : (node : LedgerRouter M) (ledger : LedgerState) (request : Request) (command : Command) (ticket : ℕ)
+      (reply : List ℕ) → node.ledger ≡ Some (completed ledger ticket reply) →
+      IsGiven ledger request command (HEAD_SIZE + 1 + length reply) →
+      IsPending ledger command.originator command.number ticket → is_kept_reply reply ≡ true →
+      turn_at after answer standing node request
+      ≡ turn_of node.ledger node.router (reply_to services.DO_ONCE (success (DONE ∷ reply)))
+  completed-answered node ledger request command ticket reply is given pending kept =
+      let slot = done_with reply pending.slot in
+      let found : slot_of command.originator (with_completed ticket reply ledger).taken ≡ Some slot
+      = slot_of-completed ticket reply ledger.taken command.originator
+      ∙ ap (option_map (completed_slot ticket reply)) pending.found
+      ∙ ap (λ s. Some s) (own_ticket pending.slot ticket reply pending.no_reply pending.ticket_is) in
+      let fits = given.fits in
+      repeat-at after answer standing node.ledger (with_completed ticket reply ledger) node.router request command slot
+      (is ∙ ap (λ l. Some l) (completed-kept ledger ticket reply kept))
+      given.given given.life found pending.number_is (omega (arith, fits))
 
-    -- the slot of a command after a step, as long as it is not freed
-    held-step : (step : Step M) (steps : List (Step M)) (node : LedgerRouter M) (originator number : ℕ) (slot : SlotState) →
-        Held number (λ s. s ≡ slot) (slot_in originator node.ledger) →
-        IsNotFreed originator (journal_of_step after answer standing node step) →
-        (other : SlotState) × Held number (λ s. s ≡ other) (slot_in originator (node_step after answer standing node step).ledger)
-        × (slot_after other steps ≡ slot_after slot (step ∷ steps))
-    held-step (Asks request) steps node originator number slot held kept =
-        let f = fate standing node.ledger node.router request.0 request.1 in (
-          slot,
-          held-by after answer f node request originator number (λ s. s ≡ slot) (fate-means standing node.ledger node.router request)
-              held (not_freed-left after answer (events_by after answer f node.router) [] originator kept),
-          refl,
-        )
-    held-step (Completes ticket reply router) steps node originator number slot held kept =
-        (completed_if ticket reply slot, held_completed ticket reply number slot originator node.ledger held, refl)
-    held-step (Changes router) steps node originator number slot held kept = (slot, held, refl)
+  -- the slot of a command after a step, as long as it is not freed
+  held-step : (step : Step M) (steps : List (Step M)) (node : LedgerRouter M) (originator number : ℕ) (slot : SlotState) →
+      Held number (λ s. s ≡ slot) (slot_in originator node.ledger) →
+      IsNotFreed originator (journal_of_step after answer standing node step) →
+      (other : SlotState) × Held number (λ s. s ≡ other) (slot_in originator (node_step after answer standing node step).ledger)
+      × (slot_after other steps ≡ slot_after slot (step ∷ steps))
+  held-step (Asks request) steps node originator number slot held kept =
+      let f = fate standing node.ledger node.router request.0 request.1 in (
+        slot,
+        held-by after answer f node request originator number (λ s. s ≡ slot) (fate-means standing node.ledger node.router request)
+            held (not_freed-left after answer (events_by after answer f node.router) [] originator kept),
+        refl,
+      )
+  held-step (Completes ticket reply router) steps node originator number slot held kept =
+      (completed_if ticket reply slot, held_completed ticket reply number slot originator node.ledger held, refl)
+  held-step (Changes router) steps node originator number slot held kept = (slot, held, refl)
 
-    held-steps : (steps : List (Step M)) (node : LedgerRouter M) (originator number : ℕ) (slot : SlotState) →
-        Held number (λ s. s ≡ slot) (slot_in originator node.ledger) →
-        IsNotFreed originator (journal_of_steps after answer standing node steps) →
-        Held number (λ s. s ≡ slot_after slot steps)
-        (slot_in originator (node_after_steps after answer standing node steps).ledger)
-    held-steps [] node originator number slot held kept = held
-    held-steps (step ∷ steps) node originator number slot held kept =
-        let now = journal_of_step after answer standing node step in
-        let later = journal_of_steps after answer standing (node_step after answer standing node step) steps in
-        let parts = held-step step steps node originator number slot held (not_freed-left after answer now later originator kept) in
-        subst (λ end. Held number (λ s. s ≡ end)
-        (slot_in originator (node_after_steps after answer standing (node_step after answer standing node step) steps).ledger))
-        parts.2
-        (held-steps steps (node_step after answer standing node step) originator number parts.0 parts.1
-        (not_freed-right after answer now later originator kept))
+  held-steps : (steps : List (Step M)) (node : LedgerRouter M) (originator number : ℕ) (slot : SlotState) →
+      Held number (λ s. s ≡ slot) (slot_in originator node.ledger) →
+      IsNotFreed originator (journal_of_steps after answer standing node steps) →
+      Held number (λ s. s ≡ slot_after slot steps)
+      (slot_in originator (node_after_steps after answer standing node steps).ledger)
+  held-steps [] node originator number slot held kept = held
+  held-steps (step ∷ steps) node originator number slot held kept =
+      let now = journal_of_step after answer standing node step in
+      let later = journal_of_steps after answer standing (node_step after answer standing node step) steps in
+      let parts = held-step step steps node originator number slot held (not_freed-left after answer now later originator kept) in
+      subst (λ end. Held number (λ s. s ≡ end)
+      (slot_in originator (node_after_steps after answer standing (node_step after answer standing node step) steps).ledger))
+      parts.2
+      (held-steps steps (node_step after answer standing node step) originator number parts.0 parts.1
+      (not_freed-right after answer now later originator kept))
 
-    pub never-back : (node : LedgerRouter M) (first again : Request) (between : List (Step M)) (originator number : ℕ) →
-        Succeeds after answer standing node first originator number →
-        Succeeds after answer standing (node_after_steps after answer standing (next after answer standing node first) between)
-        again originator number →
-        IsNotFreed originator (journal_of_steps after answer standing (next after answer standing node first) between) →
-        AreAnswersOf after answer standing node first between again originator
-    never-back node first again between originator number is again_is kept =
-        let s = settles after answer standing node first originator number is in
-        let then_node = next after answer standing node first in
-        let last = node_after_steps after answer standing then_node between in
-        let held : Held number (λ slot. slot ≡ s.slot) (slot_in originator then_node.ledger)
-        = subst (Held number (λ slot. slot ≡ s.slot)) (sym s.found) (inl (s.number_is, refl)) in
-        let end = slot_after s.slot between in
-        record {
-          slot = s.slot;
-          found = s.found;
-          first_is = s.answered ∙ ap (λ content. reply_to services.DO_ONCE (success content)) (sym s.content_is);
-          again_is =
-              again-by after answer last again originator number again_is.has_ledger again_is.command again_is.given
-              again_is.originator_is again_is.number_is (fate standing last.ledger last.router again.0 again.1) (last_content end)
-              (fate-means standing last.ledger last.router again)
-              (held_content number end (slot_in originator last.ledger)
-              (held-steps between then_node originator number s.slot held kept))
-              again_is.status_is;
-        }
+  pub never-back : (node : LedgerRouter M) (first again : Request) (between : List (Step M)) (originator number : ℕ) →
+      Succeeds after answer standing node first originator number →
+      Succeeds after answer standing (node_after_steps after answer standing (next after answer standing node first) between)
+      again originator number →
+      IsNotFreed originator (journal_of_steps after answer standing (next after answer standing node first) between) →
+      AreAnswersOf after answer standing node first between again originator
+  never-back node first again between originator number is again_is kept =
+      let s = settles after answer standing node first originator number is in
+      let then_node = next after answer standing node first in
+      let last = node_after_steps after answer standing then_node between in
+      let held : Held number (λ slot. slot ≡ s.slot) (slot_in originator then_node.ledger)
+      = subst (Held number (λ slot. slot ≡ s.slot)) (sym s.found) (inl (s.number_is, refl)) in
+      let end = slot_after s.slot between in
+      record {
+        slot = s.slot;
+        found = s.found;
+        first_is = s.answered ∙ ap (λ content. reply_to services.DO_ONCE (success content)) (sym s.content_is);
+        again_is =
+            again-by after answer last again originator number again_is.has_ledger again_is.command again_is.given
+            again_is.originator_is again_is.number_is (fate standing last.ledger last.router again.0 again.1) (last_content end)
+            (fate-means standing last.ledger last.router again)
+            (held_content number end (slot_in originator last.ledger)
+            (held-steps between then_node originator number s.slot held kept))
+            again_is.status_is;
+      }

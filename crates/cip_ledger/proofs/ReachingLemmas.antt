@@ -95,51 +95,51 @@ module _ {M : Type 0} (after : M → ℕ → List ℕ → M) (answer : M → ℕ
   by_action (Queues command ticket) service request = embedded_command (is_barred command.request) command.request
   by_action (Frees originator) service request = refl
 
-module _ {M : Type 0} (after : M → ℕ → List ℕ → M) (answer : M → ℕ → List ℕ → List ℕ) (standing : M → List ℕ → Standing)
-  where
-    passed : (node : LedgerRouter M) (request : Request) (ledger : Option LedgerState) → node.ledger ≡ ledger
-        → ledger_request request.1 ≡ None → reached after answer standing node (request ∷ []) ≡ request ∷ []
-    passed node request None is other =
-        ap (λ l. reached_by after answer (fate standing l node.router request.0 request.1) request ++ []) is
-    passed node request (Some ledger) is other =
-        ap (λ l. reached_by after answer (fate standing l node.router request.0 request.1) request ++ []) is
-        ∙ ap (λ own. reached_by after answer (fate_of standing ledger node.router request.0 own) request ++ []) other
+module _ {M : Type 0} (after : M → ℕ → List ℕ → M) (answer : M → ℕ → List ℕ → List ℕ)
+    (standing : M → List ℕ → Standing) where
+  passed : (node : LedgerRouter M) (request : Request) (ledger : Option LedgerState) → node.ledger ≡ ledger
+      → ledger_request request.1 ≡ None → reached after answer standing node (request ∷ []) ≡ request ∷ []
+  passed node request None is other =
+      ap (λ l. reached_by after answer (fate standing l node.router request.0 request.1) request ++ []) is
+  passed node request (Some ledger) is other =
+      ap (λ l. reached_by after answer (fate standing l node.router request.0 request.1) request ++ []) is
+      ∙ ap (λ own. reached_by after answer (fate_of standing ledger node.router request.0 own) request ++ []) other
 
-    -- a request that is not to the ledger reaches the router as it is
-    pub reached_other : (node : LedgerRouter M) (request : Request) → ledger_request request.1 ≡ None
-        → reached after answer standing node (request ∷ []) ≡ request ∷ []
-    reached_other node request other = passed node request node.ledger refl other
+  -- a request that is not to the ledger reaches the router as it is
+  pub reached_other : (node : LedgerRouter M) (request : Request) → ledger_request request.1 ≡ None
+      → reached after answer standing node (request ∷ []) ≡ request ∷ []
+  reached_other node request other = passed node request node.ledger refl other
 
-    -- and so does each one if there is no ledger
-    pub reached_without : (node : LedgerRouter M) (request : Request) → node.ledger ≡ None
-        → reached after answer standing node (request ∷ []) ≡ request ∷ []
-    reached_without node request is =
-        ap (λ l. reached_by after answer (fate standing l node.router request.0 request.1) request ++ []) is
+  -- and so does each one if there is no ledger
+  pub reached_without : (node : LedgerRouter M) (request : Request) → node.ledger ≡ None
+      → reached after answer standing node (request ∷ []) ≡ request ∷ []
+  reached_without node request is =
+      ap (λ l. reached_by after answer (fate standing l node.router request.0 request.1) request ++ []) is
 
-    reached_read : (node : LedgerRouter M) (request : Request) (ledger : LedgerState) (own : LedgerRequest)
-        → node.ledger ≡ Some ledger → ledger_request request.1 ≡ Some own
-        → reached after answer standing node (request ∷ [])
-        ≡ listed (option_map kept_within (embedded_by (at_router standing node.router (action_of ledger request.0 own))))
-    reached_read node request ledger own is read =
-        ap (λ l. reached_by after answer (fate standing l node.router request.0 request.1) request ++ []) is
-        ∙ ap (λ o. reached_by after answer (fate_of standing ledger node.router request.0 o) request ++ []) read
-        ∙ by_action after answer (at_router standing node.router (action_of ledger request.0 own)) own.service request
+  reached_read : (node : LedgerRouter M) (request : Request) (ledger : LedgerState) (own : LedgerRequest)
+      → node.ledger ≡ Some ledger → ledger_request request.1 ≡ Some own
+      → reached after answer standing node (request ∷ [])
+      ≡ listed (option_map kept_within (embedded_by (at_router standing node.router (action_of ledger request.0 own))))
+  reached_read node request ledger own is read =
+      ap (λ l. reached_by after answer (fate standing l node.router request.0 request.1) request ++ []) is
+      ∙ ap (λ o. reached_by after answer (fate_of standing ledger node.router request.0 o) request ++ []) read
+      ∙ by_action after answer (at_router standing node.router (action_of ledger request.0 own)) own.service request
 
-    -- of a request to the ledger the embedded one does, if its command is new, and the router takes it
-    pub reached_none : (node : LedgerRouter M) (request : Request) (ledger : LedgerState) (own : LedgerRequest)
-        → node.ledger ≡ Some ledger → ledger_request request.1 ≡ Some own
-        → new_command (action_of ledger request.0 own) ≡ None → reached after answer standing node (request ∷ []) ≡ []
-    reached_none node request ledger own is read none =
-        reached_read node request ledger own is read
-        ∙ ap (λ o. listed (option_map kept_within o))
-        (embedded_none standing node.router (action_of ledger request.0 own) none)
+  -- of a request to the ledger the embedded one does, if its command is new, and the router takes it
+  pub reached_none : (node : LedgerRouter M) (request : Request) (ledger : LedgerState) (own : LedgerRequest)
+      → node.ledger ≡ Some ledger → ledger_request request.1 ≡ Some own
+      → new_command (action_of ledger request.0 own) ≡ None → reached after answer standing node (request ∷ []) ≡ []
+  reached_none node request ledger own is read none =
+      reached_read node request ledger own is read
+      ∙ ap (λ o. listed (option_map kept_within o))
+      (embedded_none standing node.router (action_of ledger request.0 own) none)
 
-    pub reached_some : (node : LedgerRouter M) (request : Request) (ledger : LedgerState) (own : LedgerRequest)
-        (command : Command) → node.ledger ≡ Some ledger → ledger_request request.1 ≡ Some own
-        → new_command (action_of ledger request.0 own) ≡ Some command
-        → reached after answer standing node (request ∷ [])
-        ≡ listed (option_map kept_within (embedded_by (new_at_router standing node.router command)))
-    reached_some node request ledger own command is read some =
-        reached_read node request ledger own is read
-        ∙ ap (λ o. listed (option_map kept_within o))
-        (embedded_some standing node.router (action_of ledger request.0 own) command some)
+  pub reached_some : (node : LedgerRouter M) (request : Request) (ledger : LedgerState) (own : LedgerRequest)
+      (command : Command) → node.ledger ≡ Some ledger → ledger_request request.1 ≡ Some own
+      → new_command (action_of ledger request.0 own) ≡ Some command
+      → reached after answer standing node (request ∷ [])
+      ≡ listed (option_map kept_within (embedded_by (new_at_router standing node.router command)))
+  reached_some node request ledger own command is read some =
+      reached_read node request ledger own is read
+      ∙ ap (λ o. listed (option_map kept_within o))
+      (embedded_some standing node.router (action_of ledger request.0 own) command some)

@@ -265,80 +265,80 @@ module _ {M : Type 0} (after : M → ℕ → List ℕ → M) (answer : M → ℕ
             (subst (λ o. slot_of o (without_slot freed means.state.taken) ≡ None) same (slot_of-without_slot means.state.taken freed)),
       )
 
-module _ {M : Type 0} (after : M → ℕ → List ℕ → M) (answer : M → ℕ → List ℕ → List ℕ) (standing : M → List ℕ → Standing)
-  where
-    pub settled-run : (requests : List Request) (node : LedgerRouter M) (originator number : ℕ) (content : List ℕ) →
-        Settled number content (slot_in originator node.ledger) → IsNotFreed originator (journal after answer standing node requests) →
-        Settled number content (slot_in originator (node_after after answer standing node requests).ledger)
-    settled-run [] node originator number content settled kept = settled
-    settled-run (request ∷ requests) node originator number content settled kept =
-        let f = fate standing node.ledger node.router request.0 request.1 in
-        let later = journal after answer standing (next after answer standing node request) requests in
-        settled-run requests (next after answer standing node request) originator number content
-        (settled-by after answer f node request originator number content (fate-means standing node.ledger node.router request) settled
-        (not_freed-left after answer (events_by after answer f node.router) later originator kept))
-        (not_freed-right after answer (events_by after answer f node.router) later originator kept)
+module _ {M : Type 0} (after : M → ℕ → List ℕ → M) (answer : M → ℕ → List ℕ → List ℕ)
+    (standing : M → List ℕ → Standing) where
+  pub settled-run : (requests : List Request) (node : LedgerRouter M) (originator number : ℕ) (content : List ℕ) →
+      Settled number content (slot_in originator node.ledger) → IsNotFreed originator (journal after answer standing node requests) →
+      Settled number content (slot_in originator (node_after after answer standing node requests).ledger)
+  settled-run [] node originator number content settled kept = settled
+  settled-run (request ∷ requests) node originator number content settled kept =
+      let f = fate standing node.ledger node.router request.0 request.1 in
+      let later = journal after answer standing (next after answer standing node request) requests in
+      settled-run requests (next after answer standing node request) originator number content
+      (settled-by after answer f node request originator number content (fate-means standing node.ledger node.router request) settled
+      (not_freed-left after answer (events_by after answer f node.router) later originator kept))
+      (not_freed-right after answer (events_by after answer f node.router) later originator kept)
 
-    pub journal-above : (requests : List Request) (node : LedgerRouter M) (originator number : ℕ) (content : List ℕ) →
-        Settled number content (slot_in originator node.ledger) →
-        IsAbove after answer originator number (journal after answer standing node requests)
-    journal-above [] node originator number content settled = tt
-    journal-above (request ∷ requests) node originator number content settled =
-        above-by after answer (fate standing node.ledger node.router request.0 request.1) node request
-        (journal after answer standing (next after answer standing node request) requests) originator number content
-        (fate-means standing node.ledger node.router request) settled
-        (λ settled_then. journal-above requests (next after answer standing node request) originator number content settled_then)
+  pub journal-above : (requests : List Request) (node : LedgerRouter M) (originator number : ℕ) (content : List ℕ) →
+      Settled number content (slot_in originator node.ledger) →
+      IsAbove after answer originator number (journal after answer standing node requests)
+  journal-above [] node originator number content settled = tt
+  journal-above (request ∷ requests) node originator number content settled =
+      above-by after answer (fate standing node.ledger node.router request.0 request.1) node request
+      (journal after answer standing (next after answer standing node request) requests) originator number content
+      (fate-means standing node.ledger node.router request) settled
+      (λ settled_then. journal-above requests (next after answer standing node request) originator number content settled_then)
 
-    -- numbers rise
-    rises-by : (f : Fate) (node : LedgerRouter M) (request : Request) (requests : List Request) → Means node.ledger request f →
-        Rises (journal after answer standing (next_by after answer f node request) requests) →
-        Rises (events_by after answer f node.router ++ journal after answer standing (next_by after answer f node request) requests)
-    rises-by Passed node request requests means later = later
-    rises-by (Served service (Replies given)) node request requests means later = later
-    rises-by (Served service (Executes command)) node request requests means later = (
-      journal-above requests (next_by after answer (Served service (Executes command)) node request) command.originator
-          command.number (DONE ∷ embedded_reply after answer node.router command.request)
-          (settled-command after answer node request service command means),
-      later,
-    )
-    rises-by (Served service (Queues command ticket)) node request requests means later = (
-      journal-above requests (next_by after answer (Served service (Queues command ticket)) node request) command.originator
-          command.number (PENDING ∷ []) (settled-queued after answer node request service command ticket means),
-      later,
-    )
-    rises-by (Served service (Frees freed)) node request requests means later = later
+  -- numbers rise
+  rises-by : (f : Fate) (node : LedgerRouter M) (request : Request) (requests : List Request) → Means node.ledger request f →
+      Rises (journal after answer standing (next_by after answer f node request) requests) →
+      Rises (events_by after answer f node.router ++ journal after answer standing (next_by after answer f node request) requests)
+  rises-by Passed node request requests means later = later
+  rises-by (Served service (Replies given)) node request requests means later = later
+  rises-by (Served service (Executes command)) node request requests means later = (
+    journal-above requests (next_by after answer (Served service (Executes command)) node request) command.originator
+        command.number (DONE ∷ embedded_reply after answer node.router command.request)
+        (settled-command after answer node request service command means),
+    later,
+  )
+  rises-by (Served service (Queues command ticket)) node request requests means later = (
+    journal-above requests (next_by after answer (Served service (Queues command ticket)) node request) command.originator
+        command.number (PENDING ∷ []) (settled-queued after answer node request service command ticket means),
+    later,
+  )
+  rises-by (Served service (Frees freed)) node request requests means later = later
 
-    pub journal-rises : (requests : List Request) (node : LedgerRouter M) → Rises (journal after answer standing node requests)
-    journal-rises [] node = tt
-    journal-rises (request ∷ requests) node =
-        rises-by (fate standing node.ledger node.router request.0 request.1) node request requests (fate-means standing node.ledger node.router request)
-        (journal-rises requests (next after answer standing node request))
+  pub journal-rises : (requests : List Request) (node : LedgerRouter M) → Rises (journal after answer standing node requests)
+  journal-rises [] node = tt
+  journal-rises (request ∷ requests) node =
+      rises-by (fate standing node.ledger node.router request.0 request.1) node request requests (fate-means standing node.ledger node.router request)
+      (journal-rises requests (next after answer standing node request))
 
-    pub router-reached : (requests : List Request) (node : LedgerRouter M) →
-        (node_after after answer standing node requests).router ≡ router_after after answer node.router (reached after answer standing node requests)
-    router-reached [] node = refl
-    router-reached (request ∷ requests) node =
-        router-reached requests (next after answer standing node request)
-        ∙ reached-by after answer (fate standing node.ledger node.router request.0 request.1) node request (reached after answer standing (next after answer standing node request) requests)
+  pub router-reached : (requests : List Request) (node : LedgerRouter M) →
+      (node_after after answer standing node requests).router ≡ router_after after answer node.router (reached after answer standing node requests)
+  router-reached [] node = refl
+  router-reached (request ∷ requests) node =
+      router-reached requests (next after answer standing node request)
+      ∙ reached-by after answer (fate standing node.ledger node.router request.0 request.1) node request (reached after answer standing (next after answer standing node request) requests)
 
-    pub others-run : (requests : List Request) (node : LedgerRouter M) (originator : ℕ) → AllByRecursion (IsOfAnother originator) requests →
-        slot_in originator (node_after after answer standing node requests).ledger ≡ slot_in originator node.ledger
-    others-run [] node originator others = refl
-    others-run (request ∷ requests) node originator others =
-        others-run requests (next after answer standing node request) originator others.1
-        ∙ others-by after answer (fate standing node.ledger node.router request.0 request.1) node request originator (fate-means standing node.ledger node.router request) others.0
+  pub others-run : (requests : List Request) (node : LedgerRouter M) (originator : ℕ) → AllByRecursion (IsOfAnother originator) requests →
+      slot_in originator (node_after after answer standing node requests).ledger ≡ slot_in originator node.ledger
+  others-run [] node originator others = refl
+  others-run (request ∷ requests) node originator others =
+      others-run requests (next after answer standing node request) originator others.1
+      ∙ others-by after answer (fate standing node.ledger node.router request.0 request.1) node request originator (fate-means standing node.ledger node.router request) others.0
 
-    pub journal-life : (requests : List Request) (node : LedgerRouter M) (life : ℕ) →
-        option_map (λ (l : LedgerState). l.life) node.ledger ≡ Some life → AreOfLife life (journal after answer standing node requests)
-    journal-life [] node life is = tt
-    journal-life (request ∷ requests) node life is =
-        life-by after answer (fate standing node.ledger node.router request.0 request.1) node request life (journal after answer standing (next after answer standing node request) requests)
-        (fate-means standing node.ledger node.router request) is
-        (journal-life requests (next after answer standing node request) life
-        (life-next after answer (fate standing node.ledger node.router request.0 request.1) node request ∙ is))
+  pub journal-life : (requests : List Request) (node : LedgerRouter M) (life : ℕ) →
+      option_map (λ (l : LedgerState). l.life) node.ledger ≡ Some life → AreOfLife life (journal after answer standing node requests)
+  journal-life [] node life is = tt
+  journal-life (request ∷ requests) node life is =
+      life-by after answer (fate standing node.ledger node.router request.0 request.1) node request life (journal after answer standing (next after answer standing node request) requests)
+      (fate-means standing node.ledger node.router request) is
+      (journal-life requests (next after answer standing node request) life
+      (life-next after answer (fate standing node.ledger node.router request.0 request.1) node request ∙ is))
 
-    pub frees : (node : LedgerRouter M) (request : Request) (originator : ℕ) →
-        journal after answer standing node (request ∷ []) ≡ Freed originator ∷ [] → IsForgotten after answer standing node request originator
-    frees node request originator is =
-        let parts = frees-by after answer (fate standing node.ledger node.router request.0 request.1) node request originator (fate-means standing node.ledger node.router request) is in
-        record { slot = parts.0; found = parts.1; named = parts.2; free = parts.3 }
+  pub frees : (node : LedgerRouter M) (request : Request) (originator : ℕ) →
+      journal after answer standing node (request ∷ []) ≡ Freed originator ∷ [] → IsForgotten after answer standing node request originator
+  frees node request originator is =
+      let parts = frees-by after answer (fate standing node.ledger node.router request.0 request.1) node request originator (fate-means standing node.ledger node.router request) is in
+      record { slot = parts.0; found = parts.1; named = parts.2; free = parts.3 }

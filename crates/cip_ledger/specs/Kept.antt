@@ -3,7 +3,8 @@ use Rattle.std.specs.Prelude.{◌≡◌, ℕ, ◌≤◌, ◌<◌, ◌^◌, nat_l
 use Rattle.std.specs.Prelude.{unwrap_or, List, [], ◌∷◌, ◌++◌, length}
 use Rattle.std.specs.Option.{option_copied}
 use Rattle.cip_ledger.specs.declared.ledger.KeptCommand.{KeptCommand}
-use Rattle.cip_ledger.specs.Ledger.{SlotState, LedgerState, slot_of, kept_bytes, has_both, empty_ledger, AreApart, AreSlots}
+use Rattle.cip_ledger.specs.Ledger.{SlotState, LedgerState, slot_of, kept_bytes, has_both, empty_ledger, AreApart}
+use Rattle.cip_ledger.specs.Ledger.{AreSlots}
 use Rattle.cip_ledger.specs.Services.{KEPT_LIMIT}
 
 abbrev pub kept_in : KeptCommand → SlotState

@@ -1,5 +1,6 @@
 -- The command ledger's state: for each originator the greatest number that was executed or is in doubt, and its reply.
-use Rattle.std.specs.Prelude.{◌≡◌, ℕ, ◌≤◌, ◌<◌, ◌^◌, ◌==◌, ◌&&◌, Bool, false, is_some, if◌then◌else◌, Option, None, List, [], ◌∷◌, find, filter, not, length, unwrap_or}
+use Rattle.std.specs.Prelude.{◌≡◌, ℕ, ◌≤◌, ◌<◌, ◌^◌, ◌==◌, ◌&&◌, Bool, false, is_some, if◌then◌else◌, Option, None}
+use Rattle.std.specs.Prelude.{List, [], ◌∷◌, find, filter, not, length, unwrap_or}
 
 -- An originator's slot: the last of its commands, and the reply to it. Without a reply the command is pending if it has
 -- a ticket: it is in the queue of the router. Else it is in doubt: the device does not know whether it was executed.

@@ -1,6 +1,6 @@
 -- What holds of pending commands over every list of requests and of replies to their tickets.
-use Rattle.std.specs.Prelude.{◌≡◌, ℕ, ◌+◌, ◌==◌, ◌&&◌, true, false, if◌then◌else◌, Option, Some, None, List, [], ◌∷◌, ◌++◌}
-use Rattle.std.specs.Prelude.{length, option_map}
+use Rattle.std.specs.Prelude.{◌≡◌, ℕ, ◌+◌, ◌==◌, ◌&&◌, true, false, if◌then◌else◌, Option, Some, None, List, [], ◌∷◌}
+use Rattle.std.specs.Prelude.{◌++◌, length, option_map}
 use Rattle.cip_ledger.specs.declared.router.LedgerRouter.{LedgerRouter}
 use Rattle.cip_ledger.specs.declared.service.TheConstants as services
 use Rattle.cip_ledger.specs.declared.target.Standing.{Standing}
@@ -75,62 +75,63 @@ abbrev pub result_law : Type 0 → Type 0
 result_law M = (slot : SlotState) (ticket : ℕ) (steps : List (Step M)) → slot.reply ≡ None → slot.ticket ≡ Some ticket →
     last_content (slot_after slot steps) ≡ content_by (result_in ticket steps)
 
-module _ {M : Type 0} (after : M → ℕ → List ℕ → M) (answer : M → ℕ → List ℕ → List ℕ) (standing : M → List ℕ → Standing)
-  where
-    abbrev pub node_step : LedgerRouter M → Step M → LedgerRouter M
-    node_step node (Asks request) = next after answer standing node request
-    node_step node (Completes ticket reply router) = record {
-      ledger = option_map (λ ledger. completed ledger ticket reply) node.ledger;
-      router = router;
-    }
-    node_step node (Changes router) = record { ledger = node.ledger; router = router }
+module _ {M : Type 0} (after : M → ℕ → List ℕ → M) (answer : M → ℕ → List ℕ → List ℕ)
+    (standing : M → List ℕ → Standing) where
+  abbrev pub node_step : LedgerRouter M → Step M → LedgerRouter M
+  node_step node (Asks request) = next after answer standing node request
+  node_step node (Completes ticket reply router) = record {
+    ledger = option_map (λ ledger. completed ledger ticket reply) node.ledger;
+    router = router;
+  }
+  node_step node (Changes router) = record { ledger = node.ledger; router = router }
 
-    abbrev pub node_after_steps : LedgerRouter M → List (Step M) → LedgerRouter M
-    node_after_steps node [] = node
-    node_after_steps node (step ∷ steps) = node_after_steps (node_step node step) steps
+  abbrev pub node_after_steps : LedgerRouter M → List (Step M) → LedgerRouter M
+  node_after_steps node [] = node
+  node_after_steps node (step ∷ steps) = node_after_steps (node_step node step) steps
 
-    abbrev pub journal_of_step : LedgerRouter M → Step M → List Event
-    journal_of_step node (Asks request) = journal after answer standing node (request ∷ [])
-    journal_of_step node (Completes ticket reply router) = []
-    journal_of_step node (Changes router) = []
+  abbrev pub journal_of_step : LedgerRouter M → Step M → List Event
+  journal_of_step node (Asks request) = journal after answer standing node (request ∷ [])
+  journal_of_step node (Completes ticket reply router) = []
+  journal_of_step node (Changes router) = []
 
-    abbrev pub journal_of_steps : LedgerRouter M → List (Step M) → List Event
-    journal_of_steps node [] = []
-    journal_of_steps node (step ∷ steps) = journal_of_step node step ++ journal_of_steps (node_step node step) steps
+  abbrev pub journal_of_steps : LedgerRouter M → List (Step M) → List Event
+  journal_of_steps node [] = []
+  journal_of_steps node (step ∷ steps) = journal_of_step node step ++ journal_of_steps (node_step node step) steps
 
-    -- A pending command is answered by its state, and changes nothing: it is not executed again.
-    abbrev pub pending_law : Type 0
-    pending_law = (node : LedgerRouter M) (ledger : LedgerState) (request : Request) (command : Command) (ticket : ℕ) →
-        node.ledger ≡ Some ledger → IsGiven ledger request command (HEAD_SIZE + 1) →
-        IsPending ledger command.originator command.number ticket →
-        turn_at after answer standing node request
-        ≡ turn_of node.ledger node.router (reply_to services.DO_ONCE (success (PENDING ∷ [])))
+  -- A pending command is answered by its state, and changes nothing: it is not executed again.
+  abbrev pub pending_law : Type 0
+  pending_law = (node : LedgerRouter M) (ledger : LedgerState) (request : Request) (command : Command) (ticket : ℕ) →
+      node.ledger ≡ Some ledger → IsGiven ledger request command (HEAD_SIZE + 1) →
+      IsPending ledger command.originator command.number ticket →
+      turn_at after answer standing node request
+      ≡ turn_of node.ledger node.router (reply_to services.DO_ONCE (success (PENDING ∷ [])))
 
-    -- Once a reply is given to its ticket, it is answered by this reply, and changes nothing.
-    abbrev pub completed_law : Type 0
-    completed_law = (node : LedgerRouter M) (ledger : LedgerState) (request : Request) (command : Command) (ticket : ℕ)
-        (reply : List ℕ) →
-        node.ledger ≡ Some (completed ledger ticket reply) → IsGiven ledger request command (HEAD_SIZE + 1 + length reply) →
-        IsPending ledger command.originator command.number ticket → is_kept_reply reply ≡ true →
-        turn_at after answer standing node request
-        ≡ turn_of node.ledger node.router (reply_to services.DO_ONCE (success (DONE ∷ reply)))
+  -- Once a reply is given to its ticket, it is answered by this reply, and changes nothing.
+  abbrev pub completed_law : Type 0
+  completed_law = (node : LedgerRouter M) (ledger : LedgerState) (request : Request) (command : Command) (ticket : ℕ)
+      (reply : List ℕ) →
+      node.ledger ≡ Some (completed ledger ticket reply) →
+      IsGiven ledger request command (HEAD_SIZE + 1 + length reply) →
+      IsPending ledger command.originator command.number ticket → is_kept_reply reply ≡ true →
+      turn_at after answer standing node request
+      ≡ turn_of node.ledger node.router (reply_to services.DO_ONCE (success (DONE ∷ reply)))
 
-    -- two answers to a command: by its slot after the first one, and by that slot after what came between them
-    pub record AreAnswersOf (node : LedgerRouter M) (first : Request) (between : List (Step M)) (again : Request)
-        (originator : ℕ) : Type 0 where
-      pub slot : SlotState
-      pub found : slot_in originator (next after answer standing node first).ledger ≡ Some slot
-      pub first_is : answer_to after answer standing node first ≡ reply_to services.DO_ONCE (success (last_content slot))
-      pub again_is :
-          answer_to after answer standing (node_after_steps (next after answer standing node first) between) again
-          ≡ reply_to services.DO_ONCE (success (last_content (slot_after slot between)))
+  -- two answers to a command: by its slot after the first one, and by that slot after what came between them
+  pub record AreAnswersOf (node : LedgerRouter M) (first : Request) (between : List (Step M)) (again : Request)
+      (originator : ℕ) : Type 0 where
+    pub slot : SlotState
+    pub found : slot_in originator (next after answer standing node first).ledger ≡ Some slot
+    pub first_is : answer_to after answer standing node first ≡ reply_to services.DO_ONCE (success (last_content slot))
+    pub again_is :
+        answer_to after answer standing (node_after_steps (next after answer standing node first) between) again
+        ≡ reply_to services.DO_ONCE (success (last_content (slot_after slot between)))
 
-    -- Every two success answers to a number have the same bytes, or the first says that the command is pending, and the
-    -- other one has its one result. So no answer goes back (`done_law`, `result_law`).
-    abbrev pub never_back_law : Type 0
-    never_back_law = (node : LedgerRouter M) (first again : Request) (between : List (Step M)) (originator number : ℕ) →
-        Succeeds after answer standing node first originator number →
-        Succeeds after answer standing (node_after_steps (next after answer standing node first) between) again originator
-        number →
-        IsNotFreed originator (journal_of_steps (next after answer standing node first) between) →
-        AreAnswersOf node first between again originator
+  -- Every two success answers to a number have the same bytes, or the first says that the command is pending, and the
+  -- other one has its one result. So no answer goes back (`done_law`, `result_law`).
+  abbrev pub never_back_law : Type 0
+  never_back_law = (node : LedgerRouter M) (first again : Request) (between : List (Step M)) (originator number : ℕ) →
+      Succeeds after answer standing node first originator number →
+      Succeeds after answer standing (node_after_steps (next after answer standing node first) between) again originator
+      number →
+      IsNotFreed originator (journal_of_steps (next after answer standing node first) between) →
+      AreAnswersOf node first between again originator

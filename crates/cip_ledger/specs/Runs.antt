@@ -1,5 +1,6 @@
 -- Runs of requests through a ledger and the router behind it.
-use Rattle.std.specs.Prelude.{◌≡◌, ℕ, ◌==◌, ◌&&◌, nat_lt, if◌then◌else◌, Option, Some, None, List, [], ◌∷◌, ◌++◌, length}
+use Rattle.std.specs.Prelude.{◌≡◌, ℕ, ◌==◌, ◌&&◌, nat_lt, if◌then◌else◌, Option, Some, None, List, [], ◌∷◌, ◌++◌}
+use Rattle.std.specs.Prelude.{length}
 use Rattle.cip_bytes.specs.Numbers.{number_at}
 use Rattle.cip_ledger.specs.declared.router.LedgerRouter.{LedgerRouter}
 use Rattle.cip_ledger.specs.declared.service.TheConstants as services
@@ -81,39 +82,39 @@ module _ {M : Type 0} (after : M → ℕ → List ℕ → M) (answer : M → ℕ
   router_after router [] = router
   router_after router (request ∷ requests) = router_after (after router request.0 request.1) requests
 
-module _ {M : Type 0} (after : M → ℕ → List ℕ → M) (answer : M → ℕ → List ℕ → List ℕ) (standing : M → List ℕ → Standing)
-  where
-    abbrev pub turn_at : LedgerRouter M → Request → Turn M
-    turn_at node request = turn after answer standing node.ledger node.router request.0 request.1
+module _ {M : Type 0} (after : M → ℕ → List ℕ → M) (answer : M → ℕ → List ℕ → List ℕ)
+    (standing : M → List ℕ → Standing) where
+  abbrev pub turn_at : LedgerRouter M → Request → Turn M
+  turn_at node request = turn after answer standing node.ledger node.router request.0 request.1
 
-    -- the reply to a request
-    abbrev pub answer_to : LedgerRouter M → Request → List ℕ
-    answer_to node request = (turn_at node request).answer
+  -- the reply to a request
+  abbrev pub answer_to : LedgerRouter M → Request → List ℕ
+  answer_to node request = (turn_at node request).answer
 
-    -- the ledger and the router after a request, and after several
-    abbrev pub next : LedgerRouter M → Request → LedgerRouter M
-    next node request = node_of (turn_at node request)
+  -- the ledger and the router after a request, and after several
+  abbrev pub next : LedgerRouter M → Request → LedgerRouter M
+  next node request = node_of (turn_at node request)
 
-    abbrev pub node_after : LedgerRouter M → List Request → LedgerRouter M
-    node_after node [] = node
-    node_after node (request ∷ requests) = node_after (next node request) requests
+  abbrev pub node_after : LedgerRouter M → List Request → LedgerRouter M
+  node_after node [] = node
+  node_after node (request ∷ requests) = node_after (next node request) requests
 
-    -- the events of a run, in order
-    abbrev pub journal : LedgerRouter M → List Request → List Event
-    journal node [] = []
-    journal node (request ∷ requests) =
-        events_by after answer (fate standing node.ledger node.router request.0 request.1) node.router
-        ++ journal (next node request) requests
+  -- the events of a run, in order
+  abbrev pub journal : LedgerRouter M → List Request → List Event
+  journal node [] = []
+  journal node (request ∷ requests) =
+      events_by after answer (fate standing node.ledger node.router request.0 request.1) node.router
+      ++ journal (next node request) requests
 
-    -- what reaches the router, in order: each request that is not to the ledger, and the embedded request of each
-    -- command that is executed, unless it is barred
-    abbrev pub reached : LedgerRouter M → List Request → List Request
-    reached node [] = []
-    reached node (request ∷ requests) =
-        reached_by after answer (fate standing node.ledger node.router request.0 request.1) request
-        ++ reached (next node request) requests
+  -- what reaches the router, in order: each request that is not to the ledger, and the embedded request of each
+  -- command that is executed, unless it is barred
+  abbrev pub reached : LedgerRouter M → List Request → List Request
+  reached node [] = []
+  reached node (request ∷ requests) =
+      reached_by after answer (fate standing node.ledger node.router request.0 request.1) request
+      ++ reached (next node request) requests
 
-    -- whatever the router executes, it queues and refuses no command
-    abbrev pub StaysFinal : M → Type 0
-    StaysFinal router = (requests : List Request) (request : List ℕ) →
-        standing (router_after after answer router requests) request ≡ standings.Final
+  -- whatever the router executes, it queues and refuses no command
+  abbrev pub StaysFinal : M → Type 0
+  StaysFinal router = (requests : List Request) (request : List ℕ) →
+      standing (router_after after answer router requests) request ≡ standings.Final

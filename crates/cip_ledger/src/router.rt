@@ -132,7 +132,8 @@ impl<R: Target> Router for LedgerRouter<R> {
     }
 
     ghost too_large = { λ node max_size request max_size_from status.
-        turn-too_large R.after R.answer R.standing R.too_large (λ ledger router. record { ledger = ledger; router = router })
+        turn-too_large R.after R.answer R.standing R.too_large
+        (λ ledger router. record { ledger = ledger; router = router })
         node.ledger node.router max_size request max_size_from status };
 }
 
