@@ -33,7 +33,7 @@ use Rattle.enip_adapter.specs.OwnWrites.{OwnWrite, WritesData, WritesAttribute, 
 use Rattle.enip_adapter.specs.QueueLaws.{is_waiting, PendingWait}
 use Rattle.enip_adapter.specs.Runs.{after_calls}
 use Rattle.enip_adapter.proofs.DeviceLemmas.{calls-end}
-use Rattle.enip_adapter.proofs.SettleLemmas.{finished-written}
+use Rattle.enip_adapter.proofs.SettleLemmas.{finished_written}
 use Rattle.enip_adapter.proofs.StandingLemmas.{Stands, fate-stands, IsFree, fate-free}
 
 -- ---- what waits goes on to wait while others are pushed
@@ -279,7 +279,7 @@ module _ (given : ℕ) (reply : Reply) (device : Device) (wait : PendingWait dev
   by-queue (Some queue) e = by-command queue (command_of given queue.waiting) e
 
   finished-wait : PendingWait (device_written (Finishes given reply) device)
-  finished-wait = subst PendingWait (finished-written given reply device) (by-queue device.router.queue refl)
+  finished-wait = subst PendingWait (finished_written given reply device) (by-queue device.router.queue refl)
 
 -- ---- the device's own writes
 

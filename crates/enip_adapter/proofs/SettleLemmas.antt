@@ -228,9 +228,9 @@ finished-router ticket reply device = by_queue device.router.queue refl
     by_queue None e = ap (with_queue device.router) e
     by_queue (Some queue) e = by_command queue (waiting_command ticket queue.waiting) e
 
-pub finished-written : (ticket : ℕ) (reply : Reply) (device : Device)
+pub finished_written : (ticket : ℕ) (reply : Reply) (device : Device)
     → unwrap_or (finished_in ticket reply device) device ≡ device_written (Finishes ticket reply) device
-finished-written ticket reply device =
+finished_written ticket reply device =
     ap (λ router. let d : Device = record {
       ledger = (unwrap_or (finished_in ticket reply device) device).ledger;
       router = router;

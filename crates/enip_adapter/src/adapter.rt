@@ -587,6 +587,7 @@ impl Adapter {
     ///     adapter.finish(ticket, &reply);
     /// }
     /// ```
+    #[tactic(auto, using(crate::proofs::SettleLemmas::finished_written))]
     pub fn finish(&mut self, ticket: u32, reply: &OwnerReply) -> bool
         ensures written { self.new ≡ with_device self.old (unwrap_or
             (finished_in ticket reply.now self.old.state.shared.objects) self.old.state.shared.objects) }
