@@ -1,7 +1,7 @@
 -- The queue has given the ticket of each pending command, after every step of a device.
 use Rattle.std.proofs.Common.{◌≡◌, ℕ, ◌<◌, ◌≤◌, ◌^◌, ◌==◌, ◌&&◌, nat_lt, not, Bool, true, false, if◌then◌else◌, Option, Some}
-use Rattle.std.proofs.Common.{None, List, [], ◌∷◌, ◌++◌, ◌+◌, length, map, refl, ap, sym, ◌∙◌, subst, arith, Result, Ok, Err}
-use Rattle.std.specs.Prelude.{⊤, option_map, is_some, IfSome}
+use Rattle.std.proofs.Common.{None, List, [], ◌∷◌, ◌+◌, length, map, refl, ap, sym, ◌∙◌, subst, arith, Result, Ok, Err}
+use Rattle.std.specs.Prelude.{⊤, option_map, IfSome}
 use Rattle.std.proofs.lemmas.Bool.{and_parts}
 use Rattle.std.proofs.lemmas.Bool.Decides.{nat_tests}
 use Rattle.cip_ledger.specs.declared.target.Standing.{Standing}

@@ -1,5 +1,7 @@
 pub mod SavingLemmas
 pub mod QueueStays
+pub mod QueuePuts
+pub mod TicketSlots
 pub mod GivenTickets
 pub mod LedgerStays
 pub mod PutBack

@@ -1,6 +1,6 @@
 -- What a device executes over restarts that go on with its ledger and its queue.
 use Rattle.std.proofs.Common.{◌≡◌, ◌≢◌, ℕ, ◌+◌, ◌<◌, ◌&&◌, Bool, true, false, if◌then◌else◌, Option, Some, None, List, [], ◌∷◌}
-use Rattle.std.proofs.Common.{◌++◌, refl, ap, sym, ◌∙◌, subst, arith, ◌⊎◌, inl, inr, unwrap_or}
+use Rattle.std.proofs.Common.{◌++◌, refl, ap, sym, ◌∙◌, subst, arith, ◌⊎◌, inl, inr}
 use Rattle.std.specs.Prelude.{option_map, is_some, not}
 use Rattle.std.specs.List.{AllByRecursion}
 use Rattle.cip_ledger.specs.declared.service.TheConstants as services
@@ -367,6 +367,10 @@ pending_or_not slot None (Some given) none t = inl (content_by slot None (Some g
 pending_or_not slot None None none t =
     inr (other_state (last_content slot) IN_DOUBT [] (content_by slot None None none t) (λ e. omega (arith, e)))
 
+either : {A B C : Type 0} → A ⊎ B → (A → C) → (B → C) → C
+either (inl a) one other = one a
+either (inr b) one other = other b
+
 pub same_answer : (own : Sizes) (device : Device) (first again : Request) (between : List LifeStep)
     (originator number : ℕ) → AreGoingOn own device (Does (Requested first) ∷ between)
     → AllByRecursion (SettlesNothingOf originator) between
@@ -380,32 +384,19 @@ pub same_answer : (own : Sizes) (device : Device) (first again : Request) (betwe
     ⊎ (answer_to objects_after objects_answer owned_standing device first
     ≡ reply_to services.DO_ONCE (success (PENDING ∷ [])))
 same_answer own device first again between originator number are others is again_is kept =
-    by (pending_or_not s.slot s.slot.reply s.slot.ticket refl refl)
-  where
-    s = settles objects_after objects_answer owned_standing device first originator number is
-
-    next : Device
-    next = after_life_step device (Does (Requested first))
-
-    last : Device
-    last = after_life_steps next between
-
-    by : (last_content s.slot ≡ PENDING ∷ []) ⊎ NotPending (last_content s.slot)
-        → (answer_to objects_after objects_answer owned_standing last again
-        ≡ answer_to objects_after objects_answer owned_standing device first)
-        ⊎ (answer_to objects_after objects_answer owned_standing device first
-        ≡ reply_to services.DO_ONCE (success (PENDING ∷ [])))
-    by (inl pending) =
-        inr (s.answered ∙ ap (λ c. reply_to services.DO_ONCE (success c)) (sym s.content_is ∙ pending))
-    by (inr final) =
-        let still : NotPending s.content = subst NotPending s.content_is final in
-        inl (again-by objects_after objects_answer last again originator number again_is.has_ledger again_is.command
-        again_is.given again_is.originator_is again_is.number_is
-        (fate owned_standing last.ledger last.router again.0 again.1) s.content
-        (fate-means owned_standing last.ledger last.router again)
-        (stays_settled own next between originator number s.content
-        (later own device (Does (Requested first)) between are) others kept still s.settled) again_is.status_is
-        ∙ sym s.answered)
+    let s = settles objects_after objects_answer owned_standing device first originator number is in
+    let next = after_life_step device (Does (Requested first)) in
+    let last = after_life_steps next between in
+    either (pending_or_not s.slot s.slot.reply s.slot.ticket refl refl)
+    (λ pending. inr (s.answered ∙ ap (λ c. reply_to services.DO_ONCE (success c)) (sym s.content_is ∙ pending)))
+    (λ final. inl (again-by objects_after objects_answer last again originator number again_is.has_ledger again_is.command
+    again_is.given again_is.originator_is again_is.number_is
+    (fate owned_standing last.ledger last.router again.0 again.1) s.content
+    (fate-means owned_standing last.ledger last.router again)
+    (stays_settled own next between originator number s.content
+    (later own device (Does (Requested first)) between are) others kept (subst NotPending s.content_is final) s.settled)
+    again_is.status_is
+    ∙ sym s.answered))
 
 -- ---- the queue
 

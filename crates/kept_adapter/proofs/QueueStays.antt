@@ -1,5 +1,5 @@
 -- A queue has the same number of places after every step.
-use Rattle.std.proofs.Common.{◌≡◌, ℕ, Bool, true, false, if◌then◌else◌, Option, Some, None, unwrap_or, List, [], ◌∷◌, refl, ◌∙◌}
+use Rattle.std.proofs.Common.{◌≡◌, ℕ, true, false, if◌then◌else◌, Option, Some, None, unwrap_or, List, [], ◌∷◌, refl, ◌∙◌}
 use Rattle.cip_owner.specs.Queue.{QueueState, QueuedCommand, takes, pushed, command_of, can_be_reply, with_finished}
 use Rattle.cip_owner.specs.Queue.{finished_by}
 use Rattle.cip_owner.specs.QueueRuns.{QueueStep, Pushes, Finishes, after_step, after_steps}

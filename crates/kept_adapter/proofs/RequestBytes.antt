@@ -2,7 +2,7 @@
 use Rattle.std.proofs.Common.{◌≡◌, ℕ, zero, suc, ◌+◌, ◌==◌, ◌&&◌, nat_lt, not, Bool, true, false, if◌then◌else◌, Option}
 use Rattle.std.proofs.Common.{Some}
 use Rattle.std.proofs.Common.{None, List, [], ◌∷◌, ◌++◌, map, length, take, drop, Result, Ok, Err, refl, sym, subst}
-use Rattle.std.proofs.Common.{lit<}
+use Rattle.std.proofs.Common.{lit<, ap, ◌∙◌}
 use Rattle.std.specs.Prelude.{⊤, find, option_map}
 use Rattle.std.specs.List.{AllByRecursion}
 use Rattle.cip_bytes.specs.Numbers.{number_at, AreBytes}
@@ -414,13 +414,13 @@ new_places None = refl
 new_places (Some n) = refl
 
 -- the sizes of an adapter that starts from nothing
+abbrev sized : Option ℕ → Option ℕ → Sizes
+sized slots places = record { slots = slots; places = places }
+
 first_sizes : (start : AdapterStart) → sizes_of (started start []).state.shared.objects ≡ configured_sizes start
 first_sizes start =
     ap (λ n. sized n (places_of (new_queue start.queue))) (new_slots start.ledger)
-    ∙ ap (sized (configured_sizes start).slots) (new_places start.queue)
-  where
-    sized : Option ℕ → Option ℕ → Sizes
-    sized slots places = record { slots = slots; places = places }
+    ∙ ap (sized (option_map (λ l. l.originators) start.ledger)) (new_places start.queue)
 
 -- An adapter that starts from nothing, over any calls and restarts.
 pub from_nothing : (start : AdapterStart) (steps : List AdapterStep) → IsConfiguration start

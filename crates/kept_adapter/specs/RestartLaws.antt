@@ -28,7 +28,7 @@ use Rattle.kept_adapter.specs.Restarts.{AdapterStep, adapter_after, steps_over_r
 use Rattle.kept_adapter.specs.Restarts.{RestartsTables, IsKeptOfAdapter, MayBeLeft, HoldsBytes, IsAdapterStep}
 use Rattle.kept_adapter.specs.Restarts.{RestartsGoOn}
 use Rattle.kept_adapter.specs.Restarts.{HasValues, IsServing, KeepsTables, HasObjects, IsRestartable, IsConfiguration, IsStep}
-use Rattle.kept_adapter.specs.Restarts.{Sizes, sizes_of, configured_sizes, GoesOn, IsGoingOn, queue_steps_over_restarts}
+use Rattle.kept_adapter.specs.Restarts.{sizes_of, configured_sizes, GoesOn, IsGoingOn, queue_steps_over_restarts}
 use Rattle.kept_adapter.specs.Restarts.{IsLedgerAfter, IsQueueAfter, SettlesNothingOf, IsOnceInEachLife, BeginNewLives}
 use Rattle.kept_adapter.specs.Saved.{saved_adapter, saved_objects}
 use Rattle.kept_adapter.specs.Started.{started}

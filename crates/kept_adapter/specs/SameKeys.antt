@@ -40,7 +40,7 @@ use Rattle.cip_bytes.specs.Numbers.{le}
 use Rattle.cip_owner.specs.Owned.{OwnedState, exec_owned, by_owner, given, refused_with, answered, is_fit, of_kind, queued}
 use Rattle.cip_owner.specs.Owned.{after_reply, stored_at, answer_with, NOT_PREPARED, RESOURCE_UNAVAILABLE}
 use Rattle.cip_owner.specs.Queue.{QueueState, takes, pushed}
-use Rattle.cip_owner.specs.QueueRuns.{QueueStep, after_steps}
+use Rattle.cip_owner.specs.QueueRuns.{after_steps}
 use Rattle.cip_owner.specs.Replies.{Reply}
 use Rattle.device_state.specs.Keys.{key_of}
 use Rattle.device_state.specs.Saved.{value_entry}

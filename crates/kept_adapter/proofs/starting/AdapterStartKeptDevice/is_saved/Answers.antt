@@ -1,6 +1,14 @@
-use Rattle.kept_adapter.proofs.CompareLemmas.{compared}
+use Rattle.kept_adapter.proofs.CompareLemmas.{compared, false_is, other_ledger}
 use Rattle.kept_adapter.proofs.starting.AdapterStartKeptDevice.is_saved.Goals as goal
 
 pub returns-in-Some : goal.returns-in-Some
 returns-in-Some c =
-    compared c.are_of_ledger.result c.objects-objects.ensures c.ledger.ensures c.in-Some.ensures.same c.are_of_ledger.ensures
+    compared c.objects-objects.ensures c.ledger.ensures c.queue.ensures c.are_of_queue.result
+    c.in-Some-behind.ensures.same c.in-Some.ensures.same c.are_of_queue.ensures
+
+pub returns-in-None : goal.returns-in-None
+returns-in-None c = (
+  false_is _,
+  λ same. absurd (other_ledger c.objects-objects.ensures c.ledger.ensures c.queue.ensures c.in-Some-behind.ensures.same
+      c.in-None.ensures.other same),
+)
