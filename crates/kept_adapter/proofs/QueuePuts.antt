@@ -1,5 +1,5 @@
 -- An entry that is put back into a queue, as the code does it.
-use Rattle.std.proofs.Common.{◌≡◌, ℕ, Bool, true, false, Option, Some, None, is_some, unwrap_or, List, refl, ap, sym, ◌∙◌}
+use Rattle.std.proofs.Common.{◌≡◌, ℕ, true, false, Option, Some, None, is_some, unwrap_or, List, ap, sym, ◌∙◌}
 use Rattle.cip_owner.specs.Queue.{QueueState}
 use Rattle.device_state.specs.QueueEntries.{queue_put}
 use Rattle.kept_adapter.specs.declared.queue_progress.QueueProgress.{QueueProgress}
