@@ -39,8 +39,8 @@ pub struct Fed {
 /// The number of a queued service in C, `ENIP_CONFIG_QUEUED`.
 pub(crate) const QUEUED_NUMBER: u32 = 16;
 
-/// The number of a check in C. The lists of the table `access` have 14, since 13 is the number of `ENIP_CONFIG_ORDER`, and
-/// the table `commands` has 15.
+/// The number of a check in C. The lists of the table `access` have 14, since 13 is the number of `ENIP_CONFIG_ORDER`.
+/// The table `commands` has 15.
 pub(crate) fn check_number(refusal: ConfigurationRefusal) -> u32
     ensures { result ≡ check_number refusal }
 {

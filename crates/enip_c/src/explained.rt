@@ -34,8 +34,8 @@ impl ExplainOutcome {
     }
 }
 
-/// Writes what is wrong with the text of a configuration, and in which line, or which of its services is queued. Returns the
-/// length of this text. Returns 0 if nothing is wrong, and also if memory runs out or the text does not fit.
+/// Writes what is wrong with the text of a configuration, and in which line, or which of its services is queued. Returns
+/// the length of this text. Returns 0 if nothing is wrong, and also if memory runs out or the text does not fit.
 #[unsafe(no_mangle)]
 pub extern "C" fn enip_core_explain(alloc: Global, text: &[u8], buffer: &mut [u8]) -> usize
     ensures { IsExplainedToC text.now buffer.old buffer.new result }

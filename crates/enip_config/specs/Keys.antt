@@ -172,4 +172,4 @@ queue_in _ = None
 -- the table `commands`, if there is one
 abbrev pub queue_of : Members → Option (Option ℕ)
 queue_of described =
-    read_or (Some None) (λ value. option_map (λ queue. Some queue) (queue_in value)) (get_member (codes "commands") described)
+    read_or (Some None) (λ value. option_map (λ limit. Some limit) (queue_in value)) (get_member (codes "commands") described)

@@ -76,7 +76,8 @@ impl Configuration {
     ///
     /// `LoadFault::Refused` with the first check that fails, in this order: `NotToml` (7); `UnknownKey` (9) if any key
     /// is unknown; `BadValue` (8) if a required key is missing, or a value has another type or is out of range; the
-    /// checks of the objects (1 to 5, 10 to 12); `Access` (13); `Commands` (14). `LoadFault::Memory` if memory is refused.
+    /// checks of the objects (1 to 5, 10 to 12); `Access` (13); `Commands` (14). `LoadFault::Memory` if memory is
+    /// refused.
     pub fn from_bytes(alloc: Global, bytes: &[u8]) -> Result<Configuration, LoadFault>
         ensures read { IfOk result (IsDescribed bytes.now) }
         ensures in_range { IfOk result IsInRange }

@@ -106,9 +106,9 @@ pub(crate) enum Problem {
     Check(u8),
 }
 
-/// A location in a configuration: a key at the top level, a key of the table `counter`, `ledger`, `commands` or `access`,
-/// one of the tables `assembly` or `object`, from 0, or a key of one. A part of an object is one of its tables
-/// `attribute` or `service`, from 0.
+/// A location in a configuration: a key at the top level, a key of the table `counter`, `ledger`, `commands` or
+/// `access`, one of the tables `assembly` or `object`, from 0, or a key of one. A part of an object is one of its
+/// tables `attribute` or `service`, from 0.
 #[derive(Clone, Copy)]
 pub(crate) enum Location<'a> {
     Text(&'a str),
@@ -219,7 +219,8 @@ fn problem_in(alloc: Global, bytes: &[u8]) -> Result<Option<(Option<usize>, Prob
     }
 }
 
-/// What is wrong with the table `commands` of a refused configuration that passes all other checks: no service is queued.
+/// What is wrong with the table `commands` of a refused configuration that passes all other checks: no service is
+/// queued.
 fn queue_problem(text: &Table) -> Option<(Location<'static>, Problem)> {
     text.get("commands")?;
     Some((Location::Text("commands"), Problem::NoQueuedService))

@@ -21,7 +21,7 @@ const REQUIRED: [&str; 7] = [
 ];
 
 /// The required keys that are missing, if there are any. Otherwise the first bad value, in this order: the numbers, the
-/// name, the address, the counter, the assemblies, the ledger, the table `commands`, the table `access`, the own objects.
+/// name, the address, the counter, the assemblies, the tables `ledger`, `commands` and `access`, the own objects.
 pub(crate) fn bad_value(text: &Table) -> Option<(Location<'static>, Problem)> {
     if let Some((key, problem)) = missing_in(text, &REQUIRED) {
         return Some((Location::Text(key), problem));

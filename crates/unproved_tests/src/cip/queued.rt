@@ -1,5 +1,5 @@
-//! Queued commands at the objects: a row for each line of the tables, and for each pair of checks that follow one another.
-//! The bytes are written out from the tables of docs/PROTOCOL.md.
+//! Queued commands at the objects: a row for each line of the tables, and for each pair of checks that follow one
+//! another. The bytes are written out from the tables of docs/PROTOCOL.md.
 
 use cip_application::GET_RESULT;
 use cip_objects::{ReplyBuf, Router};

@@ -33,8 +33,8 @@ fn start_in(alloc: Global, life: u64) -> Result<AdapterStart, Fail> {
     start_of(config(alloc)?, None, life)
 }
 
-/// A device of these objects with a ledger, which is in this life if its ledger starts empty, and with a queue of so many
-/// commands if there is one.
+/// A device of these objects with a ledger, which is in this life if its ledger starts empty, and with a queue of so
+/// many commands if there is one.
 fn start_of(objects: Config, queue: Option<u16>, life: u64) -> Result<AdapterStart, Fail> {
     Ok(AdapterStart {
         objects,
@@ -209,8 +209,8 @@ fn command_three(rt: &impl Abort, alloc: Global, adapter: &mut Adapter) -> Resul
     Ok(())
 }
 
-/// A queue goes on over a restart: what waits and in which order, the results, the next ticket, and what is pending in the
-/// ledger.
+/// A queue goes on over a restart: what waits and in which order, the results, the next ticket, and what is pending in
+/// the ledger.
 #[test]
 fn a_queue_goes_on(rt: HostRuntime) -> Result<(), Fail> {
     let alloc = rt.alloc();

@@ -11,8 +11,8 @@ use std::process::Abort;
 use std::test::Fail;
 use test_fixtures::queue::{queued_objects, reply};
 
-/// Service 0x33 of class 768, instance 1, which is queued, with the data 5; the same of instance 3, which does not have it;
-/// and the largest queued service, of instance 2.
+/// Service 0x33 of class 768, instance 1, which is queued, with the data 5. The same of instance 3, which does not have
+/// it. The largest queued service, of instance 2.
 const QUEUED: &[u8] = b"\x33\x03\x21\x00\x00\x03\x24\x01\x05\x00\x00\x00";
 
 const ABSENT: &[u8] = b"\x33\x03\x21\x00\x00\x03\x24\x03\x05\x00\x00\x00";
