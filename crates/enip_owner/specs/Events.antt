@@ -19,6 +19,7 @@ use Rattle.cip_values.specs.Values.{Value, AreBytesOf, IsReadFault}
 use Rattle.cip_values.specs.declared.element.ValueType.{ValueType}
 use Rattle.cip_values.specs.declared.fault.ValueFault.{ValueFault}
 use Rattle.cip_values.specs.declared.fault.ValueFault.TheVariants as value_faults
+use Rattle.enip_commands.specs.InputLines.{has_newline}
 use Rattle.enip_commands.specs.Json.{IsJsonOf}
 use Rattle.enip_owner.specs.declared.attribute_ref.AttributeRef.{AttributeRef}
 use Rattle.enip_owner.specs.declared.line_buffer.TheConstants.{LINE_LIMIT}
@@ -31,11 +32,12 @@ use Rattle.enip_owner.specs.declared.event.EndedEvent.{EndedEvent}
 
 -- ---- lines
 
--- A line has the text of a JSON value with nothing between its tokens, of at most 64 KiB, and a newline. The text reads
--- as that value.
+-- A line has the text of a JSON value with nothing between its tokens, of at most 64 KiB and without a newline, and a
+-- newline. The text reads as that value.
 pub record IsLineOf (j : Json) (line : List ℕ) : Type 0 where
   pub text : line ≡ print (json_tokens j) ++ codes "\n"
   pub short : length (print (json_tokens j)) ≤ LINE_LIMIT
+  pub one_line : has_newline (print (json_tokens j)) ≡ false
   pub reads_back : document (print (json_tokens j)) ≡ Some j
 
 abbrev pub IsUnwritten : Json → EventFault → Type 0
