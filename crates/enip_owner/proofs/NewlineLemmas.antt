@@ -4,7 +4,7 @@ use Rattle.std.specs.Prelude.{⊤}
 use Rattle.std.specs.Char.{is_ascii_digit}
 use Rattle.std.specs.List.{prefix_len}
 use Rattle.std.specs.Option.{option_and_then}
-use Rattle.std.proofs.lemmas.Bool.{and_parts, or_cases, or_from, eqb-true, leb-true, le-ltb, ne_eqb, cases_eq, cases_lt, true≢false}
+use Rattle.std.proofs.lemmas.Bool.{and_parts, or_cases, or_from, eqb-true, leb-true, le-ltb, ne_eqb, cases_eq, cases_lt}
 use Rattle.std.proofs.lemmas.List.Folds.{list_any-append}
 use Rattle.json.specs.Print.{escape_byte, escape, quoted, token_text, ends, begins, separator, print_from, IsNumber, IsPrintableOrBad, ArePrintableOrBad}
 use Rattle.json.specs.Token.{Token, begin_object, end_object, begin_array, end_array, key, string, number, boolean, null, bad}
@@ -131,20 +131,24 @@ few_escaped : none_escaped_below 93 ≡ true
 unfolding escape_byte
 few_escaped = refl
 
+no_other : (byte other : ℕ) → 93 ≤ byte → other < 93 → (byte == other) ≡ false
+no_other byte other least below = ne_eqb byte other (λ same. omega (arith, same, least, below))
+
 -- A byte that has no escape.
 unescaped : (byte : ℕ) → 93 ≤ byte → has_newline (escape_byte byte) ≡ false
 unfolding escape_byte
 unescaped byte least =
-    let no = λ (other : ℕ) (below : other < 93). ne_eqb byte other (λ same. omega (arith, same, least, below)) in
-    let no34 : (byte == 34) ≡ false = no 34 (omega arith) in
-    let no92 : (byte == 92) ≡ false = no 92 (omega arith) in
-    let no8 : (byte == 8) ≡ false = no 8 (omega arith) in
-    let no12 : (byte == 12) ≡ false = no 12 (omega arith) in
-    let no10 : (byte == 10) ≡ false = no 10 (omega arith) in
-    let no13 : (byte == 13) ≡ false = no 13 (omega arith) in
-    let no9 : (byte == 9) ≡ false = no 9 (omega arith) in
-    let printed : nat_lt byte 32 ≡ false = le-ltb 32 byte (omega (arith, least)) in
-    rw (no34, no92, no8, no12, no10, no13, no9, printed) (or_from (byte == 10) false no10 refl)
+    let no10 : (byte == 10) ≡ false = no_other byte 10 least (omega arith) in
+    rw (
+      no_other byte 34 least (omega arith),
+      no_other byte 92 least (omega arith),
+      no_other byte 8 least (omega arith),
+      no_other byte 12 least (omega arith),
+      no10,
+      no_other byte 13 least (omega arith),
+      no_other byte 9 least (omega arith),
+      le-ltb byte 32 (omega (arith, least)),
+    ) (or_from (byte == 10) false no10 refl)
 
 none_in_byte : (byte : ℕ) → has_newline (escape_byte byte) ≡ false
 none_in_byte byte =
