@@ -54,7 +54,7 @@ same-size true x y ys zs h = omega (arith, h)
 same-size false x y ys zs h = h
 
 -- A peer fewer.
-count-without : (group n : ℕ) (xs : List Session)
+pub count-without : (group n : ℕ) (xs : List Session)
     → peers_of_group group (without_first handle_of n xs) ≤ peers_of_group group xs
 count-without group n [] = omega arith
 count-without group n (x ∷ xs) = go (count-without group n xs) (eqb x.handle n)

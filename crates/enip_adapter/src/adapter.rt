@@ -1,7 +1,7 @@
 //! The adapter: its peers, and the calls that change it.
 //! Text: docs/PROTOCOL.md, "A peer".
 
-ghost use Rattle.std.specs.Prelude.{◌≡◌, ◌<◌, ◌≤◌, ◌-◌, length, slice_index_or, false, not};
+ghost use Rattle.std.specs.Prelude.{◌≡◌, ◌<◌, ◌≤◌, ◌-◌, length, slice_index_or, false, not, nat_lt};
 ghost use Rattle.std.specs.Prelude.{IfOk, OnErr, IfSome, Some, None, is_some, is_none, unwrap_or};
 ghost use Rattle.std.specs.Borrow.{sem};
 ghost use Rattle.std.specs.Io.BufRead.{Rests};
@@ -632,6 +632,20 @@ impl Adapter {
         ensures { result ≡ not (has_share self.now.state.shared.share self.now.state.peers group) }
     {
         !self.places.has_share(self.shared.share, group)
+    }
+
+    /// Whether a session handle is left. If none is, `begin_as` refuses each further peer with `Full::Handles`, however
+    /// many slots are free.
+    ///
+    /// ```
+    /// if !adapter.has_handle() {
+    ///     // no peer begins any more, whoever ends
+    /// }
+    /// ```
+    pub fn has_handle(&self) -> bool
+        ensures { result ≡ not (nat_lt 0xffffffff self.now.state.next_handle) }
+    {
+        self.next_handle <= u64::from(u32::MAX)
     }
 
     /// Whether a peer is held and not closed.

@@ -16,7 +16,7 @@ use Rattle.enip_adapter.specs.Turn.{Output, Answer}
 use Rattle.enip_adapter.specs.Turn.Output.{NoReply, Sends, Begins, Refuses}
 use Rattle.enip_config.specs.declared.fault.ConfigurationRefusal.{ConfigurationRefusal}
 use Rattle.enip_config.specs.declared.fault.ConfigurationRefusal.TheVariants as refused
-use Rattle.enip_config.specs.Configured.{IsAdapterOf}
+use Rattle.configured_adapter.specs.Configured.{IsAdapterOf}
 use Rattle.enip_config.specs.Refusals.{refusal_number}
 use Rattle.enip_config.specs.Documents.{IsRefused}
 use Rattle.enip_c.specs.declared.adapter.Fed.{Fed}

@@ -10,7 +10,7 @@ use Rattle.enip_adapter.specs.Executing.{executing}
 use Rattle.enip_adapter.specs.OwnWrites.{can_settle_in}
 use Rattle.enip_config.specs.declared.configuration.Configuration.{Configuration}
 use Rattle.enip_config.specs.declared.ledger.LedgerConfig.{LedgerConfig}
-use Rattle.enip_config.specs.Configured.{listen_of, limits_of, shares_from}
+use Rattle.configured_adapter.specs.Configured.{listen_of, limits_of, shares_from}
 use Rattle.enip_config.specs.Documents.{IsDescribed, IsRefused}
 use Rattle.enip_c.specs.AdapterCalls.{check_number}
 use Rattle.kept_adapter.specs.declared.adapter_start.AdapterStart.{AdapterStart}

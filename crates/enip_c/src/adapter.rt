@@ -6,7 +6,7 @@ ghost use Rattle.enip_adapter.specs.Adapter.{feed_output};
 ghost use Rattle.enip_adapter.specs.declared.peer.Rights.TheVariants.{Write};
 ghost use Rattle.enip_adapter.specs.Calls.{Call, after_call, call_answer};
 ghost use Rattle.enip_adapter.specs.Discovery.{discovered};
-ghost use Rattle.enip_config.specs.Configured.{IsAdapterOf};
+ghost use Rattle.configured_adapter.specs.Configured.{IsAdapterOf};
 ghost use Rattle.enip_config.specs.Documents.{IsFaultOf};
 ghost use Rattle.enip_c.specs.AdapterCalls.{IsFed, IsFedKept, IsBegun, IsBegunKept, IsRefusedBy, no_reply_reason_number, fed_of, answer_bytes};
 ghost use Rattle.enip_c.specs.AdapterCalls.{bool_number, full_status, AreFreeKept, deadline_kept, attribute_kept, discovered_kept};
@@ -18,8 +18,9 @@ ghost use Rattle.enip_c.specs.Buffer.{status_number, in_buffer, returned_bytes, 
 use crate::adapter_pointer::KeptAdapter;
 use crate::buffer::{copy_front, return_bytes};
 use crate::status::Status;
+use configured_adapter::adapter_from;
 use enip_adapter::{Adapter, DiscoveryBuffer, Full, LONGEST_ANSWER, NoReplyReason, Peer, Rights};
-use enip_config::{ConfigurationRefusal, LoadFault, adapter_from};
+use enip_config::{ConfigurationRefusal, LoadFault};
 use std::alloc::Global;
 
 /// The result of a feed: `enip_fed` of `enip.h`.

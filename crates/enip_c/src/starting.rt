@@ -11,8 +11,9 @@ ghost use Rattle.enip_c.specs.StateCalls.{kept_refusal, kept_status, fault_numbe
 use crate::adapter::check_number;
 use crate::adapter_pointer::KeptAdapter;
 use crate::status::Status;
+use configured_adapter::shares_from;
 use enip_adapter::{Adapter, Limits, Listen};
-use enip_config::{Configuration, ConfigurationRefusal, LedgerConfig, LoadFault, shares_from};
+use enip_config::{Configuration, ConfigurationRefusal, LedgerConfig, LoadFault};
 use kept_adapter::{AdapterStart, LedgerStart};
 use saved_adapter::{RestoreFault, start};
 use saved_state::StateFault;

@@ -4,17 +4,17 @@ use Rattle.enip_adapter.specs.Calls.{AdapterState}
 use Rattle.enip_config.specs.declared.fault.LoadFault.{LoadFault}
 use Rattle.enip_config.specs.declared.fault.LoadFault.TheVariants as load
 use Rattle.enip_config.specs.declared.fault.ConfigurationRefusal.{ConfigurationRefusal}
-use Rattle.enip_config.specs.Configured.{IsAccepted, IsUnsharedAdapterOf}
+use Rattle.configured_adapter.specs.Configured.{IsAccepted, IsUnsharedAdapterOf}
 use Rattle.enip_config.specs.Documents.{IsRefused, IsFaultOf as IsLoadFault}
-use Rattle.enip_commands.specs.declared.fault.ProgramFault.{ProgramFault}
-use Rattle.enip_commands.specs.declared.fault.ProgramFault.TheVariants as program
-use Rattle.enip_replay.specs.declared.replaying.ReplayFailure.{ReplayFailure}
-use Rattle.enip_replay.specs.declared.replaying.ReplayFailure.TheVariants as failures
+use Rattle.enip_faults.specs.declared.fault.ProgramFault.{ProgramFault}
+use Rattle.enip_faults.specs.declared.fault.ProgramFault.TheVariants as program
+use Rattle.enip_faults.specs.declared.replay_failure.ReplayFailure.{ReplayFailure}
+use Rattle.enip_faults.specs.declared.replay_failure.ReplayFailure.TheVariants as failures
 use Rattle.enip_replay.specs.Replay.{IsStop}
 use Rattle.enip_common.specs.declared.fault.Fault.{Fault}
 use Rattle.enip_common.specs.declared.fault.Fault.TheVariants.{Configuration as Refused, Setup, Run, Value, Request, Once, CommandFile, State}
-use Rattle.enip_common.specs.Statuses.{exit_status, fault_of_configuration, fault_of_replay, IsStatus, IsReplayStatus}
-use Rattle.enip_common.specs.Statuses.{IsFaultOf, IsReplayFaultOf, IsOpeningRefused}
+use Rattle.enip_common.specs.Statuses.{exit_status, fault_of_configuration, fault_of_replay}
+use Rattle.enip_cmd.specs.Statuses.{IsStatus, IsReplayStatus, IsFaultOf, IsReplayFaultOf, IsOpeningRefused}
 
 -- A configuration that is not loaded.
 of_load_fault : (text : List ℕ) (refused : LoadFault) → IsLoadFault text refused → IsFaultOf text (fault_of_configuration refused)

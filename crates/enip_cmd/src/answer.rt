@@ -2,15 +2,15 @@
 
 ghost use Rattle.std.specs.Prelude.{◌≡◌, IfOk, IfErr};
 ghost use Rattle.enip_config.specs.declared.fault.ConfigurationRefusal.{ConfigurationRefusal};
-ghost use Rattle.enip_config.specs.Configured.{IsAccepted};
+ghost use Rattle.configured_adapter.specs.Configured.{IsAccepted};
 ghost use Rattle.enip_config.specs.Documents.{IsRefused};
-ghost use Rattle.enip_common.specs.Statuses.{IsStatus, IsFaultOf};
+ghost use Rattle.enip_cmd.specs.Statuses.{IsStatus, IsFaultOf};
 
 use crate::report::Report;
+use configured_adapter::adapter_from;
 use enip_adapter::Adapter;
 use enip_commands::ProgramFault;
 use enip_common::Fault;
-use enip_config::adapter_from;
 use std::alloc::Global;
 use std::io::{BufWriter, Read, Write};
 

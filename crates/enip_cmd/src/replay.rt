@@ -2,14 +2,14 @@
 
 ghost use Rattle.std.specs.Prelude.{◌≡◌, IfOk, IfErr};
 ghost use Rattle.enip_config.specs.declared.fault.ConfigurationRefusal.{ConfigurationRefusal};
-ghost use Rattle.enip_config.specs.Configured.{IsAccepted};
+ghost use Rattle.configured_adapter.specs.Configured.{IsAccepted};
 ghost use Rattle.enip_config.specs.Documents.{IsRefused};
-ghost use Rattle.enip_common.specs.Statuses.{IsOpeningRefused, IsReplayFaultOf, IsReplayStatus};
+ghost use Rattle.enip_cmd.specs.Statuses.{IsOpeningRefused, IsReplayFaultOf, IsReplayStatus};
 
 use crate::report::Report;
+use configured_adapter::unshared_adapter_from;
 use enip_commands::ProgramFault;
 use enip_common::Fault;
-use enip_config::unshared_adapter_from;
 use std::alloc::Global;
 use std::io::{BufWriter, Write};
 

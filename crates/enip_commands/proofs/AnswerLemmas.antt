@@ -12,8 +12,8 @@ use Rattle.enip_commands.specs.declared.lines.Line.{Line as InputLine}
 use Rattle.enip_commands.specs.declared.lines.Line.TheVariants.{Nothing, Piece, End, Now}
 use Rattle.enip_commands.proofs.LineLemmas.{piece_refused}
 use Rattle.enip_commands.specs.declared.answering.Answerer.{Answerer}
-use Rattle.enip_commands.specs.declared.fault.ProgramFault.{ProgramFault}
-use Rattle.enip_commands.specs.declared.fault.ProgramFault.TheVariants.{Line, Device, Memory}
+use Rattle.enip_faults.specs.declared.fault.ProgramFault.{ProgramFault}
+use Rattle.enip_faults.specs.declared.fault.ProgramFault.TheVariants.{Line, Device, Memory}
 use Rattle.enip_commands.proofs.InputLemmas.{run_seen}
 use Rattle.enip_commands.specs.Answering.IsFed.{Used_up, Closes, Goes_on}
 use Rattle.enip_commands.specs.declared.peer_number.PeerNumber.{PeerNumber}

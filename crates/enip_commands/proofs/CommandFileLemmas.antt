@@ -25,8 +25,9 @@ use Rattle.hex.proofs.HexLemmas.{decode_of-encode_lower, decode_sized-encode_low
 use Rattle.cip_bytes.specs.Numbers.{AreBytes}
 use Rattle.cip_commander.specs.declared.refusal.CommandRefused.{CommandRefused}
 use Rattle.cip_commander.specs.CommanderRule.{CommanderState, IsInRange, commander_at, embedded_refusal, resume_refusal}
-use Rattle.enip_commands.specs.declared.command_file.CommandFileFault.{CommandFileFault}
-use Rattle.enip_commands.specs.declared.command_file.CommandFileFault.TheVariants.{Head, Originator, Life, Number, Pending, End}
+use Rattle.enip_faults.specs.declared.command_file_fault.CommandFileFault.{CommandFileFault}
+use Rattle.enip_faults.specs.declared.command_file_fault.CommandFileFault.TheVariants.{Head, Originator, Life, Number}
+use Rattle.enip_faults.specs.declared.command_file_fault.CommandFileFault.TheVariants.{Pending, End}
 use Rattle.enip_commands.specs.CommandFiles.{line, head_line, originator_line, life_line, number_line, pending_line, pending_digits}
 use Rattle.enip_commands.specs.CommandFiles.{file_text, IsKept, IsPending, IsLong, IsShort, IsFault, IsLine, IsSpelling, LacksLine}
 

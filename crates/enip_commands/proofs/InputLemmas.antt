@@ -8,9 +8,10 @@ use Rattle.std.specs.Io.KnownBytes.{Keeps, Consumes, IsAtEnd}
 use Rattle.enip_commands.specs.Lines.{without_return}
 use Rattle.enip_commands.specs.InputLines.{in_first, texts_of, lines_of, IsInput, LineEffect, AreRun, AreAllRun, IsLineRefused, has_newline}
 use Rattle.enip_commands.specs.InputLines.{AreCut, AreTaken, IsRefusedIn, IsChunkTaken, IsTakenToEnd}
-use Rattle.enip_commands.specs.Statuses.{IsOfDevices, EndsAt}
-use Rattle.enip_commands.specs.declared.fault.ProgramFault.{ProgramFault}
-use Rattle.enip_commands.specs.declared.fault.ProgramFault.TheVariants.{Line, Device, Memory}
+use Rattle.enip_commands.specs.Statuses.{EndsAt}
+use Rattle.enip_faults.specs.Statuses.{IsOfDevices}
+use Rattle.enip_faults.specs.declared.fault.ProgramFault.{ProgramFault}
+use Rattle.enip_faults.specs.declared.fault.ProgramFault.TheVariants.{Line, Device, Memory}
 
 -- ---- texts and newlines
 

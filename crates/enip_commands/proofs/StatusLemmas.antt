@@ -1,7 +1,8 @@
 use Rattle.std.proofs.Common.{ℕ, Result, Ok, Err, IfErr}
-use Rattle.enip_commands.specs.declared.fault.ProgramFault.{ProgramFault}
-use Rattle.enip_commands.specs.declared.fault.ProgramFault.TheVariants.{Line, Device, Memory}
-use Rattle.enip_commands.specs.Statuses.{IsOfDevices, EndsAt}
+use Rattle.enip_faults.specs.declared.fault.ProgramFault.{ProgramFault}
+use Rattle.enip_faults.specs.declared.fault.ProgramFault.TheVariants.{Line, Device, Memory}
+use Rattle.enip_commands.specs.Statuses.{EndsAt}
+use Rattle.enip_faults.specs.Statuses.{IsOfDevices}
 
 -- A device fails at a line.
 pub devices_at : {T : Type 0} (refused : Type 0) (number : ℕ) (r : Result T ProgramFault) → IfErr r IsOfDevices → IfErr r (EndsAt refused number)

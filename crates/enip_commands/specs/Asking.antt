@@ -14,12 +14,14 @@ use Rattle.enip_commands.specs.declared.asking.DeviceRequest.{DeviceRequest}
 use Rattle.enip_client.specs.declared.wants.Wants.{Wants}
 use Rattle.enip_commands.specs.declared.asking.ReplyOutcome.{ReplyOutcome}
 use Rattle.enip_commands.specs.declared.asking.ReplyOutcome.TheVariants.{Done, Refused}
-use Rattle.enip_commands.specs.declared.asking.RequestFailure.{RequestFailure}
-use Rattle.enip_commands.specs.declared.asking.RequestFailure.TheVariants.{Hex, Session, Client, Shape, Fields, Program}
-use Rattle.enip_commands.specs.declared.fault.ProgramFault.TheVariants.{Device, Memory}
+use Rattle.enip_faults.specs.declared.request_failure.RequestFailure.{RequestFailure}
+use Rattle.enip_faults.specs.declared.request_failure.RequestFailure.TheVariants.{Hex, Session, Client}
+use Rattle.enip_faults.specs.declared.request_failure.RequestFailure.TheVariants.{Shape, Fields, Program}
+use Rattle.enip_faults.specs.declared.fault.ProgramFault.TheVariants.{Memory}
 use Rattle.enip_commands.specs.declared.style.Style.{Style}
 use Rattle.enip_commands.specs.Digits.{bytes_spelled}
-use Rattle.enip_commands.specs.Statuses.{IsOfDevices}
+use Rattle.enip_faults.specs.Failures.{stop_of}
+use Rattle.enip_faults.specs.Statuses.{IsOfDevices}
 use Rattle.enip_commands.specs.Styles.{IsUnprinted}
 
 -- The bytes of this request: service, shortest path, and the data that the digits spell.
@@ -33,16 +35,6 @@ abbrev pub IsNotMade : DeviceRequest → RequestFailure → Type 0
 IsNotMade q Hex = bytes_spelled q.digits.now ≡ None
 IsNotMade q (Program Memory) = is_some (bytes_spelled q.digits.now) ≡ true
 IsNotMade q failure = ⊥
-
--- Why an exchange was not completed, as the program reports it.
-abbrev pub stop_of : AskFault → RequestFailure
-stop_of ask.Read = Program Device
-stop_of ask.Write = Program Device
-stop_of ask.Ended = Program Device
-stop_of ask.Spent = Program Device
-stop_of (ask.Client client.Memory) = Program Memory
-stop_of (ask.Client fault) = Client fault
-stop_of (ask.Submit why) = Client client.Request
 
 -- The same for an exchange. While the session is not registered, a status is the answer to RegisterSession.
 abbrev pub exchange_result : Result (Unit {0}) AskFault → Bool → Result (Unit {0}) RequestFailure
@@ -68,11 +60,6 @@ IsExchangedOver wants route request connected old new result =
 abbrev pub IsExchanged : Wants → List ℕ → Bool → (ClientState → Ends) → (ClientState → Ends)
     → Result (Unit {0}) RequestFailure → Type 0
 IsExchanged wants request connected old new result = IsExchangedOver wants [] request connected old new result
-
--- A device or memory failed.
-abbrev pub IsOfDevice : RequestFailure → Type 0
-IsOfDevice (Program fault) = IsOfDevices fault
-IsOfDevice _ = ⊥
 
 -- The exchange failed, or a device or memory did.
 abbrev pub IsOfExchange : RequestFailure → Type 0

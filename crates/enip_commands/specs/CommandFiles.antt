@@ -9,9 +9,9 @@ use Rattle.arrayvec.specs.ArrayVec.{ArrayVec}
 use Rattle.hex.specs.Hex.{encode_lower}
 use Rattle.cip_bytes.specs.Numbers.{AreBytes}
 use Rattle.cip_commander.specs.CommanderRule.{CommanderState, embedded_refusal}
-use Rattle.enip_commands.specs.declared.command_file.CommandFileFault.{CommandFileFault}
-use Rattle.enip_commands.specs.declared.command_file.CommandFileFault.TheVariants.{Head, Originator, Life, Number}
-use Rattle.enip_commands.specs.declared.command_file.CommandFileFault.TheVariants.{Pending, End}
+use Rattle.enip_faults.specs.declared.command_file_fault.CommandFileFault.{CommandFileFault}
+use Rattle.enip_faults.specs.declared.command_file_fault.CommandFileFault.TheVariants.{Head, Originator, Life, Number}
+use Rattle.enip_faults.specs.declared.command_file_fault.CommandFileFault.TheVariants.{Pending, End}
 
 -- ---- the text
 
@@ -84,14 +84,6 @@ IsFault text Pending = (originator : ℕ) × ((life : ℕ) × ((number : ℕ) ×
     × (text ≡ head_line ++ (originator_line originator ++ (life_line life ++ (number_line number ++ rest))))
     × LacksLine pending_line IsPending rest))))
 IsFault text End = (c : CommanderState) × ((rest : List ℕ) × (IsKept c × (text ≡ file_text c ++ rest) × (rest ≢ [])))
-
-abbrev pub fault_line : CommandFileFault → ℕ
-fault_line Head = 1
-fault_line Originator = 2
-fault_line Life = 3
-fault_line Number = 4
-fault_line Pending = 5
-fault_line End = 6
 
 -- ---- the reader's parts
 

@@ -1,6 +1,6 @@
--- Which command is sent to a ledger, and what its answers mean.
+-- The life of a ledger, and which command is sent to it.
 use Rattle.std.specs.Prelude.{ℕ, ◌==◌, if◌then◌else◌, Option, Some, None, List, length, slice_get, unwrap_or}
-use Rattle.std.specs.Prelude.{Bool, true, false, Result, Ok, Err}
+use Rattle.std.specs.Prelude.{Result, Ok, Err}
 use Rattle.std.specs.Int.{from_le_bytes, w64}
 use Rattle.std.specs.Str.{bytes_eq}
 use Rattle.cip_bytes.specs.Reading.{map_ok}
@@ -14,10 +14,8 @@ use Rattle.enip_commands.specs.declared.once.PendingChoice.{PendingChoice}
 use Rattle.enip_commands.specs.declared.once.PendingChoice.TheVariants.{Same, Send, Abandon}
 use Rattle.enip_commands.specs.declared.once.OncePlan.{OncePlan}
 use Rattle.enip_commands.specs.declared.once.OncePlan.TheVariants.{Resend, Submit}
-use Rattle.enip_commands.specs.declared.once.OnceRefusal.{OnceRefusal}
-use Rattle.enip_commands.specs.declared.once.OnceRefusal.TheVariants as refusals
-use Rattle.enip_commands.specs.declared.once.LedgerRefusal.{LedgerRefusal}
-use Rattle.enip_commands.specs.declared.once.LedgerRefusal.TheVariants as answers
+use Rattle.enip_faults.specs.declared.once_refusal.OnceRefusal.{OnceRefusal}
+use Rattle.enip_faults.specs.declared.once_refusal.OnceRefusal.TheVariants as refusals
 
 -- ---- the life of a ledger
 
@@ -73,29 +71,3 @@ begun commander request life choice = begun_by commander request life (plan_of c
 -- the same as far as it does not depend on the device's life
 abbrev pub checked : CommanderState → List ℕ → PendingChoice → Result (Unit {0}) OnceRefusal
 checked commander request choice = map_ok (λ _. tt) (begun commander request commander.life choice)
-
-abbrev pub once_refusal_status : OnceRefusal → ℕ
-once_refusal_status refusals.Differs = 2
-once_refusal_status refusals.NonePending = 2
-once_refusal_status refusals.OtherLife = 2
-once_refusal_status (refusals.Command why) = 7
-
--- ---- what a refusal means
-
-abbrev pub ledger_refusal : ℕ → LedgerRefusal
-ledger_refusal status =
-    if status == 0x02 then answers.NoSlot
-    else if status == 0x05 then answers.NoLedger
-    else if status == 0x0c then answers.NumberPassed
-    else if status == 0x10 then answers.OtherLife
-    else if status == 0x11 then answers.ReplyTooLarge
-    else answers.Other status
-
--- a ledger without a slot for an originator has executed none of its commands
-abbrev pub may_be_executed : LedgerRefusal → Bool
-may_be_executed answers.NoSlot = false
-may_be_executed answers.NoLedger = true
-may_be_executed answers.NumberPassed = true
-may_be_executed answers.OtherLife = true
-may_be_executed answers.ReplyTooLarge = true
-may_be_executed (answers.Other status) = true

@@ -15,10 +15,10 @@ use Rattle.enip_client.specs.declared.fault.ClientFault.{ClientFault}
 use Rattle.enip_client.specs.declared.fault.ClientFault.TheVariants as client
 use Rattle.enip_client.specs.declared.state.State.{State}
 use Rattle.enip_client.specs.declared.wants.Wants.{Wants}
-use Rattle.enip_commands.specs.Asking.{stop_of}
-use Rattle.enip_commands.specs.declared.asking.RequestFailure.{RequestFailure}
-use Rattle.enip_commands.specs.declared.asking.RequestFailure.TheVariants.{Session, Program}
-use Rattle.enip_commands.specs.declared.fault.ProgramFault.TheVariants.{Memory}
+use Rattle.enip_faults.specs.Failures.{stop_of}
+use Rattle.enip_faults.specs.declared.request_failure.RequestFailure.{RequestFailure}
+use Rattle.enip_faults.specs.declared.request_failure.RequestFailure.TheVariants.{Session, Program}
+use Rattle.enip_faults.specs.declared.fault.ProgramFault.TheVariants.{Memory}
 use Rattle.enip_commands.specs.declared.session.DeviceSession.{DeviceSession}
 use Rattle.enip_commands.specs.declared.turns.Turn.{Turn}
 use Rattle.enip_commands.specs.declared.turns.Turn.TheVariants as turns

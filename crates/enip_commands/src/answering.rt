@@ -11,15 +11,14 @@ ghost use Rattle.enip_commands.specs.Answering.{answer_line, closed_line, full_l
 ghost use Rattle.enip_commands.specs.Digits.{bytes_spelled};
 ghost use Rattle.enip_commands.specs.InputLines.{AreAllRun, StopsAtLine};
 ghost use Rattle.enip_commands.specs.Lines.{spells_bytes, IsRefusedLine};
-ghost use Rattle.enip_commands.specs.Statuses.{IsOfDevices};
+ghost use Rattle.enip_faults.specs.Statuses.{IsOfDevices};
 
 use crate::digits::decode;
-use crate::fault::ProgramFault;
 use crate::input_lines::{TakeLines, read_lines};
-use crate::line_fault::LineFault;
-use crate::lines::Line;
+use crate::lines::{Line, line_fault};
 use crate::peer_number::PeerNumber;
 use enip_adapter::{Adapter, Full, LONGEST_ANSWER, Peer};
+use enip_faults::ProgramFault;
 use std::alloc::Global;
 use std::io::{Read, Write};
 
@@ -243,7 +242,7 @@ impl TakeLines for Answerer {
         if self.run_line(text, output)? {
             Ok(())
         } else {
-            Err(ProgramFault::Line(number, LineFault::of_input(text)))
+            Err(ProgramFault::Line(number, line_fault(text)))
         }
     }
 }

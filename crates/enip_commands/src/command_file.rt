@@ -10,61 +10,21 @@ ghost use Rattle.cip_bytes.specs.Numbers.{AreBytes};
 ghost use Rattle.cip_commander.specs.CommanderRule.{CommanderState};
 ghost use Rattle.enip_commands.specs.CommandFiles.{file_text, head_line, originator_line, life_line, number_line};
 ghost use Rattle.enip_commands.specs.CommandFiles.{pending_line, IsKept, IsLong, IsShort, IsSpelling, IsLine};
-ghost use Rattle.enip_commands.specs.CommandFiles.{LacksLine, IsFault, fault_line, bytes_in};
+ghost use Rattle.enip_commands.specs.CommandFiles.{LacksLine, IsFault, bytes_in};
 
-use crate::digits::Digits;
 use crate::lines::decimal;
 use arrayvec::ArrayVec;
 use cip_commander::{Commander, LONGEST_EMBEDDED};
+use enip_faults::{CommandFileFault, Digits};
 use memchr::memchr;
 use std::fmt;
 use std::io::{self, Write};
-use thiserror::Error;
 
 /// A request that a command embeds.
 type EmbeddedRequest = ArrayVec<u8, LONGEST_EMBEDDED>;
 
 /// The digits of the longest one.
 const LONGEST_DIGITS: usize = 2 * LONGEST_EMBEDDED;
-
-/// Why a text is not that of a commander: the first line that is not as expected. The text is what was expected.
-#[derive(Clone, Copy, Debug, PartialEq, Eq, Error)]
-pub enum CommandFileFault {
-    /// The text does not begin with the line `enip commands 1`.
-    #[error("expected `enip commands 1`")]
-    Head,
-    /// The second line is not an originator.
-    #[error("expected `originator` and 16 lower-case hexadecimal digits")]
-    Originator,
-    /// The third line is not a life.
-    #[error("expected `life` and 0 to 18446744073709551615")]
-    Life,
-    /// The fourth line is not the last number.
-    #[error("expected `number` and 0 to 4294967295")]
-    Number,
-    /// The fifth line is neither `pending none` nor a request that a command can embed.
-    #[error("expected `pending none`, or `pending` and a request in lower-case hexadecimal digits")]
-    Pending,
-    /// The text goes on after the fifth line.
-    #[error("expected the end of the file")]
-    End,
-}
-
-impl CommandFileFault {
-    /// The line, from 1.
-    pub fn line(self) -> u64
-        ensures { result ≡ fault_line self }
-    {
-        match self {
-            CommandFileFault::Head => 1,
-            CommandFileFault::Originator => 2,
-            CommandFileFault::Life => 3,
-            CommandFileFault::Number => 4,
-            CommandFileFault::Pending => 5,
-            CommandFileFault::End => 6,
-        }
-    }
-}
 
 /// The text of a commander. Each of its five lines ends in a line feed:
 ///

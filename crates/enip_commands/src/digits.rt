@@ -4,11 +4,10 @@ ghost use Rattle.std.specs.Prelude.{◌≡◌, true, is_some, IfOk, IfErr, OnOk,
 ghost use Rattle.std.specs.Result.{result_ok};
 ghost use Rattle.hex.specs.Hex.{decode_of};
 ghost use Rattle.enip_commands.specs.Digits.{without_spaces, bytes_spelled};
-ghost use Rattle.enip_commands.specs.Statuses.{IsOfDevices};
+ghost use Rattle.enip_faults.specs.Statuses.{IsOfDevices};
 
-use crate::fault::ProgramFault;
+use enip_faults::ProgramFault;
 use std::io::{self, Write};
-use std::{fmt, str};
 
 /// How many bytes are encoded at a time.
 const BLOCK: usize = 128;
@@ -75,26 +74,4 @@ pub(crate) fn print_digits<W: Write>(output: &mut W, bytes: &[u8]) -> io::Result
         rest = others;
     }
     Ok(())
-}
-
-/// Bytes that print in hexadecimal, two lower-case digits each.
-#[derive(Clone, Copy)]
-pub struct Digits<'a>(pub &'a [u8]);
-
-impl fmt::Display for Digits<'_> {
-    ghost use Rattle.hex.specs.Hex.{encode_lower};
-
-    ghost output = { λ d. Some (encode_lower d.0.now) };
-
-    fn fmt<W: fmt::Write>(&self, f: &mut fmt::Formatter<W>) -> fmt::Result {
-        for byte in self.0 {
-            let mut pair = [0; 2];
-            let _ = hex::encode_to_slice([*byte], &mut pair);
-            let Ok(text) = str::from_utf8(&pair) else {
-                return Err(fmt::Error);
-            };
-            f.write_str(text)?;
-        }
-        Ok(())
-    }
 }

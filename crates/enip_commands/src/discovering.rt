@@ -5,12 +5,12 @@ ghost use Rattle.std.specs.Io.KnownBytes.{Appends};
 ghost use Rattle.enip_client.specs.Identity.{identity_in};
 ghost use Rattle.enip_commands.specs.Discovering.{is_same_host, are_loopback, has_address, is_elsewhere, has_same_address, has_same_serial};
 ghost use Rattle.enip_commands.specs.Discovering.{answer_line, answer_object_line};
-ghost use Rattle.enip_commands.specs.Statuses.{IsOfDevices};
+ghost use Rattle.enip_faults.specs.Statuses.{IsOfDevices};
 
-use crate::fault::ProgramFault;
 use crate::json_text::answer_object;
 use crate::listing::DeviceLine;
 use enip_client::IdentityView;
+use enip_faults::ProgramFault;
 use std::alloc::Global;
 use std::io::Write;
 use std::net::{IpAddr, SocketAddr};

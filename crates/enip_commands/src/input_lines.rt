@@ -5,9 +5,10 @@ ghost use Rattle.std.specs.Prelude.{◌≡◌, ◌+◌, ◌≤◌, ◌<◌, ◌+
 ghost use Rattle.std.specs.Io.KnownBytes.{Keeps, Consumes, IsAtEnd};
 ghost use Rattle.enip_commands.specs.InputLines.{AreTaken, IsChunkTaken, IsTakenToEnd};
 ghost use Rattle.enip_commands.specs.Lines.{without_return};
-ghost use Rattle.enip_commands.specs.Statuses.{IsOfDevices, EndsAt};
+ghost use Rattle.enip_commands.specs.Statuses.{EndsAt};
+ghost use Rattle.enip_faults.specs.Statuses.{IsOfDevices};
 
-use crate::fault::ProgramFault;
+use enip_faults::ProgramFault;
 use memchr::memchr;
 use std::alloc::Global;
 use std::io::{Read, Write};

@@ -18,9 +18,9 @@
 //! A command over lines is built from [`TakeLines`], [`read_lines`], [`decode`], [`decimal`] and [`Digits`].
 //! `enip_replay` uses them for scripts.
 //!
-//! A [`ProgramFault`] or a [`RequestFailure`] says why a command ended early. Its text is the line for standard
-//! error, and `specs/Statuses.antt` defines its exit status. `specs/InputLines.antt` defines the lines of an input,
-//! `specs/Lines.antt` what those of `answer` mean, and `specs/Answering.antt` what they do.
+//! A [`ProgramFault`] or a [`RequestFailure`] of `enip_faults` says why a command ended early. Its text is the line for
+//! standard error. `specs/InputLines.antt` defines the lines of an input, `specs/Lines.antt` what those of `answer`
+//! mean, and `specs/Answering.antt` what they do.
 //!
 //! This crate opens no file and no socket, and it knows neither the command line nor the configuration file. The
 //! caller makes the adapter.
@@ -31,12 +31,10 @@ mod asking;
 mod command_file;
 mod digits;
 mod discovering;
-mod fault;
 mod hexadecimal;
 mod input_lines;
 mod interface;
 mod json_text;
-mod line_fault;
 mod lines;
 mod list_objects;
 mod listing;
@@ -51,24 +49,22 @@ mod typed;
 
 pub use answering::answer;
 pub use asking::{
-    DeviceRequest, ReplyOutcome, RequestFailure, WANTS, ask_over, exchange_over, exchange_with,
-    report_outcome, show_refusal, show_reply,
+    DeviceRequest, ReplyOutcome, WANTS, ask_over, exchange_over, exchange_with, report_outcome,
+    show_refusal, show_reply,
 };
-pub use command_file::{CommandFile, CommandFileFault, read_commander, write_commander};
-pub use digits::{Digits, decode};
+pub use command_file::{CommandFile, read_commander, write_commander};
+pub use digits::decode;
 pub use discovering::{DiscoveryAnswer, Remarks, print_answer, print_answer_object};
-pub use fault::ProgramFault;
+pub use enip_faults::{
+    CommandFileFault, Digits, LedgerRefusal, LineFault, OnceRefusal, ProgramFault, RequestFailure,
+};
 pub use input_lines::{TakeLines, read_lines};
 pub use interface::{InterfaceConfiguration, interface_object};
 pub use json_text::json_of;
-pub use line_fault::LineFault;
 pub use lines::decimal;
 pub use list_objects::{objects_over, print_device_objects};
 pub use listing::{list_over, print_devices};
-pub use once::{
-    LIFE_REQUEST, LedgerRefusal, LifeFault, OnceRefusal, PendingChoice, begin_once, check_once,
-    read_life,
-};
+pub use once::{LIFE_REQUEST, LifeFault, PendingChoice, begin_once, check_once, read_life};
 pub use reading::{Readings, print_reading};
 pub use session::{DeviceSession, LONG_LIVED};
 pub use showing::show_frames;

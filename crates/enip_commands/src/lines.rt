@@ -7,6 +7,7 @@ ghost use Rattle.enip_commands.specs.Lines.{Says};
 ghost use Rattle.enip_commands.specs.declared.lines.Line.{Line};
 
 use crate::peer_number::PeerNumber;
+use enip_faults::LineFault;
 
 /// An input line.
 #[derive(Clone, Copy, Debug, PartialEq, Eq)]
@@ -34,6 +35,16 @@ impl<'a> Line<'a> {
             [digit, b' ', piece @ ..] => Some(Line::Piece(PeerNumber::of(*digit)?, piece)),
             _ => None,
         }
+    }
+}
+
+/// The reason for refusing a line of `enip answer`.
+pub(crate) fn line_fault(text: &[u8]) -> LineFault {
+    match text {
+        [b'1'..=b'9', b' ', ..] => LineFault::Piece,
+        [b'e', b'n', b'd', b' ', ..] => LineFault::End,
+        [b'n', b'o', b'w', b' ', ..] => LineFault::Now,
+        _ => LineFault::Input,
     }
 }
 

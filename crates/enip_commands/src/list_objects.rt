@@ -6,12 +6,11 @@ ghost use Rattle.enip_client.specs.Listing.{list_state};
 ghost use Rattle.enip_client.specs.Lists.{entries_left, entry_shown};
 ghost use Rattle.enip_commands.specs.ListObjects.{AreObjectsPrinted, object_line, object_lines, datagram_objects};
 ghost use Rattle.enip_commands.specs.Listing.{IsListAsked};
-ghost use Rattle.enip_commands.specs.Statuses.{IsOfDevices};
+ghost use Rattle.enip_faults.specs.Statuses.{IsOfDevices};
 
-use crate::asking::RequestFailure;
-use crate::fault::ProgramFault;
 use crate::json_text::{identity_line, service_line};
 use enip_client::{ListCommand, ListEntries, ListEntry, ask_list, read_list};
+use enip_faults::{ProgramFault, RequestFailure};
 use enip_wire::{FrameReader, Sink, Source};
 use std::alloc::Global;
 use std::io::{BufWriter, Write};

@@ -1,15 +1,14 @@
-//! `--once`: which command is sent to a ledger, and what its answers mean.
+//! `--once`: the life of a ledger, and which command is sent to it.
 
 ghost use Rattle.std.specs.Prelude.{◌≡◌, IfOk, IfErr, IfSome, OnOk, OnErr, IsSome};
 ghost use Rattle.std.specs.Option.{option_copied};
 ghost use Rattle.cip_commander.specs.CommanderRule.{CommanderState};
 ghost use Rattle.cip_message.specs.Reply.{reply_of};
-ghost use Rattle.enip_commands.specs.Once.{life_of, plan_of, submitted, begun, checked, once_refusal_status};
-ghost use Rattle.enip_commands.specs.Once.{ledger_refusal, may_be_executed};
+ghost use Rattle.enip_commands.specs.Once.{life_of, plan_of, submitted, begun, checked};
 
-use cip_commander::{CommandRefused, Commander};
+use cip_commander::Commander;
 use cip_message::{ReplyView, reply_service};
-use enip_client::ClientFault;
+use enip_faults::OnceRefusal;
 use thiserror::Error;
 
 /// Get_Attribute_Single. (Volume 1, common services.)
@@ -62,44 +61,6 @@ pub enum PendingChoice {
     Send,
     /// To give it up, and send the request as a new command.
     Abandon,
-}
-
-/// Why nothing is sent. The text is the code for scripts on standard error.
-#[derive(Clone, Copy, Debug, PartialEq, Eq, Error)]
-pub enum OnceRefusal {
-    /// The pending command has another request.
-    #[error("pending")]
-    Differs,
-    /// The pending command is to be sent, and there is none.
-    #[error("pending")]
-    NonePending,
-    /// The pending command is for another life of the device, so it may have been executed before the device was
-    /// restarted.
-    #[error("life")]
-    OtherLife,
-    /// The request cannot be a command.
-    #[error("fault {}", client_fault(*.0).number())]
-    Command(CommandRefused),
-}
-
-impl OnceRefusal {
-    /// The exit status of the program: 2 or 7.
-    pub fn exit_status(self) -> u8
-        ensures { result ≡ once_refusal_status self }
-    {
-        match self {
-            OnceRefusal::Differs | OnceRefusal::NonePending | OnceRefusal::OtherLife => 2,
-            OnceRefusal::Command(_) => 7,
-        }
-    }
-}
-
-/// The client's fault that a refused command is reported as.
-fn client_fault(why: CommandRefused) -> ClientFault {
-    match why {
-        CommandRefused::NotARequest | CommandRefused::TooLong => ClientFault::Request,
-        CommandRefused::Pending | CommandRefused::NumbersExhausted => ClientFault::State,
-    }
 }
 
 /// What is sent.
@@ -183,51 +144,4 @@ fn submitted(commander: &Commander, request: &[u8], life: u64) -> Result<Command
         Err(why) => return Err(OnceRefusal::Command(why)),
     }
     Ok(renewed)
-}
-
-/// What the general status says with which a ledger refuses a command. The command is still pending.
-#[derive(Clone, Copy, Debug, PartialEq, Eq, Error)]
-pub enum LedgerRefusal {
-    /// 0x02.
-    #[error("all slots of the command ledger are taken")]
-    NoSlot,
-    /// 0x05.
-    #[error("the device has no command ledger")]
-    NoLedger,
-    /// 0x0c.
-    #[error("the ledger has a later command of this originator, and will not execute this one")]
-    NumberPassed,
-    /// 0x10.
-    #[error("the device was restarted")]
-    OtherLife,
-    /// 0x11.
-    #[error("the ledger's reply does not fit the connection")]
-    ReplyTooLarge,
-    /// Another one.
-    #[error("the ledger refused the command with general status {0:#04x}")]
-    Other(u8),
-}
-
-impl LedgerRefusal {
-    /// The meaning of a general status other than 0. (docs/PROTOCOL.md, "The command ledger".)
-    pub fn of(status: u8) -> LedgerRefusal
-        ensures { result ≡ ledger_refusal status }
-    {
-        match status {
-            0x02 => LedgerRefusal::NoSlot,
-            0x05 => LedgerRefusal::NoLedger,
-            0x0c => LedgerRefusal::NumberPassed,
-            0x10 => LedgerRefusal::OtherLife,
-            0x11 => LedgerRefusal::ReplyTooLarge,
-            _ => LedgerRefusal::Other(status),
-        }
-    }
-
-    /// Whether the command may have been executed, when it was sent before. A ledger without a slot for an originator
-    /// has executed none of its commands.
-    pub fn may_be_executed(self) -> bool
-        ensures { result ≡ may_be_executed self }
-    {
-        !matches!(self, LedgerRefusal::NoSlot)
-    }
 }

@@ -3,10 +3,10 @@
 ghost use Rattle.std.specs.Prelude.{◌≡◌, ◌↔◌, false, OnOk, IfOk, IfErr, Some};
 ghost use Rattle.enip_commands.specs.Asking.{IsReplyPrinted, IsNotPrinted};
 
-use crate::asking::{ReplyOutcome, RequestFailure, print_reply, reply_object};
-use crate::fault::ProgramFault;
+use crate::asking::{ReplyOutcome, print_reply, reply_object};
 use crate::json_text::timed_line;
 use crate::style::Style;
+use enip_faults::{ProgramFault, RequestFailure};
 use std::alloc::{AllocError, Global};
 use std::io::{BufWriter, Write};
 use std::marker::Model;

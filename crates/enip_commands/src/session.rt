@@ -8,11 +8,12 @@ ghost use Rattle.enip_commands.specs.Sessions.{session_ends, begin_failure, IsBe
 ghost use Rattle.enip_commands.specs.Sessions.{IsSessionBegunOver};
 ghost use Rattle.enip_commands.specs.Sessions.{IsAskedAgain, IsReplyLentAgain};
 
-use crate::asking::{RequestFailure, WANTS};
+use crate::asking::WANTS;
 use crate::turns::{ask_again, ask_once, close, open, register, unregister};
 use cip_objects::ReplyBuf;
 use cip_route::Route;
 use enip_client::{AskFault, Client, ClientFault, Wants};
+use enip_faults::RequestFailure;
 use enip_wire::{Sink, Source};
 use std::alloc::Global;
 

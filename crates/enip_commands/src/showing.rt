@@ -3,10 +3,10 @@
 //! A line is printed part by part, up to the first fault in it. A fault in a line does not end the program.
 
 ghost use Rattle.std.specs.Prelude.{◌≡◌, IfErr, ⊤};
-ghost use Rattle.enip_commands.specs.Statuses.{IsOfDevices, IsStopOfDevices};
+ghost use Rattle.enip_commands.specs.Statuses.{IsStopOfDevices};
+ghost use Rattle.enip_faults.specs.Statuses.{IsOfDevices};
 
 use crate::digits::{decode, print_digits};
-use crate::fault::ProgramFault;
 use crate::input_lines::{TakeLines, read_lines};
 use cip_bytes::protocol::{CONNECTION_MANAGER, Command, ManagerService};
 use cip_message::{
@@ -14,6 +14,7 @@ use cip_message::{
     RequestView, read_path,
 };
 use cip_route::{HopFault, HopView, UNCONNECTED_SEND, UnconnectedSend, read_hop};
+use enip_faults::ProgramFault;
 use enip_wire::{CpfFault, FrameReader, FrameView, Header, Held, cpf_items, rr_body, unit_body};
 use std::alloc::Global;
 use std::io::{self, BufWriter, Read, Write};

@@ -4,14 +4,13 @@ ghost use Rattle.std.specs.Prelude.{IfOk, IfErr, map};
 ghost use Rattle.cip_layouts.specs.Fields.{AreBytesOfFields};
 ghost use Rattle.cip_values.specs.Values.{value_in, AreBytesOf};
 ghost use Rattle.enip_commands.specs.Styles.{IsUnprinted, IsOfValues, IsOfFields};
-ghost use Rattle.enip_commands.specs.Statuses.{IsOfDevices};
+ghost use Rattle.enip_faults.specs.Statuses.{IsOfDevices};
 
-use crate::asking::RequestFailure;
 use crate::digits::print_digits;
-use crate::fault::ProgramFault;
 use crate::json_text::{data_line, fields_line, values_line};
 use cip_layouts::{Field, FieldsFault, FieldsText, ValueShape, read_fields};
 use cip_values::{Value, ValueFault, ValueType, ValuesText, read_values};
+use enip_faults::{ProgramFault, RequestFailure};
 use std::alloc::Global;
 use std::io::Write;
 

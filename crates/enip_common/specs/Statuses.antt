@@ -1,16 +1,11 @@
--- How the program ends, by its configuration.
-use Rattle.std.specs.Prelude.{◌≡◌, ◌⊎◌, ℕ, List, ⊤}
-use Rattle.enip_adapter.specs.Calls.{AdapterState}
+-- How the program ends.
+use Rattle.std.specs.Prelude.{ℕ}
 use Rattle.enip_config.specs.declared.fault.LoadFault.{LoadFault}
 use Rattle.enip_config.specs.declared.fault.LoadFault.TheVariants as load
-use Rattle.enip_config.specs.Configured.{IsAccepted, IsUnsharedAdapterOf}
-use Rattle.enip_config.specs.Documents.{IsRefused}
-use Rattle.enip_commands.specs.declared.fault.ProgramFault.TheVariants as program
-use Rattle.enip_replay.specs.declared.replaying.ReplayFailure.{ReplayFailure}
-use Rattle.enip_replay.specs.declared.replaying.ReplayFailure.TheVariants as failures
-use Rattle.enip_replay.specs.Replay.{IsOpeningRefused as refuses_opening}
-use Rattle.enip_commands.specs.Statuses.{exit_status as run_status, request_failure_status}
-use Rattle.enip_commands.specs.Once.{once_refusal_status}
+use Rattle.enip_faults.specs.declared.fault.ProgramFault.TheVariants as program
+use Rattle.enip_faults.specs.declared.replay_failure.ReplayFailure.{ReplayFailure}
+use Rattle.enip_faults.specs.declared.replay_failure.ReplayFailure.TheVariants as failures
+use Rattle.enip_faults.specs.Statuses.{exit_status as run_status, request_failure_status, once_refusal_status}
 use Rattle.enip_common.specs.declared.fault.Fault.{Fault}
 use Rattle.enip_common.specs.declared.fault.Fault.TheVariants.{Configuration as Refused, Setup, Run, Value}
 use Rattle.enip_common.specs.declared.fault.Fault.TheVariants.{Once, CommandFile, Request, State}
@@ -26,14 +21,6 @@ exit_status (CommandFile line) = 4
 exit_status (Run fault) = run_status fault
 exit_status (Request failure) = request_failure_status failure
 
--- The exit statuses of `enip answer`, once its arguments are accepted.
-abbrev pub IsStatus : ℕ → Type 0
-IsStatus status = (status ≡ 0) ⊎ ((status ≡ 3) ⊎ ((status ≡ 4) ⊎ (status ≡ 5)))
-
--- The exit statuses of `enip replay`, once its arguments are accepted.
-abbrev pub IsReplayStatus : ℕ → Type 0
-IsReplayStatus status = IsStatus status ⊎ (status ≡ 6)
-
 -- The program's fault if a configuration is not loaded.
 abbrev pub fault_of_configuration : LoadFault → Fault
 fault_of_configuration (load.Refused refusal) = Refused refusal
@@ -43,25 +30,3 @@ fault_of_configuration load.Memory = Run program.Memory
 abbrev pub fault_of_replay : ReplayFailure → Fault
 fault_of_replay failures.Setup = Setup
 fault_of_replay (failures.Program fault) = Run fault
-
--- A run over a configuration may end with this fault: a refusal is the configuration's own, and a line is read only once
--- the configuration is accepted.
-abbrev pub IsFaultOf : List ℕ → Fault → Type 0
-IsFaultOf text (Refused refusal) = IsRefused text refusal
-IsFaultOf text Setup = ⊥
-IsFaultOf text Value = ⊥
-IsFaultOf text State = ⊥
-IsFaultOf text (Once refusal) = ⊥
-IsFaultOf text (CommandFile line) = ⊥
-IsFaultOf text (Request failure) = ⊥
-IsFaultOf text (Run (program.Line number why)) = IsAccepted text
-IsFaultOf text (Run _) = ⊤
-
--- The adapter that a text configures refuses what the replay opens: the sessions, or the connection of the client.
-abbrev pub IsOpeningRefused : List ℕ → Type 0
-IsOpeningRefused text = (adapter : AdapterState) × (IsUnsharedAdapterOf text adapter × refuses_opening adapter)
-
--- The same for a replay, whose opening may be refused.
-abbrev pub IsReplayFaultOf : List ℕ → Fault → Type 0
-IsReplayFaultOf text Setup = IsOpeningRefused text
-IsReplayFaultOf text fault = IsFaultOf text fault

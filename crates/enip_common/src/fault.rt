@@ -3,9 +3,8 @@
 ghost use Rattle.std.specs.Prelude.{◌≡◌};
 ghost use Rattle.enip_common.specs.Statuses.{exit_status};
 
-use enip_commands::{OnceRefusal, RequestFailure};
 use enip_config::ConfigurationRefusal;
-use enip_replay::ReplayFailure;
+use enip_faults::{OnceRefusal, ReplayFailure, RequestFailure};
 use std::alloc::AllocError;
 use std::io;
 use thiserror::Error;
@@ -21,7 +20,7 @@ pub enum Fault {
     Setup,
     /// A line of the input is refused, or a file, a stream or memory failed.
     #[error("{0}")]
-    Run(enip_commands::ProgramFault),
+    Run(enip_faults::ProgramFault),
     /// An argument is not a value of the requested type.
     #[error("value")]
     Value,
@@ -56,36 +55,36 @@ impl Fault {
     }
 }
 
-impl From<enip_commands::ProgramFault> for Fault {
+impl From<enip_faults::ProgramFault> for Fault {
     ghost use Rattle.enip_common.specs.declared.fault.Fault.TheVariants.{Run};
 
     ghost from_gives = { λ ended fault. fault ≡ Run ended };
 
-    fn from(fault: enip_commands::ProgramFault) -> Fault {
+    fn from(fault: enip_faults::ProgramFault) -> Fault {
         Fault::Run(fault)
     }
 }
 
 impl From<AllocError> for Fault {
-    ghost use Rattle.enip_commands.specs.declared.fault.ProgramFault.TheVariants.{Memory};
+    ghost use Rattle.enip_faults.specs.declared.fault.ProgramFault.TheVariants.{Memory};
     ghost use Rattle.enip_common.specs.declared.fault.Fault.TheVariants.{Run};
 
     ghost from_gives = { λ _ fault. fault ≡ Run Memory };
 
     fn from(_error: AllocError) -> Fault {
-        Fault::Run(enip_commands::ProgramFault::Memory)
+        Fault::Run(enip_faults::ProgramFault::Memory)
     }
 }
 
 impl From<io::Error> for Fault {
     ghost use Rattle.std.specs.IoError.{error_kind};
-    ghost use Rattle.enip_commands.specs.Statuses.{fault_of_kind};
+    ghost use Rattle.enip_faults.specs.Statuses.{fault_of_kind};
     ghost use Rattle.enip_common.specs.declared.fault.Fault.TheVariants.{Run};
 
     ghost from_gives = { λ error fault. fault ≡ Run (fault_of_kind (error_kind error)) };
 
     fn from(error: io::Error) -> Fault {
-        Fault::Run(enip_commands::ProgramFault::from(error))
+        Fault::Run(enip_faults::ProgramFault::from(error))
     }
 }
 
@@ -97,7 +96,7 @@ impl From<enip_config::LoadFault> for Fault {
     fn from(fault: enip_config::LoadFault) -> Fault {
         match fault {
             enip_config::LoadFault::Refused(refusal) => Fault::Configuration(refusal),
-            enip_config::LoadFault::Memory => Fault::Run(enip_commands::ProgramFault::Memory),
+            enip_config::LoadFault::Memory => Fault::Run(enip_faults::ProgramFault::Memory),
         }
     }
 }

@@ -7,9 +7,8 @@ use crate::fault::Fault;
 use crate::owner::owner_need;
 use crate::reason::{CommandError, ConfigurationReason, NamedReason, Reason};
 use clap::ArgMatches;
-use enip_adapter::Adapter;
 use enip_cli::{OsArg, read_file};
-use enip_config::{Configuration, ConfigurationRefusal, adapter_from, adapter_in_life, explain};
+use enip_config::{Configuration, ConfigurationRefusal, explain};
 use std::alloc::Global;
 use std::io::Read;
 
@@ -86,7 +85,8 @@ impl<'a> NamedFile<'a> {
         self.name
     }
 
-    fn bytes(&self) -> &[u8] {
+    /// The content of the file.
+    pub fn bytes(&self) -> &[u8] {
         self.bytes.as_slice()
     }
 
@@ -104,16 +104,6 @@ impl<'a> NamedFile<'a> {
     /// The text of a script, with U+FFFD for what is not UTF-8, which only a comment may have.
     pub fn script_text(&self, alloc: Global) -> Result<String, CommandError<'a>> {
         Ok(String::from_utf8_lossy(alloc, self.bytes())?)
-    }
-
-    /// The adapter that the file configures.
-    pub fn adapter(&self, alloc: Global) -> Result<Adapter, CommandError<'a>> {
-        adapter_from(alloc, self.bytes()).map_err(|fault| self.refused(alloc, fault))
-    }
-
-    /// The same adapter, with this number of the device's life in its command ledger.
-    pub fn adapter_in_life(&self, alloc: Global, life: u64) -> Result<Adapter, CommandError<'a>> {
-        adapter_in_life(alloc, self.bytes(), life).map_err(|fault| self.refused(alloc, fault))
     }
 
     /// The configuration in the file.
@@ -134,7 +124,7 @@ impl<'a> NamedFile<'a> {
     }
 
     /// The error of a command whose configuration this file is.
-    fn refused(&self, alloc: Global, fault: enip_config::LoadFault) -> CommandError<'a> {
+    pub fn refused(&self, alloc: Global, fault: enip_config::LoadFault) -> CommandError<'a> {
         if let enip_config::LoadFault::Memory = fault {
             return CommandError::of_memory();
         }
@@ -164,10 +154,10 @@ pub fn error_of_run<'a>(
     let reason = match fault {
         Fault::Configuration(_) => config.explanation(alloc),
         Fault::Setup => { Reason::Configuration(config.name(), ConfigurationReason::NoCapacity) }
-        Fault::Run(enip_commands::ProgramFault::Line(number, why)) => {
+        Fault::Run(enip_faults::ProgramFault::Line(number, why)) => {
             Reason::Line(input_name, number, why)
         }
-        Fault::Run(enip_commands::ProgramFault::Memory) => Reason::Memory,
+        Fault::Run(enip_faults::ProgramFault::Memory) => Reason::Memory,
         _ => stream_reason.unwrap_or(Reason::Named(input_name, NamedReason::Failed)),
     };
     CommandError::new(fault, reason)

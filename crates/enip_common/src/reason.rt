@@ -9,11 +9,10 @@ use cip_bytes::StatusText;
 use cip_route::RouteFailure;
 use cip_values::{ValueFault, ValueType};
 use enip_client::ClientFault;
-use enip_commands::{
+use enip_config::Explanation;
+use enip_faults::{
     CommandFileFault, Digits, LedgerRefusal, LineFault, ProgramFault, RequestFailure,
 };
-use enip_config::Explanation;
-use kept_adapter::EntryName;
 use std::alloc::{AllocError, Global};
 use std::fmt;
 use std::io::{self, ErrorKind};
@@ -104,9 +103,6 @@ pub enum Reason<'a> {
     /// `FILE.round` is missing or damaged.
     #[error("{0}: {0}.round is missing or damaged, so the state may be older than it was (see --accept-older)")]
     NoLastRound(&'a str),
-    /// A kept value is not used, because the configuration does not describe it.
-    #[error("{0}: {1} is not used: the configuration has none, or one of another size")]
-    NotUsed(&'a str, EntryName),
     /// Memory was refused.
     #[error("out of memory")]
     Memory,
@@ -335,13 +331,13 @@ impl<'a> CommandError<'a> {
 
     /// A file, a stream or a device failed for this reason.
     pub fn of_reason(reason: Reason<'a>) -> CommandError<'a> {
-        CommandError::new(Fault::Run(enip_commands::ProgramFault::Device), reason)
+        CommandError::new(Fault::Run(enip_faults::ProgramFault::Device), reason)
     }
 
     /// Memory was refused.
     pub fn of_memory() -> CommandError<'a> {
         CommandError::new(
-            Fault::Run(enip_commands::ProgramFault::Memory),
+            Fault::Run(enip_faults::ProgramFault::Memory),
             Reason::Memory,
         )
     }
@@ -375,6 +371,6 @@ impl From<std::alloc::AllocError> for CommandError<'_> {
 }
 
 /// Prints a reason on standard error.
-pub fn print_reason<E: Eprint>(rt: &E, reason: &Reason<'_>) {
+pub fn print_reason<E: Eprint, R: fmt::Display>(rt: &E, reason: &R) {
     let _ = eprintln!(rt; "enip: {reason}");
 }

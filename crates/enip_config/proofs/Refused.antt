@@ -1,5 +1,4 @@
-use Rattle.std.proofs.Common.{◌≡◌, ◌≤◌, ℕ, List, subst, Option, IfSome, Some, None, inl, Result, Ok, Err, IfErr, option_and_then, refl, sym, arith, rules}
-use Rattle.std.specs.Result.{IsErr, IsErrAnd}
+use Rattle.std.proofs.Common.{◌≡◌, ◌≤◌, ℕ, List, Option, IfSome, Some, None, inl, Result, Ok, Err, IfErr, option_and_then, refl, sym, arith, rules}
 use Rattle.toml.specs.Data.{Data, Members, get_member}
 use Rattle.cip_objects.specs.declared.config.ConfigFault.{ConfigFault}
 use Rattle.cip_objects.specs.declared.config.ConfigFault.TheVariants.{Name, Size, Members as WrongMembers, DoubleInstance, Limit, Object, Attribute, Service, Memory}
@@ -8,7 +7,7 @@ use Rattle.enip_config.specs.declared.configuration.Configuration.{Configuration
 use Rattle.enip_config.specs.Keys.{KeyRow, row, number_in, number_by, number_of, table_with, read_or}
 use Rattle.enip_config.specs.declared.fault.LoadFault.{LoadFault}
 use Rattle.enip_config.specs.Refusals.{fault_of_objects}
-use Rattle.enip_config.specs.Documents.{number_in as held, IsKnown, IsDescribed, HasValues, IsFaultOf, IsInRange, IsBad, IsUnread}
+use Rattle.enip_config.specs.Documents.{number_in as held, IsKnown, HasValues, IsFaultOf, IsInRange, IsBad, IsUnread}
 use Rattle.enip_config.specs.declared.key.NumberKey.{NumberKey}
 use Rattle.enip_config.specs.declared.key.NumberKey.TheVariants.{Vendor, DeviceType, ProductCode, Major, Minor, Serial, Status, State, Port, Peers, Connections, FirstHandle, FirstId, CounterValue, CounterLimit}
 
@@ -75,12 +74,3 @@ default_within CounterLimit = search arith
 
 pub all_in_range : (described : Members) (c : Configuration) → HasValues described c → IsInRange c
 all_in_range described c values key = in_found (row key) (table_with key described) (held c key) (default_within key) (values.numbers key)
-
--- The objects accept what was read: only memory can fail.
-pub objects_fail : {T U : Type 0} (text : List ℕ) (described : Configuration) (r : Result T ConfigFault) (check : ConfigFault) (returned : Result U LoadFault)
-    → IsDescribed text described → (fault_of described.objects ≡ None → IfErr r (λ f. f ≡ Memory))
-    → r ≡ Err check → IsErr returned × IsErrAnd returned (λ f. f ≡ fault_of_objects check) → IfErr returned (IsFaultOf text)
-objects_fail text described r check (Ok x) read allowed is gives = tt
-objects_fail text described r check (Err fault) read allowed is gives =
-    let none : check ≡ Memory = subst (λ s. IfErr s (λ f. f ≡ Memory)) is (allowed read.taken) in
-    rw (gives.1, none) tt

@@ -6,5 +6,4 @@ pub mod Known
 pub mod Refusals
 pub mod Access
 pub mod Documents
-pub mod Configured
 pub mod Explained

@@ -8,15 +8,15 @@
 //!   and says how a value is read and which bytes it has (`specs/Types.antt`).
 //! - The table `access` has the rules of `enip_access`: who may connect, and who may change something
 //!   (`specs/Access.antt`).
-//! - [`adapter_from`] makes the adapter of a configuration (`specs/Configured.antt`), [`adapter_in_life`] that of another
-//!   life of its ledger.
 //! - [`explain`] says what is wrong with a refused configuration, and in which line.
 //!
-//! An adapter, or one line of text that says why there is none:
+//! `configured_adapter` makes the adapter of a configuration.
+//!
+//! A configuration, or one line of text that says why there is none:
 //!
 //! ```
-//! fn load(alloc: Global, text: &[u8], reason: &mut String) -> Result<Adapter, LoadFault> {
-//!     let loaded = adapter_from(alloc, text);
+//! fn load(alloc: Global, text: &[u8], reason: &mut String) -> Result<Configuration, LoadFault> {
+//!     let loaded = Configuration::from_bytes(alloc, text);
 //!     if let Err(LoadFault::Refused(_)) = loaded {
 //!         if let Some(explanation) = explain(alloc, text)? {
 //!             *reason = format!(in alloc; "{explanation}")?;
@@ -29,7 +29,6 @@
 
 mod access;
 mod access_problems;
-mod adapter;
 mod assemblies;
 mod attribute_problems;
 mod attribute_type;
@@ -54,7 +53,6 @@ mod value_problems;
 mod values;
 mod width;
 
-pub use adapter::{adapter_from, adapter_in_life, shares_from, unshared_adapter_from};
 pub use attribute_type::AttributeType;
 pub use configuration::Configuration;
 pub use example::EXAMPLE;

@@ -20,6 +20,8 @@ pub(crate) struct Keeping<W: Wire + Drop, C: KeptDevice, K: Keeper + Drop> {
     accepted: Option<(W, Admission)>,
     /// The wires that may be ready.
     ready: ArrayVec<ReadyWire, MOST_READY>,
+    /// The group of a client that waits for a slot: a peer gives way to it in the next round.
+    room_for: Option<u128>,
 }
 
 impl<W: Wire + Drop, C: KeptDevice, K: Keeper + Drop> Keeping<W, C, K> {
@@ -31,6 +33,7 @@ impl<W: Wire + Drop, C: KeptDevice, K: Keeper + Drop> Keeping<W, C, K> {
             server,
             accepted: None,
             ready: ArrayVec::new(),
+            room_for: None,
         }
     }
 
@@ -52,6 +55,7 @@ impl<W: Wire + Drop, C: KeptDevice, K: Keeper + Drop> Keeping<W, C, K> {
             now,
             accepted,
             ready,
+            room_for: self.room_for.take(),
         }
     }
 }
@@ -65,11 +69,15 @@ impl<W: Wire + Drop, C: KeptDevice, K: Keeper + Drop> Serving<W> for Keeping<W, 
     }
 
     fn slot_for(&self, now: u64, group: Option<u128>) -> Result<usize, Full> {
-        // Nobody gives way: a round that ended a peer and added another would have to be kept as one.
-        match self.first_free() {
-            Some(_) => self.server.device().peers().slot_for(now, group),
-            None => Err(Full::Places),
+        self.server.device().peers().slot_for(now, group)
+    }
+
+    fn make_room(&mut self, group: Option<u128>) -> bool {
+        if self.first_free().is_some() {
+            return true;
         }
+        self.room_for = group;
+        false
     }
 
     fn add(&mut self, _now: u64, wire: W, admission: Admission) -> bool {
@@ -83,17 +91,8 @@ impl<W: Wire + Drop, C: KeptDevice, K: Keeper + Drop> Serving<W> for Keeping<W, 
 
     fn round(&mut self, now: u64) -> Result<RoundEnd, KeepError> {
         let input = self.input(now);
-        let slot = match &input.accepted {
-            Some(_) => self.first_free(),
-            None => None,
-        };
         self.server.round(input)?;
-        let mut end = self.server.device().last_round();
-        // no session handle was left for the connection
-        if slot.is_some() && end.ended == 0 && self.first_free() == slot {
-            end.ended = 1;
-        }
-        Ok(end)
+        Ok(self.server.device().last_round())
     }
 
     fn next_moment(&self) -> Option<u64> {

@@ -3,11 +3,12 @@
 ghost use Rattle.std.specs.Prelude.{◌≡◌, IfOk};
 
 use crate::kept_file::KeptFile;
-use enip_commands::Digits;
 use enip_common::{CommandError, NamedReason, Reason, print_reason};
+use enip_faults::Digits;
 use enip_keep::{Entry, Keeper};
 use kept_adapter::{AdapterStart, EntryName};
 use std::alloc::Global;
+use std::fmt;
 use std::io::{self, BufWriter, Write};
 
 /// The entries in FILE, and the keys of those from which a device takes nothing.
@@ -51,7 +52,7 @@ impl KeptValues {
         for key in &self.unused {
             let name = EntryName::of_key(*key);
             has_lost |= name.is_of_ledger();
-            print_reason(rt, &Reason::NotUsed(file.name(), name));
+            print_reason(rt, &NotUsed(file.name(), name));
         }
         if has_lost {
             print_reason(rt, &Reason::Named(file.name(), NamedReason::NewLife));
@@ -73,5 +74,19 @@ impl KeptValues {
             writeln!(output)?;
         }
         output.flush()
+    }
+}
+
+/// A value in the file of this name is not used, because the configuration does not describe it.
+#[derive(Clone, Copy)]
+struct NotUsed<'a>(&'a str, EntryName);
+
+impl fmt::Display for NotUsed<'_> {
+    fn fmt<W: fmt::Write>(&self, f: &mut fmt::Formatter<W>) -> fmt::Result {
+        let (file, value) = (self.0, self.1);
+        write!(
+            f,
+            "{file}: {value} is not used: the configuration has none, or one of another size"
+        )
     }
 }

@@ -110,6 +110,14 @@ impl System {
     }
 }
 
+/// A client that was accepted and admitted, and is no peer yet.
+#[derive(Drop)]
+struct AcceptedClient {
+    stream: TcpStream,
+    address: SocketAddr,
+    admission: Admission,
+}
+
 /// The peers and the sockets of a served device.
 #[derive(Drop)]
 struct Server<O: Observer + Drop, S: Serving<O::Wire> + Drop> {
@@ -128,6 +136,8 @@ struct Server<O: Observer + Drop, S: Serving<O::Wire> + Drop> {
     ended: u64,
     /// For how many rounds the next connection has been deferred.
     rounds_deferred: u32,
+    /// A client to which a peer gives way in the next round.
+    waiting: Option<AcceptedClient>,
 }
 
 impl<O: Observer + Drop, S: Serving<O::Wire> + Drop> Server<O, S> {
@@ -158,6 +168,7 @@ impl<O: Observer + Drop, S: Serving<O::Wire> + Drop> Server<O, S> {
             accepted: 0,
             ended: 0,
             rounds_deferred: 0,
+            waiting: None,
         })
     }
 
@@ -291,36 +302,53 @@ impl<O: Observer + Drop, S: Serving<O::Wire> + Drop> Server<O, S> {
         Ok(())
     }
 
-    /// Accepts the next connection, if there is one. If its client is not admitted, or if it cannot become a peer, it is
-    /// closed at once.
+    /// Makes a client a peer: the one that waits for a slot, or else that of the next connection, if there is one. If it
+    /// cannot become a peer, it is closed at once.
     fn accept_one(&mut self, now: u64)
         requires ready { S.is_ready self.old.peers }
         ensures ready { S.is_ready self.new.peers }
     {
+        let client = match self.waiting.take() {
+            Some(client) => Some(client),
+            None => self.next_client(now),
+        };
+        let Some(client) = client else {
+            return;
+        };
+        let is_added = self.find_slot(now, client);
+        if !is_added {
+            self.ended = self.ended.saturating_add(1);
+        }
+    }
+
+    /// Accepts the next connection, if there is one. If its client is not admitted, it is closed at once.
+    fn next_client(&mut self, now: u64) -> Option<AcceptedClient>
+        ensures { self.new.peers ≡ self.old.peers }
+    {
         let is_due = matches!(&self.acceptor, Some(acceptor) if acceptor.readiness().is_due(now));
         if !is_due || self.is_deferred() {
-            return;
+            return None;
         }
         let Some(acceptor) = &mut self.acceptor else {
-            return;
+            return None;
         };
-        let Some((stream, address)) = acceptor.accept(now) else {
-            return;
-        };
+        let (stream, address) = acceptor.accept(now)?;
         self.accepted = self.accepted.saturating_add(1);
         if self.accepted >= self.limits.count {
             self.acceptor = None;
         }
-        let is_added = match admit(&self.limits.access, address_number(address.ip())) {
-            Some(admission) => self.add_peer(now, stream, address, admission),
+        match admit(&self.limits.access, address_number(address.ip())) {
+            Some(admission) => Some(AcceptedClient {
+                stream,
+                address,
+                admission,
+            }),
             None => {
                 self.observer
                     .turned_away(now, address, TurnedAway::NotListed);
-                false
+                self.ended = self.ended.saturating_add(1);
+                None
             }
-        };
-        if !is_added {
-            self.ended = self.ended.saturating_add(1);
         }
     }
 
@@ -343,26 +371,39 @@ impl<O: Observer + Drop, S: Serving<O::Wire> + Drop> Server<O, S> {
         false
     }
 
-    /// Makes a connection a peer in the slot that is for it. Returns whether there is a slot and a session handle for it.
-    fn add_peer(
-        &mut self,
-        now: u64,
-        stream: TcpStream,
-        address: SocketAddr,
-        admission: Admission,
-    ) -> bool
+    /// Finds a slot for a client, which becomes a peer in it. If a peer gives way to it in the next round, it waits until
+    /// then. Returns whether there is a slot and a session handle for it.
+    fn find_slot(&mut self, now: u64, client: AcceptedClient) -> bool
         requires ready { S.is_ready self.old.peers }
         ensures ready { S.is_ready self.new.peers }
     {
-        let mut stream = stream;
-        let slot = match self.peers.slot_for(now, admission.group) {
+        let slot = match self.peers.slot_for(now, client.admission.group) {
             Ok(slot) => slot,
             Err(full) => {
                 self.observer
-                    .turned_away(now, address, turned_away_by(full));
+                    .turned_away(now, client.address, turned_away_by(full));
                 return false;
             }
         };
+        if !self.peers.make_room(client.admission.group) {
+            self.waiting = Some(client);
+            self.last_round.ready = true;
+            return true;
+        }
+        self.add_peer(now, slot, client)
+    }
+
+    /// Makes a client a peer in this slot. Returns whether it can be.
+    fn add_peer(&mut self, now: u64, slot: usize, client: AcceptedClient) -> bool
+        requires ready { S.is_ready self.old.peers }
+        ensures ready { S.is_ready self.new.peers }
+    {
+        let AcceptedClient {
+            stream,
+            address: _,
+            admission,
+        } = client;
+        let mut stream = stream;
         let interests = Interest::READABLE | Interest::WRITABLE;
         let registered = self
             .system

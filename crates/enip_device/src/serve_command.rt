@@ -1,7 +1,7 @@
 //! `enip serve`: the device that the arguments describe, its sockets, and what observes it.
 
 ghost use Rattle.std.specs.Prelude.{◌≡◌, ◌<◌, ◌≤◌, ◌*◌, ◌-◌, ◌^◌, IfSome, IfOk, IsTrue};
-ghost use Rattle.enip_config.specs.Configured.{shares_from};
+ghost use Rattle.configured_adapter.specs.Configured.{shares_from};
 
 use crate::frame_log::FrameLog;
 use crate::keeping::Keeping;
@@ -13,6 +13,7 @@ use crate::reported_address::ReportedAddress;
 use crate::serve::{ServeLimits, Sockets, serve_connections};
 use crate::serving::{ServeFault, Serving};
 use clap::ArgMatches;
+use configured_adapter::{adapter_from, adapter_in_life};
 use enip_access::Access;
 use enip_adapter::{Adapter, Limits, Listen, Shares};
 use enip_cli::OsArg;
@@ -251,11 +252,14 @@ fn adapter_to_serve<'a>(
         address: configuration.address,
         port: configuration.port,
     };
-    let adapter = match configuration.ledger {
-        None => config.adapter(rt.alloc())?,
-        Some(_) => config.adapter_in_life(rt.alloc(), life_now(rt)?)?,
+    let loaded = match configuration.ledger {
+        None => adapter_from(rt.alloc(), config.bytes()),
+        Some(_) => adapter_in_life(rt.alloc(), config.bytes(), life_now(rt)?),
     };
-    Ok((adapter, listen, configuration.access))
+    match loaded {
+        Ok(adapter) => Ok((adapter, listen, configuration.access)),
+        Err(fault) => Err(config.refused(rt.alloc(), fault)),
+    }
 }
 
 /// What the adapter of a configuration is started from, whose device needs no owner and keeps its state, and who may do

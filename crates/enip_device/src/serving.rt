@@ -34,6 +34,12 @@ pub(crate) trait Serving<W: Wire + Drop> {
     /// The slot that a new client of a group would get: the first free one, else that of a peer that gives way to it.
     fn slot_for(&self, now: u64, group: Option<u128>) -> Result<usize, Full>;
 
+    /// Whether the slot that `slot_for` says can be taken at once. If not, a peer gives way to a client of this group at the
+    /// end of the next round, and the client waits until then.
+    fn make_room(&mut self, group: Option<u128>) -> bool
+        requires { is_ready self.old }
+        ensures { is_ready self.new };
+
     /// Begins a peer that was admitted, in the slot that `slot_for` says. Returns whether there is a slot and a session
     /// handle for it.
     fn add(&mut self, now: u64, wire: W, admission: Admission) -> bool
@@ -70,6 +76,11 @@ impl<W: Wire + Drop> Serving<W> for Peers<W> {
 
     fn slot_for(&self, now: u64, group: Option<u128>) -> Result<usize, Full> {
         Peers::slot_for(self, now, group)
+    }
+
+    fn make_room(&mut self, _group: Option<u128>) -> bool {
+        // `add_as` ends the peer that gives way
+        true
     }
 
     fn add(&mut self, now: u64, wire: W, admission: Admission) -> bool {

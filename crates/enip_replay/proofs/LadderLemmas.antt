@@ -1,7 +1,7 @@
 use Rattle.std.proofs.Common.{ℕ, List, [], ◌++◌, Option, Result, Ok, Err, OnOk}
 use Rattle.std.proofs.KnownBytes.{Appends-nil, Appends-trans}
 use Rattle.std.specs.Io.KnownBytes.{Appends}
-use Rattle.enip_commands.specs.declared.fault.ProgramFault.{ProgramFault}
+use Rattle.enip_faults.specs.declared.fault.ProgramFault.{ProgramFault}
 use Rattle.enip_replay.specs.Drawing.{Grows}
 
 pub grown-none : (a : Option (List ℕ)) → Grows a a

@@ -6,14 +6,14 @@ use Rattle.enip_adapter.specs.Calls.{AdapterState}
 use Rattle.enip_bench.specs.CountingWorld.{CountingWorld, counting_run}
 use Rattle.enip_bench.specs.Events.{Event}
 use Rattle.enip_commands.specs.InputLines.{AreAllRun, IsLineRefused, StopsAtLine, IsTakenToEnd, lines_of}
-use Rattle.enip_commands.specs.Statuses.{IsOfDevices}
-use Rattle.enip_commands.specs.declared.fault.ProgramFault.{ProgramFault}
-use Rattle.enip_commands.specs.declared.fault.ProgramFault.TheVariants.{Line, Device, Memory}
+use Rattle.enip_faults.specs.Statuses.{IsOfDevices}
+use Rattle.enip_faults.specs.declared.fault.ProgramFault.{ProgramFault}
+use Rattle.enip_faults.specs.declared.fault.ProgramFault.TheVariants.{Line, Device, Memory}
 use Rattle.enip_replay.specs.Drawing.{Grows, IsDrawnFrom, IsDrawnUpTo, IsEndDrawn, nothing}
 use Rattle.enip_replay.specs.Outcome.{outcomes}
 use Rattle.enip_replay.specs.Replay.{IsPlayedFrom, IsPlayedUpTo, IsOpeningOf, IsRun, IsStop, IsStopAt, OnceOpened, ending}
-use Rattle.enip_replay.specs.declared.replaying.ReplayFailure.{ReplayFailure}
-use Rattle.enip_replay.specs.declared.replaying.ReplayFailure.TheVariants.{Program}
+use Rattle.enip_faults.specs.declared.replay_failure.ReplayFailure.{ReplayFailure}
+use Rattle.enip_faults.specs.declared.replay_failure.ReplayFailure.TheVariants.{Program}
 use Rattle.enip_replay.specs.Script.{IsRefusedAt, IsRefusedLine}
 use Rattle.enip_replay.proofs.LadderLemmas.{grown-more}
 use Rattle.enip_replay.proofs.RunLemmas.{AreRunFrom, IsInOrder, Keeps-appends, lines_run, outcomes_in_order, nothing_in_order}

@@ -9,7 +9,7 @@ use Rattle.enip_commands.specs.InputLines.{lines_of}
 use Rattle.enip_commands.specs.Lines.{with_newline}
 use Rattle.enip_replay.specs.Replay.{ending, IsStop, OnceOpened}
 use Rattle.enip_replay.specs.Script.{Say, IsRefusedAt}
-use Rattle.enip_replay.specs.declared.replaying.ReplayFailure.{ReplayFailure}
+use Rattle.enip_faults.specs.declared.replay_failure.ReplayFailure.{ReplayFailure}
 
 -- A picture is drawn at the end: nothing is printed for the events as they are done.
 abbrev pub nothing : CountingWorld → List Event → List ℕ

@@ -16,12 +16,12 @@ use Rattle.enip_replay.specs.Outcome.{outcome, outcomes, counter_number, counter
 use Rattle.enip_replay.specs.Script.{Says, Say, IsRefusedAt}
 use Rattle.enip_commands.specs.InputLines.{lines_of}
 use Rattle.enip_commands.specs.Lines.{with_newline}
-use Rattle.enip_commands.specs.Statuses.{IsOfDevices, exit_status}
+use Rattle.enip_faults.specs.Statuses.{IsOfDevices}
 use Rattle.enip_commands.specs.declared.asking.TheConstants.{WANTS}
-use Rattle.enip_commands.specs.declared.fault.ProgramFault.{ProgramFault}
-use Rattle.enip_commands.specs.declared.fault.ProgramFault.TheVariants.{Line, Memory}
-use Rattle.enip_replay.specs.declared.replaying.ReplayFailure.{ReplayFailure}
-use Rattle.enip_replay.specs.declared.replaying.ReplayFailure.TheVariants as stops
+use Rattle.enip_faults.specs.declared.fault.ProgramFault.{ProgramFault}
+use Rattle.enip_faults.specs.declared.fault.ProgramFault.TheVariants.{Line, Memory}
+use Rattle.enip_faults.specs.declared.replay_failure.ReplayFailure.{ReplayFailure}
+use Rattle.enip_faults.specs.declared.replay_failure.ReplayFailure.TheVariants as stops
 
 -- Why no bench is made, as the program reports it.
 abbrev pub stop_of : BenchFault → ReplayFailure
@@ -40,16 +40,6 @@ IsOpeningRefused adapter = opening_between adapter (new_client WANTS) ≡ Err AR
 abbrev pub IsUnopened : AdapterState → ReplayFailure → Type 0
 IsUnopened adapter stops.Setup = IsOpeningRefused adapter
 IsUnopened adapter (stops.Program fault) = IsOfDevices fault
-
--- The exit status of a replay that ends early.
-abbrev pub replay_failure_status : ReplayFailure → ℕ
-replay_failure_status stops.Setup = 6
-replay_failure_status (stops.Program fault) = exit_status fault
-
--- A device or memory failed.
-abbrev pub IsStopOfDevices : ReplayFailure → Type 0
-IsStopOfDevices stops.Setup = ⊥
-IsStopOfDevices (stops.Program fault) = IsOfDevices fault
 
 -- An event was done at both ends, and its line was printed with its outcome.
 pub record IsDone (event : Event) (old new : CountingWorld) (before after : Option (List ℕ)) : Type 0 where

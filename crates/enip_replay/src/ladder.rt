@@ -18,10 +18,10 @@ ghost use Rattle.enip_replay.specs.Drawing.{IsDrawn, IsDrawnFrom, IsDrawnUpTo, I
 ghost use Rattle.enip_replay.specs.Drawing.{nothing};
 ghost use Rattle.enip_replay.specs.Replay.{IsRun, IsStopAt};
 ghost use Rattle.enip_replay.specs.Script.{IsRefusedLine};
-ghost use Rattle.enip_commands.specs.Statuses.{IsOfDevices};
+ghost use Rattle.enip_faults.specs.Statuses.{IsOfDevices};
 
 use crate::outcome::Outcome;
-use crate::replaying::{ReplayFailure, bench_of, print_state};
+use crate::replaying::{bench_of, print_state};
 use crate::rungs::{Arrow, Direction, Field, Note, Rung};
 use crate::script::{event_of, is_skipped, line_fault};
 use byteorder::{ByteOrder, LittleEndian};
@@ -29,6 +29,7 @@ use cip_bytes::protocol::SEQUENCE_COUNT_SIZE;
 use enip_adapter::Adapter;
 use enip_bench::{Bench, Event, Frames, Step};
 use enip_commands::{ProgramFault, TakeLines, WANTS, read_lines};
+use enip_faults::ReplayFailure;
 use enip_wire::{Header, unit_body};
 use std::alloc::Global;
 use std::io::Write;

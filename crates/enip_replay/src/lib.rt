@@ -15,5 +15,6 @@ mod replaying;
 mod rungs;
 mod script;
 
+pub use enip_faults::ReplayFailure;
 pub use ladder::draw_replay;
-pub use replaying::{ReplayFailure, replay};
+pub use replaying::replay;

@@ -6,11 +6,11 @@ ghost use Rattle.enip_bench.specs.Reached.{IsNewAdapter};
 ghost use Rattle.enip_bench.specs.Stored.{event_in};
 ghost use Rattle.enip_replay.specs.Outcome.{final_line, outcomes};
 ghost use Rattle.enip_replay.specs.Replay.{IsOpeningOf, IsUnopened, IsStopOf, IsPlayed, IsPlayedFrom, IsPlayedUpTo};
-ghost use Rattle.enip_replay.specs.Replay.{IsDone, IsRun, IsStopAt, ending, replay_failure_status};
+ghost use Rattle.enip_replay.specs.Replay.{IsDone, IsRun, IsStopAt, ending, stop_of};
 ghost use Rattle.enip_replay.specs.Replay.{objects_printed, assembly_printed, assemblies_printed};
 ghost use Rattle.enip_replay.specs.Script.{IsRefusedLine};
 ghost use Rattle.enip_commands.specs.Lines.{with_newline};
-ghost use Rattle.enip_commands.specs.Statuses.{IsOfDevices};
+ghost use Rattle.enip_faults.specs.Statuses.{IsOfDevices};
 
 use crate::outcome::{AssemblyData, Counter, FinalState, Outcome};
 use crate::script::{event_of, is_skipped, line_fault};
@@ -21,9 +21,9 @@ use enip_adapter::Adapter;
 use enip_bench::{Bench, BenchFault, Event};
 use enip_client::Client;
 use enip_commands::{ProgramFault, TakeLines, WANTS, read_lines};
+use enip_faults::ReplayFailure;
 use std::alloc::Global;
-use std::io::{self, Write};
-use thiserror::Error;
+use std::io::Write;
 
 /// The attribute that has the data of an assembly. (Volume 1, Assembly.)
 const DATA: u16 = 3;
@@ -61,59 +61,13 @@ pub fn replay<W: Write>(
     player.play(script, output).map_err(ReplayFailure::Program)
 }
 
-/// Why a replay ends early. The text is the code for scripts on standard error.
-#[derive(Clone, Copy, Debug, PartialEq, Eq, Error)]
-pub enum ReplayFailure {
-    /// The client cannot open its connection, or the second session cannot begin.
-    #[error("setup")]
-    Setup,
-    /// The program itself failed.
-    #[error("{0}")]
-    Program(ProgramFault),
-}
-
-impl ReplayFailure {
-    /// The exit status of the program: 6, or that of the program's own fault.
-    pub fn exit_status(self) -> u8
-        ensures { result ≡ replay_failure_status self }
-    {
-        match self {
-            ReplayFailure::Setup => 6,
-            ReplayFailure::Program(fault) => fault.exit_status(),
-        }
-    }
-}
-
-impl From<ProgramFault> for ReplayFailure {
-    ghost use Rattle.enip_replay.specs.declared.replaying.ReplayFailure.TheVariants.{Program};
-
-    ghost from_gives = { λ fault stop. stop ≡ Program fault };
-
-    fn from(fault: ProgramFault) -> ReplayFailure {
-        ReplayFailure::Program(fault)
-    }
-}
-
-impl From<io::Error> for ReplayFailure {
-    ghost use Rattle.enip_replay.specs.Replay.{IsStopOfDevices};
-
-    ghost from_gives = { λ _ stop. IsStopOfDevices stop };
-
-    fn from(error: io::Error) -> ReplayFailure {
-        ReplayFailure::Program(ProgramFault::from(error))
-    }
-}
-
-impl From<BenchFault> for ReplayFailure {
-    ghost use Rattle.enip_replay.specs.Replay.{stop_of};
-
-    ghost from_gives = { λ fault stop. stop ≡ stop_of fault };
-
-    fn from(fault: BenchFault) -> ReplayFailure {
-        match fault {
-            BenchFault::Memory => ReplayFailure::Program(ProgramFault::Memory),
-            BenchFault::Setup => ReplayFailure::Setup,
-        }
+/// Why no bench is made.
+fn stop_of(fault: BenchFault) -> ReplayFailure
+    ensures { result ≡ stop_of fault }
+{
+    match fault {
+        BenchFault::Memory => ReplayFailure::Program(ProgramFault::Memory),
+        BenchFault::Setup => ReplayFailure::Setup,
     }
 }
 
@@ -130,7 +84,10 @@ pub(crate) fn bench_of(alloc: Global, adapter: Adapter) -> Result<Bench, ReplayF
     let Ok(client) = Client::new(alloc, &WANTS) else {
         return Err(ReplayFailure::Program(ProgramFault::Memory));
     };
-    Ok(Bench::new(alloc, adapter, client)?)
+    match Bench::new(alloc, adapter, client) {
+        Ok(bench) => Ok(bench),
+        Err(fault) => Err(stop_of(fault)),
+    }
 }
 
 /// The bench, and a scratch buffer for the digits of a line.

@@ -8,7 +8,7 @@ ghost use Rattle.enip_commands.specs.Digits.{bytes_spelled};
 ghost use Rattle.enip_replay.specs.Script.{Means, IsMeaningless, IsNotAKeyword, BeginsOtherwise, is_skipped};
 ghost use Rattle.enip_replay.specs.Script.{IsReplySpelled, SpellsNoReply, IsStatus};
 ghost use Rattle.enip_replay.specs.Script.{before_space, after_space, first_space};
-ghost use Rattle.enip_commands.specs.Statuses.{IsOfDevices};
+ghost use Rattle.enip_faults.specs.Statuses.{IsOfDevices};
 
 use cip_bytes::protocol::GeneralStatus;
 use cip_owner::OwnerReply;

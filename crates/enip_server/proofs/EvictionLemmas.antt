@@ -1,11 +1,11 @@
 -- Who gives way to a new client.
-use Rattle.std.proofs.Common.{◌≡◌, ◌≢◌, ◌<◌, ◌-◌, ℕ, zero, suc, List, [], ◌∷◌, ◌++◌, slice_get, slice_set, ltb}
-use Rattle.std.proofs.Common.{Bool, true, false, not, ◌&&◌, if◌then◌else◌, eqb, Option, Some, None, Result, Ok, Err, ◌⊎◌, inl, inr}
-use Rattle.std.proofs.Common.{refl, sym, ap, subst, ◌∙◌, arith}
+use Rattle.std.proofs.Common.{◌≡◌, ◌≢◌, ◌<◌, ◌-◌, ℕ, zero, suc, List, [], ◌∷◌, ◌++◌, slice_get, ltb}
+use Rattle.std.proofs.Common.{Bool, true, false, not, ◌&&◌, if◌then◌else◌, Option, Some, None, Result, Ok, Err, ◌⊎◌, inl, inr}
+use Rattle.std.proofs.Common.{refl, sym, ap, subst, ◌∙◌}
 use Rattle.std.proofs.lemmas.Bool.{lt-ltb}
 use Rattle.std.specs.Option.{option_map}
 use Rattle.enip_adapter.specs.declared.adapter.Full.{Full}
-use Rattle.enip_adapter.specs.declared.adapter.Full.TheVariants.{Places, Share}
+use Rattle.enip_adapter.specs.declared.adapter.Full.TheVariants.{Share}
 use Rattle.enip_adapter.specs.declared.peer.Rights.{Rights}
 use Rattle.enip_adapter.specs.Calls.{AdapterState, Call}
 use Rattle.enip_adapter.specs.Calls.Call.{Begins_peer}
@@ -15,9 +15,9 @@ use Rattle.enip_server.specs.declared.evictions.Silent.{Silent}
 use Rattle.enip_server.specs.declared.peer_io.PeerIo.{PeerIo}
 use Rattle.enip_server.specs.Rounds.{ServerState, first_free, new_peer_io}
 use Rattle.enip_server.specs.Evictions.{is_registered, is_without_session, may_give_way, silent_in, longer, one_further}
-use Rattle.enip_server.specs.Evictions.{longest_silent, gives_way, slot_given, slot_found, slot_for, freed, freed_of}
-use Rattle.enip_server.specs.Evictions.{BeginsIn, IsAddedAt, IsAddedAs}
-use Rattle.enip_server.proofs.LifeLemmas.{get_set_other, free_elsewhere, ends_before, freed_leads}
+use Rattle.enip_server.specs.Evictions.{longest_silent, gives_way, slot_given, slot_found, slot_for, freed}
+use Rattle.enip_server.specs.Evictions.{has_handle, with_handle, with_room, with_room_at, BeginsIn, IsAddedAt, IsAddedAs}
+use Rattle.enip_server.proofs.LifeLemmas.{get_set_other, free_elsewhere, ends_before, freed_elsewhere, freed_leads}
 use Rattle.enip_server.proofs.TransferLemmas.{after_calls-append}
 
 -- the longer of two is one of them
@@ -93,7 +93,58 @@ module _ {W : Type 0} (a : AdapterState) (now : ℕ) where
           = in_later (longest_silent a now slots) s later in
           others t.0 t.1 io (subst (λ n. slice_get (slot ∷ slots) n ≡ Some (Some io)) t.2 there)
 
+  -- and there is one
+  pub found_there : (slots : List (Option (PeerIo W))) (s : Silent) → longest_silent a now slots ≡ Some s
+      → (io : PeerIo W) × (slice_get slots s.slot ≡ Some (Some io))
+  found_there [] s is = cc
+  found_there (slot ∷ slots) s is =
+      of_one (found_there slots) slot refl
+      (longer_is (silent_in a now slot) (option_map one_further (longest_silent a now slots)) s is)
+    where
+      of_one : ((t : Silent) → longest_silent a now slots ≡ Some t
+          → (l : PeerIo W) × (slice_get slots t.slot ≡ Some (Some l)))
+          → (head : Option (PeerIo W)) → slot ≡ head
+          → (silent_in a now slot ≡ Some s) ⊎ (option_map one_further (longest_silent a now slots) ≡ Some s)
+          → (io : PeerIo W) × (slice_get (slot ∷ slots) s.slot ≡ Some (Some io))
+      of_one others None none (inl first) =
+          let free : silent_in {W = W} a now None ≡ Some s = subst (λ o. silent_in a now o ≡ Some s) none first in
+          absurd (cc)
+      of_one others (Some io) some (inl first) =
+          (io, subst (λ n. slice_get (slot ∷ slots) n ≡ Some (Some io)) (sym (at_first slot s first)) (ap Some some))
+      of_one others head some (inr later) =
+          let t : (t : Silent) × (longest_silent a now slots ≡ Some t) × (s.slot ≡ suc t.slot)
+          = in_later (longest_silent a now slots) s later in
+          let l : (l : PeerIo W) × (slice_get slots t.0.slot ≡ Some (Some l)) = others t.0 t.1 in
+          (l.0, subst (λ n. slice_get (slot ∷ slots) n ≡ Some (Some l.0)) (sym t.2) l.1)
+
 module _ {W : Type 0} where
+  -- What it means that a slot is for a client: its group has a share left, a session handle is left, and the slot is
+  -- free or that of the peer that gives way.
+  pub record IsFor (p : ServerState W) (now : ℕ) (group : Option ℕ) (at : ℕ) : Type 0 where
+    pub share : has_share p.adapter.state.shared.share p.adapter.state.peers group ≡ true
+    pub handle : has_handle p.adapter ≡ true
+    pub found : slot_found (first_free p.slots) (gives_way p now group) ≡ Ok at
+
+  pub is_for : (p : ServerState W) (now : ℕ) (group : Option ℕ) (at : ℕ) → slot_for p now group ≡ Ok at
+      → IsFor p now group at
+  is_for p now group at is = by (has_share p.adapter.state.shared.share p.adapter.state.peers group) refl is
+    where
+      given : has_share p.adapter.state.shared.share p.adapter.state.peers group ≡ true → (left : Bool)
+          → has_handle p.adapter ≡ left → (found : Result ℕ Full)
+          → slot_found (first_free p.slots) (gives_way p now group) ≡ found → with_handle left found ≡ Ok at
+          → IsFor p now group at
+      given share left handle (Err full) found is = absurd (cc)
+      given share true handle (Ok slot) found is = record { share = share; handle = handle; found = found ∙ is }
+      given share false handle (Ok slot) found is = absurd (cc)
+
+      by : (share : Bool) → has_share p.adapter.state.shared.share p.adapter.state.peers group ≡ share
+          → (if not share then Err Share
+          else with_handle (has_handle p.adapter) (slot_found (first_free p.slots) (gives_way p now group))) ≡ Ok at
+          → IsFor p now group at
+      by false share is = absurd (cc)
+      by true share is =
+          given share (has_handle p.adapter) refl (slot_found (first_free p.slots) (gives_way p now group)) refl is
+
   gives_way_may : (p : ServerState W) (now : ℕ) (group : Option ℕ) (s : Silent) → gives_way p now group ≡ Some s
       → (io : PeerIo W) → slice_get p.slots s.slot ≡ Some (Some io) → may_give_way p.adapter now io ≡ true
   gives_way_may p now None s is io there = cc
@@ -104,7 +155,7 @@ module _ {W : Type 0} where
       → slot_for p now group ≡ Ok at → slice_get p.slots slot ≡ Some (Some io)
       → may_give_way p.adapter now io ≡ false → at ≢ slot
   slot_elsewhere p now group at slot io is there may =
-      by (not (has_share p.adapter.state.shared.share p.adapter.state.peers group)) is
+      found (first_free p.slots) refl (is_for p now group at is).found
     where
       given : (silent : Option Silent) → gives_way p now group ≡ silent → slot_given silent ≡ Ok at → at ≢ slot
       given None way is = absurd (cc)
@@ -123,18 +174,7 @@ module _ {W : Type 0} where
           let same : free ≡ at = cc in
           λ here. free_elsewhere p.slots free slot io some there (same ∙ here)
 
-      by : (holds : Bool) → (if holds then Err Share else slot_found (first_free p.slots) (gives_way p now group)) ≡ Ok at
-          → at ≢ slot
-      by true is = absurd (cc)
-      by false is = found (first_free p.slots) refl is
-
-  freed_stays : (p : ServerState W) (at slot : ℕ) (found : Option (Option (PeerIo W))) → at ≢ slot
-      → slice_get (freed_of p at found).slots slot ≡ slice_get p.slots slot
-  freed_stays p at slot None differs = refl
-  freed_stays p at slot (Some None) differs = refl
-  freed_stays p at slot (Some (Some io)) differs = get_set_other p.slots at slot None differs
-
-  begins_stays : (p new : ServerState W) (now : ℕ) (wire : W) (rights : Rights) (group : Option ℕ) (at : ℕ)
+  pub begins_stays : (p new : ServerState W) (now : ℕ) (wire : W) (rights : Rights) (group : Option ℕ) (at : ℕ)
       (result : Result ℕ Full) → BeginsIn now wire rights group at p new result → (slot : ℕ) → at ≢ slot
       → slice_get new.slots slot ≡ slice_get p.slots slot
   begins_stays p new now wire rights group at (Ok taken) is slot differs =
@@ -150,22 +190,25 @@ module _ {W : Type 0} where
   added_stays old new now wire rights group (Ok at) result is which slot io there may =
       let differs : at ≢ slot = slot_elsewhere old now group at slot io which there may in
       begins_stays (freed old at) new now wire rights group at result is slot differs
-      ∙ freed_stays old at slot (slice_get old.slots at) differs ∙ there
+      ∙ freed_elsewhere old at slot (slice_get old.slots at) differs ∙ there
   added_stays old new now wire rights group (Err full) result is which slot io there may =
       ap (λ (q : ServerState W). slice_get q.slots slot) is.1 ∙ there
 
+  -- room is made for a client, and a peer that may not give way stays
+  room_stays : (p : ServerState W) (now : ℕ) (group : Option ℕ) (chosen : Result ℕ Full) → slot_for p now group ≡ chosen
+      → (slot : ℕ) (io : PeerIo W) → slice_get p.slots slot ≡ Some (Some io)
+      → may_give_way p.adapter now io ≡ false → slice_get (with_room_at p chosen).slots slot ≡ Some (Some io)
+  room_stays p now group (Ok at) which slot io there may =
+      freed_elsewhere p at slot (slice_get p.slots at) (slot_elsewhere p now group at slot io which there may) ∙ there
+  room_stays p now group (Err full) which slot io there may = there
+
   -- if a slot is free, the client gets that, and all others stay
-  free_given : (p : ServerState W) (now : ℕ) (group : Option ℕ) (at free : ℕ) → slot_for p now group ≡ Ok at
+  pub free_given : (p : ServerState W) (now : ℕ) (group : Option ℕ) (at free : ℕ) → slot_for p now group ≡ Ok at
       → first_free p.slots ≡ Some free → free ≡ at
-  free_given p now group at free is some = by (not (has_share p.adapter.state.shared.share p.adapter.state.peers group)) is
-    where
-      by : (holds : Bool) → (if holds then Err Share else slot_found (first_free p.slots) (gives_way p now group)) ≡ Ok at
-          → free ≡ at
-      by true is = absurd (cc)
-      by false is =
-          let found : slot_found (Some free) (gives_way p now group) ≡ Ok at
-          = subst (λ o. slot_found o (gives_way p now group) ≡ Ok at) some is in
-          cc
+  free_given p now group at free is some =
+      let found : slot_found (Some free) (gives_way p now group) ≡ Ok at
+      = subst (λ o. slot_found o (gives_way p now group) ≡ Ok at) some (is_for p now group at is).found in
+      cc
 
   pub added_elsewhere : (old new : ServerState W) (now : ℕ) (wire : W) (rights : Rights) (group : Option ℕ)
       (chosen result : Result ℕ Full) → IsAddedAt now wire rights group chosen old new result
@@ -175,7 +218,7 @@ module _ {W : Type 0} where
       let differs : at ≢ slot
       = λ here. free_elsewhere old.slots free slot io some there (free_given old now group at free which some ∙ here) in
       begins_stays (freed old at) new now wire rights group at result is slot differs
-      ∙ freed_stays old at slot (slice_get old.slots at) differs ∙ there
+      ∙ freed_elsewhere old at slot (slice_get old.slots at) differs ∙ there
   added_elsewhere old new now wire rights group (Err full) result is which free some slot io there =
       ap (λ (q : ServerState W). slice_get q.slots slot) is.1 ∙ there
 
@@ -216,3 +259,17 @@ module _ {W : Type 0} where
   law_recent now wire rights group old new result slot io is there less =
       added_stays old new now wire rights group (slot_for old now group) result is refl slot io there
       (heard_lately (is_without_session (is_registered old.adapter io.peer)) (now - io.last_byte_at) less)
+
+  pub law_room_session : (now : ℕ) (group : Option ℕ) (p : ServerState W) (slot : ℕ) (io : PeerIo W)
+      → slice_get p.slots slot ≡ Some (Some io) → is_registered p.adapter io.peer ≡ Some true
+      → slice_get (with_room p now group).slots slot ≡ Some (Some io)
+  law_room_session now group p slot io there registered =
+      room_stays p now group (slot_for p now group) refl slot io there
+      (with_session (is_registered p.adapter io.peer) (not (ltb (now - io.last_byte_at) 10000000)) registered)
+
+  pub law_room_recent : (now : ℕ) (group : Option ℕ) (p : ServerState W) (slot : ℕ) (io : PeerIo W)
+      → slice_get p.slots slot ≡ Some (Some io) → now - io.last_byte_at < 10000000
+      → slice_get (with_room p now group).slots slot ≡ Some (Some io)
+  law_room_recent now group p slot io there less =
+      room_stays p now group (slot_for p now group) refl slot io there
+      (heard_lately (is_without_session (is_registered p.adapter io.peer)) (now - io.last_byte_at) less)

@@ -13,3 +13,5 @@ pub mod RoundAsks
 pub mod LifeLemmas
 pub mod EvictionLemmas
 pub mod HeldLemmas
+pub mod RoomLemmas
+pub mod RoomRounds

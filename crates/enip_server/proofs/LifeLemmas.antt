@@ -22,10 +22,10 @@ use Rattle.enip_server.specs.Wires.{KnownCalls}
 use Rattle.enip_server.specs.PeerStates.{peer_state_of}
 use Rattle.enip_server.specs.Transfers.{Transfers, GoesOnWith}
 use Rattle.enip_server.specs.Rounds.{ServerState, new_peers, new_peer_io, first_free, IsAdded, marked_ready_in, marked_ready_at}
-use Rattle.enip_server.specs.Evictions.{BeginsIn, IsAddedAt, freed, freed_of, slot_for}
+use Rattle.enip_server.specs.Evictions.{BeginsIn, IsAddedAt, freed, freed_of, slot_for, with_room_at}
 use Rattle.enip_server.specs.Rounds.{written_by, nobody, no_answer, same_nobody}
 use Rattle.enip_server.specs.Runs.{IsStep, IsRun, HoldsSlot, KeepsSlot, IsStill, IsStillAt, AreStill}
-use Rattle.enip_server.specs.Runs.IsStep.{Adds, Adds_as, MarksReady, Rounds, Rounds_alone, Writes_own, Releases}
+use Rattle.enip_server.specs.Runs.IsStep.{Adds, Adds_as, Makes_room, MarksReady, Rounds, Rounds_alone, Writes_own, Releases}
 use Rattle.enip_server.specs.Runs.IsRun.{Still, Goes_on}
 use Rattle.enip_server.specs.Runs.KeepsSlot.{Begins, Stays_on}
 use Rattle.enip_server.proofs.ApartLemmas.{AreSound, sound_new, sound_come, sound_of, of_woken, of_freed, apart_at, below_at}
@@ -83,6 +83,29 @@ module _ {W : Type 0} where
   freed_leads p slot None = refl
   freed_leads p slot (Some None) = refl
   freed_leads p slot (Some (Some io)) = refl
+
+  -- any other slot stays
+  pub freed_elsewhere : (p : ServerState W) (at slot : ℕ) (found : Option (Option (PeerIo W))) → at ≢ slot
+      → slice_get (freed_of p at found).slots slot ≡ slice_get p.slots slot
+  freed_elsewhere p at slot None differs = refl
+  freed_elsewhere p at slot (Some None) differs = refl
+  freed_elsewhere p at slot (Some (Some io)) differs = get_set_other p.slots at slot None differs
+
+  -- a freed slot holds nobody
+  pub freed_here : (p : ServerState W) (at : ℕ) (found : Option (Option (PeerIo W))) → slice_get p.slots at ≡ found
+      → (after : PeerIo W) → slice_get (freed_of p at found).slots at ≡ Some (Some after) → ⊥
+  freed_here p at None is after stays = cc
+  freed_here p at (Some None) is after stays = cc
+  freed_here p at (Some (Some io)) is after stays =
+      let none : slice_get (slice_set p.slots at None) at ≡ Some None = get_set_same p.slots at None (Some io) is in
+      cc
+
+  -- and the next session handle is the same
+  pub freed_next : (p : ServerState W) (at : ℕ) (found : Option (Option (PeerIo W)))
+      → (freed_of p at found).adapter.state.next_handle ≡ p.adapter.state.next_handle
+  freed_next p at None = refl
+  freed_next p at (Some None) = refl
+  freed_next p at (Some (Some io)) = next_end p.adapter io.peer
 
   -- the peer that a slot was set to
   pub set_peer : (slots : List (Option (PeerIo W))) (slot : ℕ) (io after : PeerIo W)
@@ -173,10 +196,16 @@ module _ {W O : Type 0} (left written : W → Option (List ℕ)) (known : W → 
       (sound_freed old slot (slice_get old.slots slot) sound)
   sound_added_as old new now wire rights group (Err full) result is sound = subst AreSound (sym is.1) sound
 
-  sound_step : (old new : ServerState W) → IsStep left written known counts answer next old new → AreSound old → AreSound new
+  sound_room : (p : ServerState W) (chosen : Result ℕ Full) → AreSound p → AreSound (with_room_at p chosen)
+  sound_room p (Ok slot) sound = sound_freed p slot (slice_get p.slots slot) sound
+  sound_room p (Err full) sound = sound
+
+  pub sound_step : (old new : ServerState W) → IsStep left written known counts answer next old new → AreSound old → AreSound new
   sound_step old new (Adds now wire result is) sound = sound_comes old new now wire result is sound
   sound_step old new (Adds_as now wire rights group result is) sound =
       sound_added_as old new now wire rights group (slot_for old now group) result is sound
+  sound_step old new (Makes_room now group is) sound =
+      subst AreSound (sym is) (sound_room old (slot_for old now group) sound)
   sound_step old new (MarksReady slot ends is) sound =
       sound_of old new sound
       (subst (AreOf old.slots) (sym (ap (λ p. p.slots) is)) (of_woken ends old.slots slot (slice_get old.slots slot) refl))
@@ -192,7 +221,7 @@ module _ {W O : Type 0} (left written : W → Option (List ℕ)) (known : W → 
       sound_of old new sound (of_still left written old.slots new.slots still)
       (omega (arith, ap (λ p. p.adapter.state.next_handle) is))
 
-  sound_run : (old new : ServerState W) → IsRun left written known counts answer next old new → AreSound old → AreSound new
+  pub sound_run : (old new : ServerState W) → IsRun left written known counts answer next old new → AreSound old → AreSound new
   sound_run old new Still sound = sound
   sound_run old new (Goes_on {between = between} run step) sound =
       sound_step between new step (sound_run old between run sound)
@@ -257,27 +286,6 @@ module _ {W O : Type 0} (left written : W → Option (List ℕ)) (known : W → 
   freed_others p at slot (Some None) is sound differs io there = tt
   freed_others p at slot (Some (Some ended)) is sound differs io there =
       (apart_at p.slots at slot ended io sound.apart is there differs, tt)
-
-  freed_elsewhere : (p : ServerState W) (at slot : ℕ) (found : Option (Option (PeerIo W))) → at ≢ slot
-      → slice_get (freed_of p at found).slots slot ≡ slice_get p.slots slot
-  freed_elsewhere p at slot None differs = refl
-  freed_elsewhere p at slot (Some None) differs = refl
-  freed_elsewhere p at slot (Some (Some io)) differs = get_set_other p.slots at slot None differs
-
-  -- a freed slot holds nobody
-  freed_here : (p : ServerState W) (at : ℕ) (found : Option (Option (PeerIo W))) → slice_get p.slots at ≡ found
-      → (after : PeerIo W) → slice_get (freed_of p at found).slots at ≡ Some (Some after) → ⊥
-  freed_here p at None is after stays = cc
-  freed_here p at (Some None) is after stays = cc
-  freed_here p at (Some (Some io)) is after stays =
-      let none : slice_get (slice_set p.slots at None) at ≡ Some None = get_set_same p.slots at None (Some io) is in
-      cc
-
-  freed_next : (p : ServerState W) (at : ℕ) (found : Option (Option (PeerIo W)))
-      → (freed_of p at found).adapter.state.next_handle ≡ p.adapter.state.next_handle
-  freed_next p at None = refl
-  freed_next p at (Some None) = refl
-  freed_next p at (Some (Some io)) = next_end p.adapter io.peer
 
   -- another peer stays while a peer begins in a slot that was freed
   kept_elsewhere : (old new : ServerState W) (now : ℕ) (wire : W) (rights : Rights) (group : Option ℕ) (at : ℕ)
@@ -359,6 +367,39 @@ module _ {W O : Type 0} (left written : W → Option (List ℕ)) (known : W → 
       (same_line old.slots slot io after there
       (subst (λ (p : ServerState W). slice_get p.slots slot ≡ Some (Some after)) is.1 stays)))
 
+  -- room was made
+  kept_freed : (old new : ServerState W) (at : ℕ) → new ≡ freed old at → AreSound old → (slot : ℕ) (io after : PeerIo W)
+      → slice_get old.slots slot ≡ Some (Some io) → slice_get new.slots slot ≡ Some (Some after) → (here : Bool)
+      → eqb at slot ≡ here → IsKept old.adapter io new.adapter after
+  kept_freed old new at is sound slot io after there stays false which =
+      let found : Option (Option (PeerIo W)) = slice_get old.slots at in
+      let differs : at ≢ slot = eqb-false at slot which in
+      let before : slice_get old.slots slot ≡ Some (Some after)
+      = sym (freed_elsewhere old at slot found differs)
+      ∙ subst (λ (p : ServerState W). slice_get p.slots slot ≡ Some (Some after)) is stays in
+      record {
+        calls = ends_before old at found;
+        each = freed_others old at slot found refl sound differs io there;
+        leads = ap (λ p. p.adapter) is ∙ freed_leads old at found;
+        same = ap (peer_state_of left written known counts new.adapter) (same_line old.slots slot io after there before);
+      }
+  kept_freed old new at is sound slot io after there stays true which =
+      let here : slot ≡ at = sym (eqb-true at slot which) in
+      absurd (freed_here old at (slice_get old.slots at) refl after
+      (subst (λ (p : ServerState W). slice_get p.slots at ≡ Some (Some after)) is
+      (subst (λ n. slice_get new.slots n ≡ Some (Some after)) here stays)))
+
+  kept_room : (old new : ServerState W) (chosen : Result ℕ Full) → new ≡ with_room_at old chosen → AreSound old
+      → (slot : ℕ) (io after : PeerIo W) → slice_get old.slots slot ≡ Some (Some io)
+      → slice_get new.slots slot ≡ Some (Some after) → IsKept old.adapter io new.adapter after
+  kept_room old new (Ok at) is sound slot io after there stays =
+      kept_freed old new at is sound slot io after there stays (eqb at slot) refl
+  kept_room old new (Err full) is sound slot io after there stays =
+      kept_still old.adapter io new.adapter after (ap (λ p. p.adapter) is)
+      (ap (peer_state_of left written known counts new.adapter)
+      (same_line old.slots slot io after there
+      (subst (λ (p : ServerState W). slice_get p.slots slot ≡ Some (Some after)) is stays)))
+
   -- the device wrote, which is a call for no peer
   kept_written : (old new : ServerState W) (write : OwnWrite) → new ≡ written_by write old → (slot : ℕ) (io after : PeerIo W)
       → slice_get old.slots slot ≡ Some (Some io) → slice_get new.slots slot ≡ Some (Some after)
@@ -431,6 +472,9 @@ module _ {W O : Type 0} (left written : W → Option (List ℕ)) (known : W → 
       kept_moves old.adapter io new.adapter after
       (kept_added_as old new now wire rights group (slot_for old now group) result is sound slot io after there stays
       same)
+  step_moves old new sound (Makes_room now group is) slot io after there stays same =
+      kept_moves old.adapter io new.adapter after
+      (kept_room old new (slot_for old now group) is sound slot io after there stays)
   step_moves old new sound (MarksReady waken ends is) slot io after there stays same =
       kept_moves old.adapter io new.adapter after
       (kept_still old.adapter io new.adapter after (ap (λ p. p.adapter) is)

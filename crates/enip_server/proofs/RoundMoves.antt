@@ -50,10 +50,10 @@ other_goes_on peer (Ticks now) is = tt
 other_goes_on peer (Writes write) is = tt
 
 -- Calls that have a property and lead from one adapter to another.
-record LeadsBy (P : Call → Type 0) (a b : AdapterState) : Type 0 where
-  calls : List Call
-  each : AllByRecursion P calls
-  after : b ≡ after_calls a calls
+pub record LeadsBy (P : Call → Type 0) (a b : AdapterState) : Type 0 where
+  pub calls : List Call
+  pub each : AllByRecursion P calls
+  pub after : b ≡ after_calls a calls
 
 leads_not : (P : Call → Type 0) (a : AdapterState) → LeadsBy P a a
 leads_not P a = record { calls = []; each = tt; after = refl }
@@ -72,9 +72,9 @@ leads_weaker P Q a b weaker l = record { calls = l.calls; each = all_weaker P Q 
 module _ {W O : Type 0} (left written : W → Option (List ℕ)) (known : W → Option KnownCalls) (counts : W → WireCounts)
     (answer : O → Asked → Option Reply) (next : O → Asked → O) (now idle_timeout : ℕ) where
   -- The result of a peer's turn: the peer is the same, and calls of a turn change its state.
-  record HasMoved (a : AdapterState) (io : PeerIo W) (b : AdapterState) (after : PeerIo W) : Type 0 where
-    peer : after.peer ≡ io.peer
-    moves : MovesBy io.peer (IsTurnCall now io.peer) (peer_state_of left written known counts a io) (peer_state_of left written known counts b after)
+  pub record HasMoved (a : AdapterState) (io : PeerIo W) (b : AdapterState) (after : PeerIo W) : Type 0 where
+    pub peer : after.peer ≡ io.peer
+    pub moves : MovesBy io.peer (IsTurnCall now io.peer) (peer_state_of left written known counts a io) (peer_state_of left written known counts b after)
 
   moved_not : (a : AdapterState) (io : PeerIo W) (b : AdapterState) (after : PeerIo W) → b ≡ a → after ≡ io
       → HasMoved a io b after
@@ -100,7 +100,7 @@ module _ {W O : Type 0} (left written : W → Option (List ℕ)) (known : W → 
   moved_ready first a io last b after goes_on s early true is =
       moved_turn first a io last b after goes_on (s.ready early is)
 
-  moved_line : (first : O) (a : AdapterState) (io : PeerIo W) (last : O) (b : AdapterState) (after : PeerIo W)
+  pub moved_line : (first : O) (a : AdapterState) (io : PeerIo W) (last : O) (b : AdapterState) (after : PeerIo W)
       (goes_on : Bool) → IsServedPeer left written known counts answer next now idle_timeout first a io last b after goes_on
       → (early : Bool) → ltb now (timeout_at idle_timeout io) ≡ early → HasMoved a io b after
   moved_line first a io last b after goes_on s true is =
@@ -199,7 +199,7 @@ module _ {W O : Type 0} (left written : W → Option (List ℕ)) (known : W → 
   none_head peer (Some first) slots none io is =
       let same : first ≡ io = cc in subst (λ (l : PeerIo W). l.peer ≢ peer) same none.0
 
-  places_for_others : (peer : ℕ) (first : O) (a : AdapterState) (slots : List (Option (PeerIo W))) (last : O)
+  pub places_for_others : (peer : ℕ) (first : O) (a : AdapterState) (slots : List (Option (PeerIo W))) (last : O)
       (b : AdapterState) (places : List (Option (PeerIo W)))
       → AreSlotsServed left written known counts answer next now idle_timeout first a slots last b places
       → HasNone peer slots → LeadsBy (IsForOther peer) a b
@@ -283,6 +283,12 @@ module _ {W O : Type 0} (left written : W → Option (List ℕ)) (known : W → 
     (answer : O → Asked → Option Reply) (next : O → Asked → O) (now : ℕ)
     (first : O) (old : ServerState W) (last : O) (new : ServerState W)
     (round : IsRound left written known counts answer next now first old last new) where
+  -- each slot is free afterwards, or holds the same peer
+  pub round_of : AreOf old.slots new.slots
+  round_of =
+      (places_next left written known counts answer next now old.idle_timeout first (after_call old.adapter (Ticks now))
+      old.slots last new.adapter new.slots round.places).0
+
   -- the peers stay sound in a round
   pub sound_round : AreSound old → AreSound new
   sound_round sound =

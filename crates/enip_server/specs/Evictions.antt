@@ -1,9 +1,10 @@
--- A client that is added with rights, as one of a group: which slot it gets, and which peer gives way to it.
-use Rattle.std.specs.Prelude.{ℕ, suc, ◌-◌, ◌≡◌, nat_lt, Bool, true, false, not, ◌&&◌, if◌then◌else◌, List, [], ◌∷◌}
+-- A client that is added with rights, as one of a group: which slot it gets, which peer gives way to it, and how room is
+-- made for it before it is added.
+use Rattle.std.specs.Prelude.{ℕ, suc, ◌-◌, ◌≡◌, nat_lt, Bool, false, not, ◌&&◌, if◌then◌else◌, List, [], ◌∷◌}
 use Rattle.std.specs.Prelude.{Option, Some, None, Result, Ok, Err, slice_get, slice_set}
 use Rattle.std.specs.Option.{option_map}
 use Rattle.enip_adapter.specs.declared.adapter.Full.{Full}
-use Rattle.enip_adapter.specs.declared.adapter.Full.TheVariants.{Places, Share}
+use Rattle.enip_adapter.specs.declared.adapter.Full.TheVariants.{Places, Handles, Share}
 use Rattle.enip_adapter.specs.declared.peer.Rights.{Rights}
 use Rattle.enip_adapter.specs.Calls.{AdapterState, call_answer, after_call}
 use Rattle.enip_adapter.specs.Calls.Call.{Begins_peer, Ends_peer}
@@ -53,8 +54,12 @@ abbrev pub gives_way : {W : Type 0} → ServerState W → ℕ → Option ℕ →
 gives_way p now None = None
 gives_way p now (Some group) = longest_silent p.adapter now p.slots
 
+-- Whether a session handle is left: the last one is 0xffffffff.
+abbrev pub has_handle : AdapterState → Bool
+has_handle a = not (nat_lt 0xffffffff a.state.next_handle)
+
 -- The slot that a new client gets: the first free one, else that of the peer that gives way to it. A group that holds
--- its share gets none.
+-- its share gets none, and nobody does if no session handle is left.
 abbrev pub slot_given : Option Silent → Result ℕ Full
 slot_given None = Err Places
 slot_given (Some silent) = Ok silent.slot
@@ -63,10 +68,14 @@ abbrev pub slot_found : Option ℕ → Option Silent → Result ℕ Full
 slot_found None silent = slot_given silent
 slot_found (Some free) silent = Ok free
 
+abbrev pub with_handle : Bool → Result ℕ Full → Result ℕ Full
+with_handle left (Err full) = Err full
+with_handle left (Ok slot) = if left then Ok slot else Err Handles
+
 abbrev pub slot_for : {W : Type 0} → ServerState W → ℕ → Option ℕ → Result ℕ Full
 slot_for p now group =
     if not (has_share p.adapter.state.shared.share p.adapter.state.peers group) then Err Share
-    else slot_found (first_free p.slots) (gives_way p now group)
+    else with_handle (has_handle p.adapter) (slot_found (first_free p.slots) (gives_way p now group))
 
 -- A slot is freed: the peer in it is ended, if there is one.
 abbrev pub freed_of : {W : Type 0} → ServerState W → ℕ → Option (Option (PeerIo W)) → ServerState W
@@ -79,6 +88,14 @@ freed_of p slot (Some (Some io)) = record p {
 
 abbrev pub freed : {W : Type 0} → ServerState W → ℕ → ServerState W
 freed p slot = freed_of p slot (slice_get p.slots slot)
+
+-- Room is made for a new client: the slot that is for it is freed. Nothing changes if no slot is for it.
+abbrev pub with_room_at : {W : Type 0} → ServerState W → Result ℕ Full → ServerState W
+with_room_at p (Err full) = p
+with_room_at p (Ok slot) = freed p slot
+
+abbrev pub with_room : {W : Type 0} → ServerState W → ℕ → Option ℕ → ServerState W
+with_room p now group = with_room_at p (slot_for p now group)
 
 -- A peer begins in a slot, or the adapter refuses it and nothing changes.
 abbrev pub BeginsIn : {W : Type 0} → ℕ → W → Rights → Option ℕ → ℕ → ServerState W → ServerState W → Result ℕ Full

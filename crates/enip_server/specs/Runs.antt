@@ -9,7 +9,7 @@ use Rattle.enip_adapter.specs.OwnWrites.{OwnWrite}
 use Rattle.enip_server.specs.declared.peer_io.PeerIo.{PeerIo}
 use Rattle.enip_server.specs.declared.wire_counts.WireCounts.{WireCounts}
 use Rattle.enip_server.specs.Wires.{KnownCalls}
-use Rattle.enip_server.specs.Evictions.{IsAddedAs}
+use Rattle.enip_server.specs.Evictions.{IsAddedAs, with_room}
 use Rattle.enip_server.specs.Rounds.{ServerState, IsRound, IsAdded, marked_ready, written_by}
 use Rattle.enip_server.specs.Rounds.{nobody, no_answer, same_nobody}
 
@@ -34,9 +34,9 @@ AreStill left written (io ∷ slots) [] = ⊥
 AreStill left written (io ∷ slots) (slot ∷ places) =
     IsStillAt left written io slot × AreStill left written slots places
 
--- One call: a peer is added, or refused, with rights and a group or without; a wire may be ready, or at the end of its stream; a round that asks the owner of
--- the device, in any state, or one that asks nobody; the device's own write; or a release of all wires, if they hold
--- back what is written to them.
+-- One call: a peer is added, or refused, with rights and a group or without; room is made for a client; a wire may be
+-- ready, or at the end of its stream; a round that asks the owner of the device, in any state, or one that asks nobody;
+-- the device's own write; or a release of all wires, if they hold back what is written to them.
 pub data IsStep {W O : Type 0} (left written : W → Option (List ℕ)) (known : W → Option KnownCalls)
     (counts : W → WireCounts) (answer : O → Asked → Option Reply) (next : O → Asked → O)
     : ServerState W → ServerState W → Type 0 where
@@ -44,6 +44,8 @@ pub data IsStep {W O : Type 0} (left written : W → Option (List ℕ)) (known :
       → IsStep left written known counts answer next old new
   Adds_as : {old new : ServerState W} (now : ℕ) (wire : W) (rights : Rights) (group : Option ℕ) (result : Result ℕ Full)
       → IsAddedAs now wire rights group old new result
+      → IsStep left written known counts answer next old new
+  Makes_room : {old new : ServerState W} (now : ℕ) (group : Option ℕ) → new ≡ with_room old now group
       → IsStep left written known counts answer next old new
   MarksReady : {old new : ServerState W} (slot : ℕ) (ends : Bool)
       → new ≡ record old { slots = marked_ready ends old.slots slot }

@@ -1,7 +1,7 @@
 //! Laws that hold for every list of calls of `Peers`. Each law is the contract of a function that does nothing. It is
 //! stated over the same definitions as the contracts of the calls.
 
-ghost use Rattle.std.specs.Prelude.{ℕ, ◌≡◌, ◌<◌, ◌-◌, List, Option, Some, Result, true, slice_get};
+ghost use Rattle.std.specs.Prelude.{ℕ, ◌≡◌, ◌≢◌, ◌<◌, ◌-◌, List, Option, Some, Result, Ok, true, slice_get};
 ghost use Rattle.std.specs.List.{AllByRecursion};
 ghost use Rattle.enip_adapter.specs.Asks.{asks_of_calls, owner_after};
 ghost use Rattle.enip_adapter.specs.Calls.{AdapterState, Call};
@@ -11,8 +11,8 @@ ghost use Rattle.enip_server.specs.declared.held_wire.HeldWire.{HeldWire};
 ghost use Rattle.enip_server.specs.declared.peer_io.PeerIo.{PeerIo};
 ghost use Rattle.enip_server.specs.PeerStates.{PeerState, IsTurn, peer_state_of};
 ghost use Rattle.enip_server.specs.Transfers.{Transfers, IsTurnCall, GoesOnWith, AreAsked};
-ghost use Rattle.enip_server.specs.Rounds.{ServerState, IsRound, new_peers};
-ghost use Rattle.enip_server.specs.Evictions.{IsAddedAs, is_registered};
+ghost use Rattle.enip_server.specs.Rounds.{ServerState, IsRound, new_peers, new_peer_io};
+ghost use Rattle.enip_server.specs.Evictions.{IsAddedAs, is_registered, slot_for, with_room};
 ghost use Rattle.enip_server.specs.Held.{AreReleased};
 ghost use Rattle.enip_server.specs.Runs.{IsRun, IsStep, KeepsSlot};
 
@@ -72,7 +72,7 @@ pub fn releases_lose_nothing<W: Wire, O: Owner>()
 {}
 
 /// Nobody with a session gives way to a new client, and nobody from whom a byte arrived in the last 10 seconds: such a
-/// peer keeps its slot, and nothing of it changes.
+/// peer keeps its slot, and nothing of it changes, when the client is added and when room is made for it before.
 pub fn nobody_with_a_session_gives_way<W: Wire>()
     ensures session { (now : ℕ) (wire : W) (rights : Rights) (group : Option ℕ) (old new : ServerState W)
         (result : Result ℕ Full) (slot : ℕ) (io : PeerIo W) →
@@ -82,4 +82,27 @@ pub fn nobody_with_a_session_gives_way<W: Wire>()
         (result : Result ℕ Full) (slot : ℕ) (io : PeerIo W) →
         IsAddedAs now wire rights group old new result → slice_get old.slots slot ≡ Some (Some io) →
         now - io.last_byte_at < 10000000 → slice_get new.slots slot ≡ Some (Some io) }
+    ensures room_session { (now : ℕ) (group : Option ℕ) (p : ServerState W) (slot : ℕ) (io : PeerIo W) →
+        slice_get p.slots slot ≡ Some (Some io) → is_registered p.adapter io.peer ≡ Some true →
+        slice_get (with_room p now group).slots slot ≡ Some (Some io) }
+    ensures room_recent { (now : ℕ) (group : Option ℕ) (p : ServerState W) (slot : ℕ) (io : PeerIo W) →
+        slice_get p.slots slot ≡ Some (Some io) → now - io.last_byte_at < 10000000 →
+        slice_get (with_room p now group).slots slot ≡ Some (Some io) }
+{}
+
+/// A new client gets the slot that is for it, whatever calls were made before, for any adapter at the beginning. If
+/// `slot_for` names a slot, `add_as` does not refuse the client, and the client holds that slot: a peer that gives way
+/// leaves a place in the adapter, takes no share away from a group, and nobody gives way if no session handle is left.
+/// Everybody else keeps its slot as it is. Room that is made for a client beforehand is the same slot.
+pub fn new_client_gets_its_slot<W: Wire, O: Owner>()
+    ensures given { (adapter : AdapterState) (idle_timeout now slot : ℕ) (wire : W) (rights : Rights) (group : Option ℕ)
+        (old new : ServerState W) (result : Result ℕ Full) →
+        IsRun W.left W.written W.known W.counts O.answer O.after (new_peers adapter idle_timeout) old →
+        slot_for old now group ≡ Ok slot → IsAddedAs now wire rights group old new result → (handle : ℕ)
+        × (result ≡ Ok slot) × (slice_get new.slots slot ≡ Some (Some (new_peer_io handle wire now))) }
+    ensures others { (now : ℕ) (wire : W) (rights : Rights) (group : Option ℕ) (old new : ServerState W)
+        (result : Result ℕ Full) (other : ℕ) → IsAddedAs now wire rights group old new result →
+        slot_for old now group ≢ Ok other → slice_get new.slots other ≡ slice_get old.slots other }
+    ensures room { (now : ℕ) (group : Option ℕ) (p : ServerState W) →
+        slot_for (with_room p now group) now group ≡ slot_for p now group }
 {}

@@ -7,6 +7,7 @@
 //! - `add` begins a peer on a new wire.
 //! - `add_as` begins a peer with rights, as one of a group. If all slots are taken, a peer that has registered no session
 //!   and sent nothing for 10 seconds gives way to it.
+//! - `make_room` ends that peer already, for a client that is added later.
 //! - `mark_ready` reports that a wire may be ready.
 //! - `round` gives each peer that may be ready one turn. A turn first writes what is left of an answer. Once all of it
 //!   is written, it makes one read of at most 4,096 bytes and feeds them frame by frame. Each answer is written before

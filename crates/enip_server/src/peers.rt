@@ -1,7 +1,7 @@
 //! The peers of an adapter, and the calls that serve them.
 //! Text: docs/PROGRAM.md, "`enip serve`".
 
-ghost use Rattle.std.specs.Prelude.{◌≡◌, ◌≤◌, ◌<◌, length, IfOk, IfSome, is_some};
+ghost use Rattle.std.specs.Prelude.{◌≡◌, ◌≤◌, ◌<◌, length, IfOk, IfSome, is_ok, is_some};
 ghost use Rattle.std.specs.List.{list_any};
 ghost use Rattle.std.specs.Option.{option_map};
 ghost use Rattle.cip_objects.specs.DeviceWrites.{device_write};
@@ -11,7 +11,7 @@ ghost use Rattle.enip_server.specs.Rounds.{IsSlotServed, AreSlotsServed, IsRound
 ghost use Rattle.enip_server.specs.Rounds.{state_of, new_peers, first_free, IsAdded, marked_ready, is_ready, earliest_of, next_moment};
 ghost use Rattle.enip_server.specs.Rounds.{due_with, due_by, moment_or_none, written_by};
 ghost use Rattle.enip_server.specs.Rounds.{nobody, no_answer, same_nobody};
-ghost use Rattle.enip_server.specs.Evictions.{IsAddedAs, freed, slot_for};
+ghost use Rattle.enip_server.specs.Evictions.{IsAddedAs, freed, gives_way, slot_for, slot_found, with_room};
 ghost use Rattle.enip_server.specs.Held.{IsSlotReleased, AreSlotsReleased, AreReleased};
 
 use crate::evictions::longest_silent;
@@ -116,7 +116,8 @@ impl<W: Wire + Drop> Peers<W> {
     ///
     /// # Errors
     ///
-    /// `Full::Share` if the group holds its share of the peer slots, otherwise `Full::Places` if no slot is for it.
+    /// `Full::Share` if the group holds its share of the peer slots, otherwise `Full::Places` if no slot is for it,
+    /// otherwise `Full::Handles` if the last session handle was assigned.
     pub fn slot_for(&self, now: u64, group: Option<u128>) -> Result<usize, Full>
         ensures slot { result ≡ slot_for (state_of self.now) now group }
         ensures within { IfOk result (λ slot. slot < length (state_of self.now).slots) }
@@ -124,6 +125,19 @@ impl<W: Wire + Drop> Peers<W> {
         if self.adapter.holds_share(group) {
             return Err(Full::Share);
         }
+        let slot = self.free_or_silent(now, group)?;
+        if !self.adapter.has_handle() {
+            return Err(Full::Handles);
+        }
+        Ok(slot)
+    }
+
+    /// The first free slot, or else that of the peer that gives way to a new client of a group.
+    fn free_or_silent(&self, now: u64, group: Option<u128>) -> Result<usize, Full>
+        ensures slot { result
+            ≡ slot_found (first_free (state_of self.now).slots) (gives_way (state_of self.now) now group) }
+        ensures within { IfOk result (λ slot. slot < length (state_of self.now).slots) }
+    {
         if let Some(free) = self.first_free() {
             return Ok(free);
         }
@@ -134,6 +148,31 @@ impl<W: Wire + Drop> Peers<W> {
         match silent {
             Some(silent) => Ok(silent.slot),
             None => Err(Full::Places),
+        }
+    }
+
+    /// Makes room for a new client of a group, at the time `now`: ends the peer that gives way to it, if all slots are
+    /// taken. Its wire is dropped. `add_as` does the same for the client that it adds; this is for one that is added
+    /// later, with other calls in between.
+    ///
+    /// Returns whether there is a slot for the client now: the one that `slot_for` says. If there is none, nothing
+    /// changes.
+    ///
+    /// ```
+    /// if peers.make_room(now, Some(address)) {
+    ///     // a slot is free, and `add_as` of a client at this address takes it
+    /// }
+    /// ```
+    pub fn make_room(&mut self, now: u64, group: Option<u128>) -> bool
+        ensures room { state_of self.new ≡ with_room (state_of self.old) now group }
+        ensures told { result ≡ is_ok (slot_for (state_of self.old) now group) }
+    {
+        match self.slot_for(now, group) {
+            Ok(slot) => {
+                self.free_slot(slot);
+                true
+            }
+            Err(_) => false,
         }
     }
 
@@ -148,8 +187,7 @@ impl<W: Wire + Drop> Peers<W> {
     ///
     /// # Errors
     ///
-    /// `Full::Share` or `Full::Places` as `slot_for`, otherwise `Full::Handles` if the last session handle was assigned.
-    /// The wire is dropped.
+    /// As `slot_for`. Nothing changes, and the wire is dropped.
     pub fn add_as(
         &mut self,
         now: u64,

@@ -1,6 +1,7 @@
 -- Rounds of peers whose wires hold back what is written to them.
-use Rattle.std.proofs.Common.{◌≡◌, ◌≢◌, ℕ, List, [], ◌∷◌, ◌++◌, slice_get, slice_set, Bool, true, false, eqb}
-use Rattle.std.proofs.Common.{Option, Some, None, Result, Ok, Err, inl, inr, refl, sym, ap, subst, ◌∙◌}
+use Rattle.std.proofs.Common.{◌≡◌, ◌<◌, ◌≤◌, ◌+◌, ℕ, zero, suc, List, [], ◌∷◌, ◌++◌, length, slice_get, slice_set}
+use Rattle.std.proofs.Common.{Bool, true, false, if◌then◌else◌, eqb, Option, Some, None, Result, Ok, Err, refl, sym}
+use Rattle.std.proofs.Common.{ap, subst, ◌∙◌, arith}
 use Rattle.std.proofs.lemmas.Bool.{eqb-true, eqb-false}
 use Rattle.enip_adapter.specs.declared.adapter.Full.{Full}
 use Rattle.enip_adapter.specs.Calls.{AdapterState, Call}
@@ -9,13 +10,15 @@ use Rattle.enip_adapter.specs.Runs.{after_calls}
 use Rattle.enip_server.specs.declared.held_wire.HeldWire.{HeldWire}
 use Rattle.enip_server.specs.declared.peer_io.PeerIo.{PeerIo}
 use Rattle.enip_server.specs.Held.{held_known, held_written}
-use Rattle.enip_server.specs.Evictions.{IsAddedAs, slot_for}
+use Rattle.enip_server.specs.Evictions.{IsAddedAs, slot_for, with_room, with_room_at}
 use Rattle.enip_server.specs.Rounds.{ServerState, first_free, marked_ready, marked_ready_in, marked_ready_at}
-use Rattle.enip_server.specs.Rounds.{nobody, no_answer, same_nobody, ended_in, next_moment}
+use Rattle.enip_server.specs.Rounds.{nobody, no_answer, same_nobody, ended_in, has_ended, next_moment}
 use Rattle.enip_server.specs.declared.peers.RoundEnd.{RoundEnd}
 use Rattle.enip_server.specs.Transfers.{AreAsked}
 use Rattle.enip_server.proofs.HeldLemmas.{round_released, same_released}
-use Rattle.enip_server.proofs.LifeLemmas.{get_set_other, get_set_same}
+use Rattle.enip_server.proofs.ApartLemmas.{AreOf}
+use Rattle.enip_server.proofs.LifeLemmas.{get_set_other, get_set_same, ends_before, freed_elsewhere, freed_here, freed_leads}
+use Rattle.enip_server.proofs.RoundMoves.{round_of}
 use Rattle.enip_server.proofs.EvictionLemmas.{added_elsewhere, added_leads}
 use Rattle.enip_server.proofs.RoundAsks.{law_asked}
 use Rattle.enip_server.proofs.TransferLemmas.{after_calls-append}
@@ -26,12 +29,24 @@ use Rattle.kept_server.specs.declared.round.ReadyWire.{ReadyWire}
 use Rattle.kept_server.specs.declared.round.RoundInput.{RoundInput}
 use Rattle.kept_server.specs.Changes.{still_waiting}
 use Rattle.kept_server.specs.Rounds.{DeviceContents, contents_after_calls}
-use Rattle.kept_server.specs.Rounds.{IsAccepted, IsAcceptedIn, IsHeldRound, KeepsWires, SendsNothing, TakesRound, new_held, with_marks}
+use Rattle.kept_server.specs.Rounds.{IsAccepted, IsAcceptedIn, IsHeldRound, IsOneEnded, KeepsWires, SendsNothing, TakesRound}
+use Rattle.kept_server.specs.Rounds.{new_held, with_marks}
 
 -- Calls of the adapter lead from one to another.
 record Leads (a b : AdapterState) : Type 0 where
   calls : List Call
   after : b ≡ after_calls a calls
+
+leads_then : (a b c : AdapterState) → Leads a b → Leads b c → Leads a c
+leads_then a b c first last = record {
+  calls = first.calls ++ last.calls;
+  after = last.after ∙ ap (λ x. after_calls x last.calls) first.after
+      ∙ sym (after_calls-append a first.calls last.calls);
+}
+
+at_most_one : (b : Bool) → (if b then 1 else 0) ≤ 1
+at_most_one true = omega arith
+at_most_one false = omega arith
 
 module _ {W : Type 0} where
   keeps_all : (p : ServerState (HeldWire W)) → KeepsWires p p
@@ -129,6 +144,54 @@ module _ {W : Type 0} where
   leads_accepted now (Some accepted) old new is =
       leads_accepted_in (first_free old.slots) now accepted old new is
 
+  -- ---- room is made
+
+  -- whoever is in a slot afterwards was there before
+  room_kept : (p : ServerState (HeldWire W)) (chosen : Result ℕ Full) (slot : ℕ) (after : PeerIo (HeldWire W))
+      → slice_get (with_room_at p chosen).slots slot ≡ Some (Some after) → slice_get p.slots slot ≡ Some (Some after)
+  room_kept p (Err full) slot after stays = stays
+  room_kept p (Ok at) slot after stays = by (eqb at slot) refl
+    where
+      by : (here : Bool) → eqb at slot ≡ here → slice_get p.slots slot ≡ Some (Some after)
+      by false which =
+          sym (freed_elsewhere p at slot (slice_get p.slots at) (eqb-false at slot which)) ∙ stays
+      by true which =
+          absurd (freed_here p at (slice_get p.slots at) refl after
+          (subst (λ n. slice_get (with_room_at p (Ok at)).slots n ≡ Some (Some after)) (sym (eqb-true at slot which)) stays))
+
+  leads_room : (p : ServerState (HeldWire W)) (chosen : Result ℕ Full) → Leads p.adapter (with_room_at p chosen).adapter
+  leads_room p (Ok at) =
+      record { calls = ends_before p at (slice_get p.slots at); after = freed_leads p at (slice_get p.slots at) }
+  leads_room p (Err full) = record { calls = []; after = refl }
+
+  -- the peer that gave way is one more that ended
+  one_ended : (before slots : List (Option (PeerIo (HeldWire W)))) (slot : ℕ) (io : PeerIo (HeldWire W))
+      → AreOf before slots → slice_get slots slot ≡ Some (Some io)
+      → ended_in before (slice_set slots slot None) ≡ ended_in before slots + 1
+  one_ended before [] slot io of there = cc
+  one_ended [] (found ∷ slots) slot io of there = absurd of
+  one_ended (first ∷ before) (None ∷ slots) zero io of there = cc
+  one_ended (None ∷ before) (Some found ∷ slots) zero io of there = absurd of.0
+  one_ended (Some first ∷ before) (Some found ∷ slots) zero io of there = omega arith
+  one_ended (first ∷ before) (found ∷ slots) (suc slot) io of there =
+      omega (arith, one_ended before slots slot io of.1 there)
+
+  few_ended : (before slots : List (Option (PeerIo (HeldWire W)))) → ended_in before slots ≤ length slots
+  few_ended [] slots = omega arith
+  few_ended (first ∷ before) [] = omega arith
+  few_ended (first ∷ before) (found ∷ slots) =
+      omega (arith, few_ended before slots, at_most_one (has_ended first found))
+
+  pub not_all_ended : (before slots : List (Option (PeerIo (HeldWire W)))) (slot : ℕ) (io : PeerIo (HeldWire W))
+      → slice_get slots slot ≡ Some (Some io) → ended_in before slots < length slots
+  not_all_ended before [] slot io there = cc
+  not_all_ended [] (found ∷ slots) slot io there = omega arith
+  not_all_ended (first ∷ before) (None ∷ slots) zero io there = cc
+  not_all_ended (None ∷ before) (Some found ∷ slots) zero io there = omega (arith, few_ended before slots)
+  not_all_ended (Some first ∷ before) (Some found ∷ slots) zero io there = omega (arith, few_ended before slots)
+  not_all_ended (first ∷ before) (found ∷ slots) (suc slot) io there =
+      omega (arith, not_all_ended before slots slot io there, at_most_one (has_ended first found))
+
 module _ {W : Type 0} (left written : W → Option (List ℕ)) where
   -- ---- the whole round
 
@@ -139,16 +202,20 @@ module _ {W : Type 0} (left written : W → Option (List ℕ)) where
       (round_released (λ w. left w.wire) (held_written written) (held_known written) (λ w. w.counts) no_answer
       same_nobody now slot nobody nobody old new io after round there stays)
 
-  -- a connection was added, or not; wires were marked ready; and then a round was made
-  pub nothing_sent : (input : RoundInput W) (old added new : ServerState (HeldWire W))
+  -- a connection was added, or not; wires were marked ready; then a round was made, and then room
+  pub nothing_sent : (input : RoundInput W) (old added served new : ServerState (HeldWire W))
       → IsAccepted input.now input.accepted old added
-      → IsHeldRound left written input.now (with_marks input.ready.items added) new → SendsNothing written old new
-  nothing_sent input old added new accepted round slot io after there stays =
+      → IsHeldRound left written input.now (with_marks input.ready.items added) served
+      → new ≡ with_room served input.now input.room_for → SendsNothing written old new
+  nothing_sent input old added served new accepted round room slot io after there stays =
       let m : (middle : PeerIo (HeldWire W))
       × (slice_get (with_marks input.ready.items added).slots slot ≡ Some (Some middle)) × (middle.wire ≡ io.wire)
       = keeps_then old added (with_marks input.ready.items added) (keeps_accepted input.now input.accepted old added accepted)
       (keeps_marks input.ready.items added) slot io there in
-      round_sends_nothing input.now (with_marks input.ready.items added) new round slot m.0 after m.1 stays
+      let kept : slice_get served.slots slot ≡ Some (Some after)
+      = room_kept served (slot_for served input.now input.room_for) slot after
+      (subst (λ (p : ServerState (HeldWire W)). slice_get p.slots slot ≡ Some (Some after)) room stays) in
+      round_sends_nothing input.now (with_marks input.ready.items added) served round slot m.0 after m.1 kept
       ∙ ap (λ (w : HeldWire W). written w.wire) m.2
 
   round_leads : (now : ℕ) (old new : ServerState (HeldWire W)) → IsHeldRound left written now old new
@@ -159,21 +226,40 @@ module _ {W : Type 0} (left written : W → Option (List ℕ)) where
       same_nobody now nobody nobody old new round in
       record { calls = asked.calls; after = asked.adapter }
 
-  pub round_taken : (input : RoundInput W) (old added new : ServerState (HeldWire W)) (outcome : RoundEnd)
+  -- the peers that ended, with one that gave way
+  pub ended_more : (input : RoundInput W) (added served new : ServerState (HeldWire W))
+      → IsHeldRound left written input.now (with_marks input.ready.items added) served → IsOneEnded served new
+      → ended_in (with_marks input.ready.items added).slots new.slots
+      ≡ ended_in (with_marks input.ready.items added).slots served.slots + 1
+  ended_more input added served new round one =
+      ap (ended_in (with_marks input.ready.items added).slots) one.3
+      ∙ one_ended (with_marks input.ready.items added).slots served.slots one.0 one.1
+      (round_of (λ (w : HeldWire W). left w.wire) (held_written written) (held_known written) (λ w. w.counts) no_answer
+      same_nobody input.now nobody (with_marks input.ready.items added) nobody served round)
+      one.2
+
+  pub round_taken : (input : RoundInput W) (old added served new : ServerState (HeldWire W)) (outcome : RoundEnd)
       → IsAccepted input.now input.accepted old added
-      → IsHeldRound left written input.now (with_marks input.ready.items added) new
+      → IsHeldRound left written input.now (with_marks input.ready.items added) served
+      → new ≡ with_room served input.now input.room_for
       → outcome.ended ≡ ended_in (with_marks input.ready.items added).slots new.slots → outcome.next ≡ next_moment new
       → (calls : List Call) × TakesRound left written (record { input = input; calls = calls }) old new outcome
-  round_taken input old added new outcome accepted round ended next =
-      let l : Leads old.adapter added.adapter = leads_accepted input.now input.accepted old added accepted in
-      let m : Leads added.adapter new.adapter = round_leads input.now (with_marks input.ready.items added) new round in (
-        l.calls ++ m.calls,
+  round_taken input old added served new outcome accepted round room ended next =
+      let room_leads : Leads served.adapter new.adapter
+      = subst (λ (p : ServerState (HeldWire W)). Leads served.adapter p.adapter) (sym room)
+      (leads_room served (slot_for served input.now input.room_for)) in
+      let all : Leads old.adapter new.adapter
+      = leads_then old.adapter added.adapter new.adapter (leads_accepted input.now input.accepted old added accepted)
+      (leads_then added.adapter served.adapter new.adapter
+      (round_leads input.now (with_marks input.ready.items added) served round) room_leads) in (
+        all.calls,
         record {
           added = added;
+          served = served;
           accepted = accepted;
           round = round;
-          executed = m.after ∙ ap (λ a. after_calls a m.calls) l.after
-              ∙ sym (after_calls-append old.adapter l.calls m.calls);
+          room = room;
+          executed = all.after;
           ended = ended;
           next = next;
         },

@@ -1,5 +1,5 @@
 -- Rounds of peers whose wires hold back what is written to them, and what is kept of a device in them.
-use Rattle.std.specs.Prelude.{ℕ, ◌≡◌, Bool, List, [], ◌∷◌, false, Option, Some, None, Result, slice_get}
+use Rattle.std.specs.Prelude.{ℕ, ◌≡◌, Bool, List, [], ◌∷◌, false, Option, Some, None, Result, slice_get, slice_set}
 use Rattle.std.proofs.Common.{sym, ap, ◌∙◌}
 use Rattle.std.specs.List.{list_any}
 use Rattle.enip_adapter.specs.declared.adapter.Full.{Full}
@@ -11,7 +11,7 @@ use Rattle.enip_server.specs.declared.peer_io.PeerIo.{PeerIo}
 use Rattle.enip_server.specs.declared.peers.RoundEnd.{RoundEnd}
 use Rattle.enip_server.specs.declared.wire_counts.WireCounts.{WireCounts}
 use Rattle.enip_server.specs.Held.{held_known, held_written, AreReleased}
-use Rattle.enip_server.specs.Evictions.{IsAddedAs}
+use Rattle.enip_server.specs.Evictions.{IsAddedAs, with_room}
 use Rattle.enip_server.specs.Rounds.{ServerState, IsRound, first_free, marked_ready, ended_in, is_ready, next_moment}
 use Rattle.enip_server.specs.Rounds.{nobody, no_answer, same_nobody}
 use Rattle.enip_server.specs.Wires.{KnownCalls}
@@ -126,13 +126,22 @@ contents_after_calls save c calls =
 abbrev pub after_round : {W : Type 0} → (AdapterState → Kept) → DeviceContents → RoundRequests W → DeviceContents
 after_round save c requests = contents_after_calls save c requests.calls
 
+-- One peer is ended: its slot is free now, and all other slots are the same.
+abbrev pub IsOneEnded : {W : Type 0} → ServerState W → ServerState W → Type 0
+IsOneEnded {W} old new =
+    (slot : ℕ) × (io : PeerIo W) × (slice_get old.slots slot ≡ Some (Some io))
+    × (new.slots ≡ slice_set old.slots slot None)
+
 -- The peers take a round: the connection is added, the wires are marked ready, and then the round is made at the time of
--- the input. The adapter is that after these calls. The outcome is that of the round.
+-- the input. Last, room is made for the client that waits for a slot. The adapter is that after these calls. The outcome
+-- is that of the round and of the peer that gave way.
 pub record TakesRound {W : Type 0} (left written : W → Option (List ℕ)) (requests : RoundRequests W)
     (old new : ServerState (HeldWire W)) (outcome : RoundEnd) : Type 0 where
   pub added : ServerState (HeldWire W)
+  pub served : ServerState (HeldWire W)
   pub accepted : IsAccepted requests.input.now requests.input.accepted old added
-  pub round : IsHeldRound left written requests.input.now (with_marks requests.input.ready.items added) new
+  pub round : IsHeldRound left written requests.input.now (with_marks requests.input.ready.items added) served
+  pub room : new ≡ with_room served requests.input.now requests.input.room_for
   pub executed : new.adapter ≡ after_calls old.adapter requests.calls
   pub ended : outcome.ended ≡ ended_in (with_marks requests.input.ready.items added).slots new.slots
   pub next : outcome.next ≡ next_moment new

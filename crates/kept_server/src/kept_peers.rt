@@ -24,7 +24,7 @@ use std::marker::PhantomData;
 ///
 /// ```
 /// let mut server = Server::<KeptPeers<TcpWire, DeviceConfig>, Rows>::start(alloc, keeper, &configuration)?;
-/// server.round(RoundInput { now, accepted, ready })?;
+/// server.round(RoundInput { now, accepted, ready, room_for })?;
 /// let end = server.device().last_round();
 /// ```
 #[derive(Drop)]

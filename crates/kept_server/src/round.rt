@@ -1,10 +1,11 @@
 //! A round of peers whose wires hold back what is written to them.
 
-ghost use Rattle.std.specs.Prelude.{◌≡◌, List, None};
+ghost use Rattle.std.specs.Prelude.{◌≡◌, List, None, IsFalse, IsTrue};
 ghost use Rattle.enip_adapter.specs.declared.peer.Rights.TheVariants.{Write};
 ghost use Rattle.enip_adapter.specs.Calls.{Call};
+ghost use Rattle.enip_server.specs.Evictions.{with_room};
 ghost use Rattle.enip_server.specs.Rounds.{state_of};
-ghost use Rattle.kept_server.specs.Rounds.{IsAccepted, SendsNothing, TakesRound, with_marks};
+ghost use Rattle.kept_server.specs.Rounds.{IsAccepted, IsOneEnded, SendsNothing, TakesRound, with_marks};
 
 use arrayvec::ArrayVec;
 use enip_adapter::Rights;
@@ -36,7 +37,7 @@ impl<W> Accepted<W> {
     /// A client that may do everything, and has no group.
     ///
     /// ```
-    /// let input = RoundInput { now, accepted: Some(Accepted::writer(wire)), ready };
+    /// let input = RoundInput { now, accepted: Some(Accepted::writer(wire)), ready, room_for: None };
     /// ```
     pub fn writer(wire: W) -> Accepted<W>
         ensures { result ≡ record { wire = wire; rights = Write; group = None } }
@@ -59,9 +60,13 @@ pub struct RoundInput<W> {
     pub accepted: Option<Accepted<W>>,
     /// The wires that may be ready since the last round.
     pub ready: ArrayVec<ReadyWire, MOST_READY>,
+    /// The group of a client that waits for a slot, if there is one. At the end of the round a peer gives way to it, as
+    /// `Peers::make_room` says, and the client is accepted in the next round.
+    pub room_for: Option<u128>,
 }
 
-/// Adds the connection and marks the wires that may be ready, and then serves one round.
+/// Adds the connection and marks the wires that may be ready, and then serves one round. At its end, room is made for the
+/// client that waits: not before it is served, so that a slot holds one peer throughout the round.
 pub(crate) fn take_round<W: Wire + Drop>(
     peers: &mut Peers<HeldWire<W>>,
     input: RoundInput<W>,
@@ -74,13 +79,34 @@ pub(crate) fn take_round<W: Wire + Drop>(
         now,
         accepted,
         ready,
+        room_for,
     } = input;
     add_accepted(peers, now, accepted);
     mark_ready(peers, ready.as_slice());
-    peers.round(now)
+    let end = peers.round(now);
+    if make_room(peers, now, room_for) {
+        return RoundEnd {
+            ended: end.ended + 1,
+            ready: end.ready,
+            next: peers.next_moment(),
+        };
+    }
+    end
 }
 
-/// Adds a connection, if there is one. If no slot is free, it is dropped: no peer gives way to it.
+/// Makes room for a client of a group that waits for a slot. Returns whether a peer gave way to it.
+fn make_room<W: Wire + Drop>(peers: &mut Peers<HeldWire<W>>, now: u64, group: Option<u128>) -> bool
+    ensures room { state_of peers.new ≡ with_room (state_of peers.old) now group }
+    ensures still { IsFalse result → state_of peers.new ≡ state_of peers.old }
+    ensures ended { IsTrue result → IsOneEnded (state_of peers.old) (state_of peers.new) }
+{
+    if peers.first_free().is_some() {
+        return false;
+    }
+    peers.make_room(now, group)
+}
+
+/// Adds a connection, if there is one. If no slot is free, it is dropped: no peer gives way to it in this round.
 fn add_accepted<W: Wire + Drop>(
     peers: &mut Peers<HeldWire<W>>,
     now: u64,

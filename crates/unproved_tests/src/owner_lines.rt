@@ -28,7 +28,10 @@ fn texts_of_refusals(rt: HostRuntime) -> Result<(), Fail> {
             OwnerFault::UnknownKey(RequestKey::Write),
             "write: unknown key",
         ),
-        (OwnerFault::Missing(RequestKey::Ticket), "missing key: ticket"),
+        (
+            OwnerFault::Missing(RequestKey::Ticket),
+            "missing key: ticket",
+        ),
         (
             OwnerFault::NotNumber(RequestKey::Class),
             "class: expected a number",
@@ -90,7 +93,10 @@ static TOKENS: [(&str, &str, bool); 9] = [
 #[test]
 fn tokens(rt: HostRuntime) -> Result<(), Fail> {
     for (line, token, same) in &TOKENS {
-        assert!(rt; is_token(line.as_bytes(), token.as_bytes()) == *same, "{line} and {token}");
+        assert!(rt;
+            is_token(line.as_bytes(), token.as_bytes()) == *same,
+            "{line} and {token}"
+        );
     }
     Ok(())
 }

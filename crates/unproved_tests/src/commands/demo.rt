@@ -3,8 +3,8 @@
 ghost use Rattle.std.specs.Prelude.{IfOk};
 ghost use Rattle.enip_bench.specs.Reached.{IsNewAdapter};
 
+use configured_adapter::adapter_from;
 use enip_adapter::Adapter;
-use enip_config::adapter_from;
 use std::alloc::Global;
 use std::test::Fail;
 

@@ -1,7 +1,7 @@
 //! The life of a command ledger: that of the configuration, or another one.
 
+use configured_adapter::{adapter_from, adapter_in_life};
 use enip_adapter::Adapter;
-use enip_config::{adapter_from, adapter_in_life};
 use std::alloc::Global;
 use std::test::Fail;
 use test_fixtures::adapter::REGISTER;

@@ -2,7 +2,6 @@
 
 use super::demo::demo_adapter;
 use super::streams::{BrokenWriter, FullWriter};
-use enip_bench::BenchFault;
 use enip_commands::ProgramFault;
 use enip_replay::{ReplayFailure, replay};
 use std::alloc::Global;
@@ -56,16 +55,10 @@ fn output_that_does_not_leave(rt: HostRuntime) -> Result<(), Fail> {
 #[test]
 fn why_no_bench_is_made(rt: HostRuntime) -> Result<(), Fail> {
     let rows = [
-        (
-            BenchFault::Memory,
-            ReplayFailure::Program(ProgramFault::Memory),
-            5,
-            "memory",
-        ),
-        (BenchFault::Setup, ReplayFailure::Setup, 6, "setup"),
+        (ReplayFailure::Program(ProgramFault::Memory), 5, "memory"),
+        (ReplayFailure::Setup, 6, "setup"),
     ];
-    for (fault, stop, status, text) in rows {
-        assert_eq!(rt; ReplayFailure::from(fault), stop);
+    for (stop, status, text) in rows {
         assert_eq!(rt; stop.exit_status(), status);
         assert_eq!(rt; stop.to_string(rt.alloc())?.as_str(), text);
     }

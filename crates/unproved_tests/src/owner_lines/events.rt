@@ -59,7 +59,11 @@ fn commands(rt: HostRuntime) -> Result<(), Fail> {
         ..command
     };
     let line = told(rt.alloc(), write_command(rt.alloc(), &far))?;
-    assert!(rt; line.as_str().contains("\"by\":\"fd00::5\",\"again\""), "{}", line.as_str());
+    assert!(rt;
+        line.as_str().contains("\"by\":\"fd00::5\",\"again\""),
+        "{}",
+        line.as_str()
+    );
     Ok(())
 }
 
@@ -73,7 +77,11 @@ static SHOWN: [(&str, &[u8], &str); 19] = [
     ("", &[0xdc, 5], ""),
     ("DINT", &[0xfe, 0xff, 0xff, 0xff], ",\"values\":[-2]"),
     ("DINT", &[0, 0, 0, 0x80], ",\"values\":[-2147483648]"),
-    ("LINT", &[0, 0, 0, 0, 0, 0, 0, 0x80], ",\"values\":[-9223372036854775808]"),
+    (
+        "LINT",
+        &[0, 0, 0, 0, 0, 0, 0, 0x80],
+        ",\"values\":[-9223372036854775808]",
+    ),
     ("ULINT", &[0xff; 8], ",\"values\":[18446744073709551615]"),
     ("WORD", &[0x34, 0x12], ",\"values\":[4660]"),
     ("BOOL", &[1], ",\"values\":[true]"),
@@ -82,7 +90,11 @@ static SHOWN: [(&str, &[u8], &str); 19] = [
     ("REAL", &[0, 0, 0xc0, 0x3f], ",\"values\":[1.5]"),
     ("REAL", &[0, 0, 0x80, 0x7f], ",\"values\":[\"inf\"]"),
     ("SHORT_STRING", &[2, b'h', b'i'], ",\"values\":[\"hi\"]"),
-    ("SHORT_STRING", &[4, b'"', b'\\', b'\n', 0xe9], ",\"values\":[\"\\\"\\\\\\n\u{e9}\"]"),
+    (
+        "SHORT_STRING",
+        &[4, b'"', b'\\', b'\n', 0xe9],
+        ",\"values\":[\"\\\"\\\\\\n\u{e9}\"]",
+    ),
     ("TIME", &[0xdc, 5, 0, 0], ",\"values\":[1500]"),
 ];
 
@@ -128,7 +140,10 @@ fn ended_and_answers(rt: HostRuntime) -> Result<(), Fail> {
         reason: "timed out",
     };
     let line = told(rt.alloc(), write_ended(rt.alloc(), &ended))?;
-    assert_eq!(rt; line.as_str(), "{\"ended\":{\"connection\":17,\"reason\":\"timed out\"}}\n");
+    assert_eq!(rt;
+        line.as_str(),
+        "{\"ended\":{\"connection\":17,\"reason\":\"timed out\"}}\n"
+    );
     let line = told(rt.alloc(), write_ok(rt.alloc(), 12))?;
     assert_eq!(rt; line.as_str(), "{\"ok\":12}\n");
     let line = told(rt.alloc(), write_error(rt.alloc(), u64::MAX, "a \"b\"\nc"))?;
@@ -245,7 +260,11 @@ fn large_devices(rt: HostRuntime) -> Result<(), Fail> {
     assert!(rt; with_data.as_str().contains("\"data\":\"a5"));
     let without_data = large_hello(rt.alloc(), 70, 500)?;
     assert!(rt; !without_data.as_str().contains("data"));
-    assert!(rt; without_data.as_str().contains("{\"attribute\":1,\"type\":\"BYTES[500]\"}"));
+    assert!(rt;
+        without_data
+            .as_str()
+            .contains("{\"attribute\":1,\"type\":\"BYTES[500]\"}")
+    );
     let without_attributes = large_hello(rt.alloc(), 2000, 500)?;
     assert_eq!(rt;
         without_attributes.as_str(),

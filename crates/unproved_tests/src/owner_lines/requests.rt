@@ -59,20 +59,47 @@ const NOT_VALUES: &str = "values: expected a list of numbers, strings, true and 
 
 /// Lines, and what they say.
 static LINES: [(&str, &str); 84] = [
-    (r#"{"done":{"ticket":7,"status":0,"data":"05"}}"#, "done 7 0 05"),
+    (
+        r#"{"done":{"ticket":7,"status":0,"data":"05"}}"#,
+        "done 7 0 05",
+    ),
     (r#"{"done":{"ticket":7,"status":0}}"#, "done 7 0 "),
     (r#"{"done":{"ticket":7,"status":0,"data":""}}"#, "done 7 0 "),
-    (r#"{"done":{"data":"0aFf","status":255,"ticket":4294967295}}"#, "done 4294967295 255 0aff"),
-    (r#" { "done" : { "ticket" : 1 , "status" : 8 } } "#, "done 1 8 "),
+    (
+        r#"{"done":{"data":"0aFf","status":255,"ticket":4294967295}}"#,
+        "done 4294967295 255 0aff",
+    ),
+    (
+        r#" { "done" : { "ticket" : 1 , "status" : 8 } } "#,
+        "done 1 8 ",
+    ),
     ("{\"done\":{\"ticket\":1,\"status\":8}}\r", "done 1 8 "),
     (r#"{"d\u006fne":{"ticket":1,"status":8}}"#, "done 1 8 "),
     (r#"{"done":{"ticket":0,"status":0}}"#, "done 0 0 "),
-    (r#"{"write":{"class":4,"instance":100,"attribute":3,"data":"dc05"}}"#, "write 4/100/3 dc05"),
-    (r#"{"write":{"class":65535,"instance":4294967295,"attribute":65535,"data":""}}"#, "write 65535/4294967295/65535 "),
-    (r#"{"write":{"class":4,"instance":100,"attribute":3,"values":[1500]}}"#, "values 4/100/3 1500"),
-    (r#"{"write":{"class":4,"instance":100,"attribute":3,"values":[]}}"#, "values 4/100/3"),
-    (r#"{"write":{"values":[-1,1.5e3,"a\nb",true,false],"class":4,"instance":100,"attribute":3}}"#, "values 4/100/3 -1 1.5e3 \"a\\nb\" true false"),
-    (r#"{"read":{"class":4,"instance":101,"attribute":3}}"#, "read 4/101/3"),
+    (
+        r#"{"write":{"class":4,"instance":100,"attribute":3,"data":"dc05"}}"#,
+        "write 4/100/3 dc05",
+    ),
+    (
+        r#"{"write":{"class":65535,"instance":4294967295,"attribute":65535,"data":""}}"#,
+        "write 65535/4294967295/65535 ",
+    ),
+    (
+        r#"{"write":{"class":4,"instance":100,"attribute":3,"values":[1500]}}"#,
+        "values 4/100/3 1500",
+    ),
+    (
+        r#"{"write":{"class":4,"instance":100,"attribute":3,"values":[]}}"#,
+        "values 4/100/3",
+    ),
+    (
+        r#"{"write":{"values":[-1,1.5e3,"a\nb",true,false],"class":4,"instance":100,"attribute":3}}"#,
+        "values 4/100/3 -1 1.5e3 \"a\\nb\" true false",
+    ),
+    (
+        r#"{"read":{"class":4,"instance":101,"attribute":3}}"#,
+        "read 4/101/3",
+    ),
     (r#"{"status":0}"#, "status 0"),
     (r#"{"status":65535}"#, "status 65535"),
     (r#"{"state":3}"#, "state 3"),
@@ -90,9 +117,18 @@ static LINES: [(&str, &str); 84] = [
     (r#"{"state":3,}"#, "not JSON"),
     (r#"{"state":0x3}"#, "not JSON"),
     (r#"{"state":3,"state":3}"#, "an object has a key twice"),
-    (r#"{"done":{"ticket":7,"ticket":8,"status":0}}"#, "an object has a key twice"),
-    (r#"{"done":{"ticket":7,"tick\u0065t":8,"status":0}}"#, "an object has a key twice"),
-    (r#"{"done":{"ticket":7,"status":0,"x":{"a":1,"a":2}}}"#, "an object has a key twice"),
+    (
+        r#"{"done":{"ticket":7,"ticket":8,"status":0}}"#,
+        "an object has a key twice",
+    ),
+    (
+        r#"{"done":{"ticket":7,"tick\u0065t":8,"status":0}}"#,
+        "an object has a key twice",
+    ),
+    (
+        r#"{"done":{"ticket":7,"status":0,"x":{"a":1,"a":2}}}"#,
+        "an object has a key twice",
+    ),
     ("[]", NOT_REQUEST),
     ("7", NOT_REQUEST),
     ("null", NOT_REQUEST),
@@ -106,43 +142,118 @@ static LINES: [(&str, &str); 84] = [
     (r#"{"done":[7]}"#, "done: expected an object"),
     (r#"{"write":null}"#, "write: expected an object"),
     (r#"{"read":"x"}"#, "read: expected an object"),
-    (r#"{"done":{"ticket":7,"status":0,"class":4}}"#, "done: unknown key"),
+    (
+        r#"{"done":{"ticket":7,"status":0,"class":4}}"#,
+        "done: unknown key",
+    ),
     (r#"{"done":{"Ticket":7,"status":0}}"#, "done: unknown key"),
-    (r#"{"write":{"class":4,"instance":100,"attribute":3,"data":"00","ticket":1}}"#, "write: unknown key"),
-    (r#"{"read":{"class":4,"instance":101,"attribute":3,"data":"00"}}"#, "read: unknown key"),
+    (
+        r#"{"write":{"class":4,"instance":100,"attribute":3,"data":"00","ticket":1}}"#,
+        "write: unknown key",
+    ),
+    (
+        r#"{"read":{"class":4,"instance":101,"attribute":3,"data":"00"}}"#,
+        "read: unknown key",
+    ),
     (r#"{"done":{"status":0}}"#, "missing key: ticket"),
     (r#"{"done":{}}"#, "missing key: ticket"),
     (r#"{"done":{"ticket":7}}"#, "missing key: status"),
-    (r#"{"write":{"instance":100,"attribute":3,"data":"00"}}"#, "missing key: class"),
-    (r#"{"write":{"class":4,"attribute":3,"data":"00"}}"#, "missing key: instance"),
-    (r#"{"read":{"class":4,"instance":101}}"#, "missing key: attribute"),
-    (r#"{"write":{"class":4,"instance":100,"attribute":3}}"#, "missing key: data"),
-    (r#"{"done":{"ticket":"7","status":0}}"#, "ticket: expected a number"),
-    (r#"{"done":{"ticket":null,"status":0}}"#, "ticket: expected a number"),
-    (r#"{"done":{"ticket":7,"status":true}}"#, "status: expected a number"),
-    (r#"{"read":{"class":[4],"instance":101,"attribute":3}}"#, "class: expected a number"),
+    (
+        r#"{"write":{"instance":100,"attribute":3,"data":"00"}}"#,
+        "missing key: class",
+    ),
+    (
+        r#"{"write":{"class":4,"attribute":3,"data":"00"}}"#,
+        "missing key: instance",
+    ),
+    (
+        r#"{"read":{"class":4,"instance":101}}"#,
+        "missing key: attribute",
+    ),
+    (
+        r#"{"write":{"class":4,"instance":100,"attribute":3}}"#,
+        "missing key: data",
+    ),
+    (
+        r#"{"done":{"ticket":"7","status":0}}"#,
+        "ticket: expected a number",
+    ),
+    (
+        r#"{"done":{"ticket":null,"status":0}}"#,
+        "ticket: expected a number",
+    ),
+    (
+        r#"{"done":{"ticket":7,"status":true}}"#,
+        "status: expected a number",
+    ),
+    (
+        r#"{"read":{"class":[4],"instance":101,"attribute":3}}"#,
+        "class: expected a number",
+    ),
     (r#"{"status":"0"}"#, "status: expected a number"),
     (r#"{"state":{}}"#, "state: expected a number"),
-    (r#"{"done":{"ticket":4294967296,"status":0}}"#, "ticket: number out of range"),
-    (r#"{"done":{"ticket":18446744073709551623,"status":0}}"#, "ticket: number out of range"),
-    (r#"{"done":{"ticket":-7,"status":0}}"#, "ticket: number out of range"),
-    (r#"{"done":{"ticket":7.0,"status":0}}"#, "ticket: number out of range"),
-    (r#"{"done":{"ticket":7,"status":256}}"#, "status: number out of range"),
-    (r#"{"done":{"ticket":7,"status":1e1}}"#, "status: number out of range"),
-    (r#"{"read":{"class":65536,"instance":101,"attribute":3}}"#, "class: number out of range"),
-    (r#"{"read":{"class":4,"instance":4294967296,"attribute":3}}"#, "instance: number out of range"),
+    (
+        r#"{"done":{"ticket":4294967296,"status":0}}"#,
+        "ticket: number out of range",
+    ),
+    (
+        r#"{"done":{"ticket":18446744073709551623,"status":0}}"#,
+        "ticket: number out of range",
+    ),
+    (
+        r#"{"done":{"ticket":-7,"status":0}}"#,
+        "ticket: number out of range",
+    ),
+    (
+        r#"{"done":{"ticket":7.0,"status":0}}"#,
+        "ticket: number out of range",
+    ),
+    (
+        r#"{"done":{"ticket":7,"status":256}}"#,
+        "status: number out of range",
+    ),
+    (
+        r#"{"done":{"ticket":7,"status":1e1}}"#,
+        "status: number out of range",
+    ),
+    (
+        r#"{"read":{"class":65536,"instance":101,"attribute":3}}"#,
+        "class: number out of range",
+    ),
+    (
+        r#"{"read":{"class":4,"instance":4294967296,"attribute":3}}"#,
+        "instance: number out of range",
+    ),
     (r#"{"status":65536}"#, "status: number out of range"),
     (r#"{"state":256}"#, "state: number out of range"),
     (r#"{"state":-0}"#, "state: number out of range"),
     (r#"{"done":{"ticket":7,"status":0,"data":5}}"#, NOT_HEX),
     (r#"{"done":{"ticket":7,"status":0,"data":"5"}}"#, NOT_HEX),
     (r#"{"done":{"ticket":7,"status":0,"data":"0g"}}"#, NOT_HEX),
-    (r#"{"done":{"ticket":7,"status":0,"data":"05 06"}}"#, NOT_HEX),
-    (r#"{"write":{"class":4,"instance":100,"attribute":3,"data":null}}"#, NOT_HEX),
-    (r#"{"write":{"class":4,"instance":100,"attribute":3,"data":"00","values":[0]}}"#, "write: both data and values"),
-    (r#"{"write":{"class":4,"instance":100,"attribute":3,"values":1500}}"#, NOT_VALUES),
-    (r#"{"write":{"class":4,"instance":100,"attribute":3,"values":[1,null]}}"#, NOT_VALUES),
-    (r#"{"write":{"class":4,"instance":100,"attribute":3,"values":[[1]]}}"#, NOT_VALUES),
+    (
+        r#"{"done":{"ticket":7,"status":0,"data":"05 06"}}"#,
+        NOT_HEX,
+    ),
+    (
+        r#"{"write":{"class":4,"instance":100,"attribute":3,"data":null}}"#,
+        NOT_HEX,
+    ),
+    (
+        r#"{"write":{"class":4,"instance":100,"attribute":3,"data":"00","values":[0]}}"#,
+        "write: both data and values",
+    ),
+    (
+        r#"{"write":{"class":4,"instance":100,"attribute":3,"values":1500}}"#,
+        NOT_VALUES,
+    ),
+    (
+        r#"{"write":{"class":4,"instance":100,"attribute":3,"values":[1,null]}}"#,
+        NOT_VALUES,
+    ),
+    (
+        r#"{"write":{"class":4,"instance":100,"attribute":3,"values":[[1]]}}"#,
+        NOT_VALUES,
+    ),
 ];
 
 #[test]
@@ -157,7 +268,10 @@ fn lines(rt: HostRuntime) -> Result<(), Fail> {
 /// A line that is not UTF-8.
 #[test]
 fn not_utf8(rt: HostRuntime) -> Result<(), Fail> {
-    let got = told(rt.alloc(), b"{\"write\":{\"class\":4,\"instance\":1,\"attribute\":3,\"values\":[\"\xff\"]}}")?;
+    let got = told(
+        rt.alloc(),
+        b"{\"write\":{\"class\":4,\"instance\":1,\"attribute\":3,\"values\":[\"\xff\"]}}",
+    )?;
     assert_eq!(rt; got.as_str(), "not JSON");
     Ok(())
 }
@@ -181,7 +295,10 @@ fn longest_data(rt: HostRuntime) -> Result<(), Fail> {
     for (front, most) in [(done, 480), (write, 500)] {
         let longest = told(rt.alloc(), with_data(rt.alloc(), front, most)?.as_bytes())?;
         assert!(rt; longest.as_str().ends_with("a5"), "{}", longest.as_str());
-        let longer = told(rt.alloc(), with_data(rt.alloc(), front, most + 1)?.as_bytes())?;
+        let longer = told(
+            rt.alloc(),
+            with_data(rt.alloc(), front, most + 1)?.as_bytes(),
+        )?;
         assert_eq!(rt; longer.as_str(), "data: too many bytes");
     }
     Ok(())

@@ -31,15 +31,35 @@ static ROWS: [(&str, &[GivenValue<'static>], &str); 44] = [
     ("UINT", &[GivenValue::Text("1500")], KIND),
     ("UINT", &[GivenValue::Truth(true)], KIND),
     ("UINT", &[], COUNT),
-    ("UINT", &[GivenValue::Number("1"), GivenValue::Number("2")], COUNT),
-    ("UINT[]", &[GivenValue::Number("1"), GivenValue::Number("2")], "01000200"),
+    (
+        "UINT",
+        &[GivenValue::Number("1"), GivenValue::Number("2")],
+        COUNT,
+    ),
+    (
+        "UINT[]",
+        &[GivenValue::Number("1"), GivenValue::Number("2")],
+        "01000200",
+    ),
     ("UINT[]", &[], ""),
-    ("UINT[]", &[GivenValue::Number("1"), GivenValue::Number("65536")], RANGE),
-    ("UINT[]", &[GivenValue::Number("1"), GivenValue::Truth(true)], KIND),
+    (
+        "UINT[]",
+        &[GivenValue::Number("1"), GivenValue::Number("65536")],
+        RANGE,
+    ),
+    (
+        "UINT[]",
+        &[GivenValue::Number("1"), GivenValue::Truth(true)],
+        KIND,
+    ),
     ("SINT", &[GivenValue::Number("-128")], "80"),
     ("SINT", &[GivenValue::Number("-129")], RANGE),
     ("DINT", &[GivenValue::Number("-2")], "feffffff"),
-    ("ULINT", &[GivenValue::Number("18446744073709551615")], "ffffffffffffffff"),
+    (
+        "ULINT",
+        &[GivenValue::Number("18446744073709551615")],
+        "ffffffffffffffff",
+    ),
     ("LWORD", &[GivenValue::Number("1")], "0100000000000000"),
     ("WORD", &[GivenValue::Number("4660")], "3412"),
     ("TIME", &[GivenValue::Number("1500")], "dc050000"),
@@ -48,7 +68,11 @@ static ROWS: [(&str, &[GivenValue<'static>], &str); 44] = [
     ("BOOL", &[GivenValue::Truth(false)], "00"),
     ("BOOL", &[GivenValue::Number("1")], KIND),
     ("BOOL", &[GivenValue::Text("true")], KIND),
-    ("BOOL[]", &[GivenValue::Truth(true), GivenValue::Truth(false)], "0100"),
+    (
+        "BOOL[]",
+        &[GivenValue::Truth(true), GivenValue::Truth(false)],
+        "0100",
+    ),
     ("REAL", &[GivenValue::Number("1.5")], "0000c03f"),
     ("REAL", &[GivenValue::Number("-2")], "000000c0"),
     ("REAL", &[GivenValue::Number("1e39")], RANGE),
@@ -59,7 +83,11 @@ static ROWS: [(&str, &[GivenValue<'static>], &str); 44] = [
     ("SHORT_STRING", &[GivenValue::Text("hi")], "026869"),
     ("SHORT_STRING", &[GivenValue::Text("")], "00"),
     ("SHORT_STRING", &[GivenValue::Text("a\\b\"")], "04615c6222"),
-    ("SHORT_STRING", &[GivenValue::Text("\u{e9}\u{ff}\u{80}")], "03e9ff80"),
+    (
+        "SHORT_STRING",
+        &[GivenValue::Text("\u{e9}\u{ff}\u{80}")],
+        "03e9ff80",
+    ),
     ("SHORT_STRING", &[GivenValue::Text("\u{100}")], KIND),
     ("SHORT_STRING", &[GivenValue::Text("a\u{20ac}")], KIND),
     ("SHORT_STRING", &[GivenValue::Number("5")], KIND),
@@ -72,7 +100,11 @@ static ROWS: [(&str, &[GivenValue<'static>], &str); 44] = [
 fn values_to_bytes(rt: HostRuntime) -> Result<(), Fail> {
     for (name, values, wanted) in &ROWS {
         let got = told(rt.alloc(), name, values)?;
-        assert!(rt; got.as_str() == *wanted, "{name}: {} and not {wanted}", got.as_str());
+        assert!(rt;
+            got.as_str() == *wanted,
+            "{name}: {} and not {wanted}",
+            got.as_str()
+        );
     }
     Ok(())
 }
@@ -84,10 +116,18 @@ fn longest_string(rt: HostRuntime) -> Result<(), Fail> {
     for _ in 0..255 {
         text.push_str("\u{e9}")?;
     }
-    let longest = told(rt.alloc(), "SHORT_STRING", &[GivenValue::Text(text.as_str())])?;
+    let longest = told(
+        rt.alloc(),
+        "SHORT_STRING",
+        &[GivenValue::Text(text.as_str())],
+    )?;
     assert!(rt; longest.as_str().starts_with("ffe9e9") && longest.as_str().len() == 512);
     text.push_str("x")?;
-    let longer = told(rt.alloc(), "SHORT_STRING", &[GivenValue::Text(text.as_str())])?;
+    let longer = told(
+        rt.alloc(),
+        "SHORT_STRING",
+        &[GivenValue::Text(text.as_str())],
+    )?;
     assert_eq!(rt; longer.as_str(), RANGE);
     Ok(())
 }

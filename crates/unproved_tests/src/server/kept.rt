@@ -3,9 +3,9 @@
 use super::wires::{Call, ScriptedWire};
 use arrayvec::ArrayVec;
 use cip_objects::{Config, Objects};
-use enip_adapter::Adapter;
+use enip_adapter::{Adapter, Limits};
 use enip_keep::{Device, Entry, KeepError, MemoryKeeper, Server};
-use enip_server::NO_IDLE_TIMEOUT;
+use enip_server::{EVICTION_SILENCE, NO_IDLE_TIMEOUT};
 use kept_server::{Accepted, KeptDevice, KeptPeers, ReadyWire, RoundInput};
 use std::alloc::{AllocError, Global};
 use std::cell::Cell;
@@ -28,6 +28,8 @@ const KEY: u64 = 0x4_0064_0003;
 #[derive(Drop)]
 struct DataKept {
     config: Config,
+    /// The number of peer slots.
+    peers: u16,
 }
 
 impl KeptDevice for DataKept {
@@ -57,7 +59,11 @@ impl KeptDevice for DataKept {
                 objects.write_data(100, 0, entry.bytes.as_slice());
             }
         }
-        Ok(Adapter::new(alloc, objects, LISTEN, LIMITS)?)
+        let limits = Limits {
+            peers: self.peers,
+            ..LIMITS
+        };
+        Ok(Adapter::new(alloc, objects, LISTEN, limits)?)
     }
 
     fn waiting(&self, alloc: Global, entries: &[Entry]) -> Result<Vec<u64>, AllocError> {
@@ -111,6 +117,7 @@ fn input<'a>(
         now,
         accepted: accepted.map(Accepted::writer),
         ready: wires,
+        room_for: None,
     }
 }
 
@@ -131,6 +138,7 @@ fn assert_data<A: Abort>(rt: &A, server: &Served<'_>, data: [u8; 4]) -> Result<(
 fn an_answer_leaves_once_its_change_is_kept(rt: HostRuntime) -> Result<(), Fail> {
     let device = DataKept {
         config: config(rt.alloc())?,
+        peers: LIMITS.peers,
     };
     let made = Cell::new(0);
     let calls = [
@@ -158,6 +166,7 @@ fn an_answer_leaves_once_its_change_is_kept(rt: HostRuntime) -> Result<(), Fail>
 fn no_answer_leaves_if_the_commit_fails(rt: HostRuntime) -> Result<(), Fail> {
     let device = DataKept {
         config: config(rt.alloc())?,
+        peers: LIMITS.peers,
     };
     for (keeps_failed, data) in [(false, [0; 4]), (true, [7, 8, 9, 10])] {
         let made = Cell::new(0);
@@ -196,6 +205,7 @@ fn a_value_that_is_not_used_stays_until_it_is_written(rt: HostRuntime) -> Result
     let alloc = rt.alloc();
     let device = DataKept {
         config: config(alloc)?,
+        peers: LIMITS.peers,
     };
     let made = Cell::new(0);
     let calls = [
@@ -229,5 +239,41 @@ fn a_value_that_is_not_used_stays_until_it_is_written(rt: HostRuntime) -> Result
     let found = data_entry(alloc, &[1, 2, 3, 4])?;
     let peers: KeptPeers<ScriptedWire<'_>, DataKept> = KeptPeers::start(alloc, &device, &[found])?;
     assert_eq!(rt; peers.changes().len(), 1);
+    Ok(())
+}
+
+#[test]
+fn room_is_made_at_the_end_of_a_round(rt: HostRuntime) -> Result<(), Fail> {
+    let device = DataKept {
+        config: config(rt.alloc())?,
+        peers: 1,
+    };
+    let made = [Cell::new(0), Cell::new(0)];
+    let calls = [Call::Later];
+    let keeper = MemoryKeeper::new(rt.alloc());
+    let mut server: Served<'_> = Server::start(rt.alloc(), keeper, &device)?;
+    server.round(input(0, Some(ScriptedWire::new(&calls, &made[0])), &[]))?;
+    for (now, room_for, ended) in [
+        (EVICTION_SILENCE, None, 0),
+        (EVICTION_SILENCE - 1, Some(7), 0),
+        (EVICTION_SILENCE, Some(7), 1),
+        (EVICTION_SILENCE, Some(7), 0),
+    ] {
+        let mut asked = input(now, None, &[]);
+        asked.room_for = room_for;
+        server.round(asked)?;
+        let end = server.device().last_round();
+        assert_eq!(rt;
+            (end.ended, end.ready, end.next),
+            (ended, false, None),
+            "{now}"
+        );
+    }
+    assert_eq!(rt; server.device().peers().first_free(), Some(0));
+    // the client is accepted in the next round
+    let client = ScriptedWire::new(&calls, &made[1]);
+    server.round(input(EVICTION_SILENCE, Some(client), &[]))?;
+    assert_eq!(rt; server.device().peers().first_free(), None);
+    assert_eq!(rt; (made[0].get(), made[1].get()), (1, 1));
     Ok(())
 }

@@ -1,5 +1,5 @@
 use Rattle.std.proofs.Common.{subst, sym}
-use Rattle.enip_config.specs.Configured.{IsAdapterOf}
+use Rattle.configured_adapter.specs.Configured.{IsAdapterOf}
 use Rattle.enip_c.proofs.adapter.boxed_adapter.Goals as goal
 
 pub returns-clause-made : goal.returns-clause-made

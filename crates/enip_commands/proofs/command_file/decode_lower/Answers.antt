@@ -1,7 +1,7 @@
 use Rattle.std.proofs.Common.{◌≡◌, ℕ, ◌+◌, ◌<◌, List, [], ◌∷◌, ◌++◌, codes, length, None, Some, Ok, refl, sym, ap, ◌∙◌, arith, rules}
 use Rattle.std.proofs.lemmas.Grind.{common_steps}
 use Rattle.hex.specs.Hex.{encode_lower}
-use Rattle.enip_commands.proofs.DigitLemmas.{encoded_in_room}
+use Rattle.enip_faults.proofs.DigitLemmas.{encoded_in_room}
 use Rattle.enip_commands.proofs.CommandFileLemmas.{lower_decoded, lower_lacking, err_not_ok}
 use Rattle.enip_commands.proofs.command_file.decode_lower.Goals as goal
 

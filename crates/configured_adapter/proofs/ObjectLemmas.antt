@@ -1,0 +1,18 @@
+use Rattle.std.proofs.Common.{◌≡◌, List, ℕ, subst, Result, Ok, Err, IfErr, None}
+use Rattle.std.specs.Result.{IsErr, IsErrAnd}
+use Rattle.cip_objects.specs.declared.config.ConfigFault.{ConfigFault}
+use Rattle.cip_objects.specs.declared.config.ConfigFault.TheVariants.{Memory}
+use Rattle.cip_objects.specs.Configuration.{fault_of}
+use Rattle.enip_config.specs.declared.configuration.Configuration.{Configuration}
+use Rattle.enip_config.specs.declared.fault.LoadFault.{LoadFault}
+use Rattle.enip_config.specs.Refusals.{fault_of_objects}
+use Rattle.enip_config.specs.Documents.{IsDescribed, IsFaultOf}
+
+-- The objects accept what was read: only memory can fail.
+pub objects_fail : {T U : Type 0} (text : List ℕ) (described : Configuration) (r : Result T ConfigFault) (check : ConfigFault) (returned : Result U LoadFault)
+    → IsDescribed text described → (fault_of described.objects ≡ None → IfErr r (λ f. f ≡ Memory))
+    → r ≡ Err check → IsErr returned × IsErrAnd returned (λ f. f ≡ fault_of_objects check) → IfErr returned (IsFaultOf text)
+objects_fail text described r check (Ok x) read allowed is gives = tt
+objects_fail text described r check (Err fault) read allowed is gives =
+    let none : check ≡ Memory = subst (λ s. IfErr s (λ f. f ≡ Memory)) is (allowed read.taken) in
+    rw (gives.1, none) tt

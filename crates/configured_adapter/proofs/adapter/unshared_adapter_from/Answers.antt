@@ -1,0 +1,25 @@
+use Rattle.std.proofs.Common.{ap, ◌∙◌}
+use Rattle.enip_adapter.specs.Adapter.{new_adapter}
+use Rattle.enip_config.specs.declared.configuration.Configuration.{Configuration}
+use Rattle.cip_ledger.specs.Device.{device_of}
+use Rattle.configured_adapter.specs.Configured.{ledger_from, listen_of, limits_of}
+use Rattle.configured_adapter.proofs.ObjectLemmas.{objects_fail}
+use Rattle.configured_adapter.proofs.adapter.unshared_adapter_from.Goals as goal
+
+pub returns-clause-accepted : goal.returns-clause-accepted
+returns-clause-accepted c = (c.in_ok-configuration.configuration, c.in_ok-configuration.ensures.read)
+
+pub returns-in_err-objects-clause-refused : goal.returns-in_err-objects-clause-refused
+returns-in_err-objects-clause-refused c =
+    objects_fail c.args.config.now c.in_ok-configuration.configuration c.new.result c.in_err-objects.field-0.0 c.from_residual-in_err-objects.result
+    c.in_ok-configuration.ensures.read c.new.ensures.allowed c.in_err-objects.was c.from_residual-in_err-objects.ensures
+
+pub returns-clause-made : goal.returns-clause-made
+returns-clause-made c =
+    let c0 : Configuration = c.in_ok-configuration.configuration in (
+      c0,
+      (
+        c.in_ok-configuration.ensures.read,
+        c.in_ok-adapter.ensures ∙ ap (λ objects. new_adapter (device_of (ledger_from c0.ledger) objects) (listen_of c0) (limits_of c0)) c.in_ok-objects.ensures.made,
+      ),
+    )

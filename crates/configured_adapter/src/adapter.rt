@@ -1,0 +1,151 @@
+//! The adapter that a configuration describes.
+//! Text: docs/PROGRAM.md, "The configuration".
+
+ghost use Rattle.std.specs.Prelude.{◌≡◌, ◌≤◌, IfOk, IfErr, IfSome};
+ghost use Rattle.cip_ledger.specs.Device.{device_of};
+ghost use Rattle.enip_adapter.specs.Adapter.{shared_adapter};
+ghost use Rattle.configured_adapter.specs.Configured.{IsAccepted, IsAdapterInLife, IsAdapterOf, IsUnsharedAdapterOf, in_life, ledger_from, limits_of, listen_of, shares_from};
+ghost use Rattle.enip_config.specs.Access.{HasShares};
+ghost use Rattle.enip_config.specs.Documents.{IsFaultOf, IsInRange, AreSharesInRange};
+
+use cip_ledger::Ledger;
+use cip_objects::Objects;
+use enip_access::Access;
+use enip_adapter::{Adapter, Limits, Listen, Shares};
+use enip_config::{Configuration, LedgerConfig, LoadFault};
+use std::alloc::{AllocError, Global};
+
+/// Makes the adapter that the bytes of a configuration describe. It has no peers yet.
+///
+/// # Errors
+///
+/// `LoadFault::Refused` if `Configuration::from_bytes` refuses the configuration, with the first check that fails.
+/// `LoadFault::Memory` if memory is refused.
+pub fn adapter_from(alloc: Global, config: &[u8]) -> Result<Adapter, LoadFault>
+    ensures made { IfOk result (IsAdapterOf config.now) }
+    ensures accepted { IfOk result (λ _. IsAccepted config.now) }
+    ensures refused { IfErr result (IsFaultOf config.now) }
+{
+    let configuration = Configuration::from_bytes(alloc, config)?;
+    let objects = Objects::new(alloc, &configuration.objects)?;
+    let shares = shares_from(&configuration.access);
+    let adapter = adapter_of(alloc, objects, &configuration, configuration.ledger, shares)?;
+    Ok(adapter)
+}
+
+/// Makes the same adapter, but without the shares of the table `access`: for peers that have no addresses.
+///
+/// # Errors
+///
+/// As `adapter_from`.
+pub fn unshared_adapter_from(alloc: Global, config: &[u8]) -> Result<Adapter, LoadFault>
+    ensures made { IfOk result (IsUnsharedAdapterOf config.now) }
+    ensures accepted { IfOk result (λ _. IsAccepted config.now) }
+    ensures refused { IfErr result (IsFaultOf config.now) }
+{
+    let configuration = Configuration::from_bytes(alloc, config)?;
+    let objects = Objects::new(alloc, &configuration.objects)?;
+    let shares = Shares::NONE;
+    let adapter = adapter_of(alloc, objects, &configuration, configuration.ledger, shares)?;
+    Ok(adapter)
+}
+
+/// Makes the same adapter, but with this number of the device's life in its ledger. A device that was restarted needs
+/// another life, because its ledger is empty.
+///
+/// # Errors
+///
+/// As `adapter_from`.
+pub fn adapter_in_life(alloc: Global, config: &[u8], life: u64) -> Result<Adapter, LoadFault>
+    ensures made { IfOk result (IsAdapterInLife life config.now) }
+    ensures accepted { IfOk result (λ _. IsAccepted config.now) }
+    ensures refused { IfErr result (IsFaultOf config.now) }
+{
+    let configuration = Configuration::from_bytes(alloc, config)?;
+    let objects = Objects::new(alloc, &configuration.objects)?;
+    let ledger = in_life(life, configuration.ledger);
+    let shares = shares_from(&configuration.access);
+    let adapter = adapter_of(alloc, objects, &configuration, ledger, shares)?;
+    Ok(adapter)
+}
+
+/// The same ledger, in a life of this number.
+fn in_life(life: u64, ledger: Option<LedgerConfig>) -> Option<LedgerConfig>
+    ensures { result ≡ in_life life ledger }
+{
+    match ledger {
+        Some(ledger) => Some(LedgerConfig {
+            originators: ledger.originators,
+            life,
+        }),
+        None => None,
+    }
+}
+
+/// Makes the adapter of a configuration, over its objects, with a ledger before them if there is one, and these shares.
+fn adapter_of(
+    alloc: Global,
+    objects: Objects,
+    configuration: &Configuration,
+    ledger: Option<LedgerConfig>,
+    shares: Shares,
+) -> Result<Adapter, AllocError>
+    requires numbers { IsInRange configuration.now }
+    requires peers_from { 1 ≤ shares.peers }
+    requires peers_to { shares.peers ≤ 16 }
+    requires connections_from { 1 ≤ shares.connections }
+    requires connections_to { shares.connections ≤ 64 }
+    requires ledger_from { IfSome ledger (λ l. 1 ≤ l.originators) }
+    requires ledger_to { IfSome ledger (λ l. l.originators ≤ 64) }
+    ensures { IfOk result (λ adapter. adapter ≡ shared_adapter (device_of (ledger_from ledger) objects)
+        (listen_of configuration.now) (limits_of configuration.now) shares) }
+{
+    let listen = Listen {
+        address: configuration.address,
+        port: configuration.port,
+    };
+    let limits = Limits {
+        peers: configuration.peers,
+        connections: configuration.connections,
+        first_handle: configuration.first_handle,
+        first_id: configuration.first_id,
+    };
+    let ledger = ledger_from(alloc, ledger)?;
+    Adapter::shared(alloc, objects, ledger, listen, limits, shares)
+}
+
+/// How many peers and connections one address may have at a time, by the table `access` of a configuration. Without the
+/// table, or without a key of it, there is no limit.
+///
+/// ```
+/// let shares = shares_from(&configuration.access);
+/// let adapter = Adapter::shared(alloc, objects, None, listen, limits, shares)?;
+/// ```
+pub fn shares_from(access: &Option<Access>) -> Shares
+    requires { IfSome access.now HasShares }
+    ensures value { result ≡ shares_from access.now }
+    ensures peers_from { 1 ≤ result.peers }
+    ensures peers_to { result.peers ≤ 16 }
+    ensures connections_from { 1 ≤ result.connections }
+    ensures connections_to { result.connections ≤ 64 }
+{
+    match access {
+        Some(access) => Shares {
+            peers: access.peers_per_address(),
+            connections: access.most_connections_per_address(),
+        },
+        None => Shares::NONE,
+    }
+}
+
+/// An empty ledger, if the configuration has one.
+fn ledger_from(alloc: Global, ledger: Option<LedgerConfig>) -> Result<Option<Ledger>, AllocError>
+    requires from { IfSome ledger (λ l. 1 ≤ l.originators) }
+    requires to { IfSome ledger (λ l. l.originators ≤ 64) }
+    ensures { IfOk result (λ made. made ≡ ledger_from ledger) }
+{
+    match ledger {
+        None => Ok(None),
+        Some(ledger) => Ok(Some(Ledger::new(alloc, ledger.originators, ledger.life)?)),
+    }
+}

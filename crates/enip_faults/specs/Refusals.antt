@@ -1,0 +1,35 @@
+-- What a refusal means: that of a ledger, and that of a line of a command file.
+use Rattle.std.specs.Prelude.{ℕ, ◌==◌, if◌then◌else◌, Bool, true, false}
+use Rattle.enip_faults.specs.declared.command_file_fault.CommandFileFault.{CommandFileFault}
+use Rattle.enip_faults.specs.declared.command_file_fault.CommandFileFault.TheVariants.{Head, Originator, Life, Number}
+use Rattle.enip_faults.specs.declared.command_file_fault.CommandFileFault.TheVariants.{Pending, End}
+use Rattle.enip_faults.specs.declared.ledger_refusal.LedgerRefusal.{LedgerRefusal}
+use Rattle.enip_faults.specs.declared.ledger_refusal.LedgerRefusal.TheVariants as answers
+
+-- what the general status of a refusal says
+abbrev pub ledger_refusal : ℕ → LedgerRefusal
+ledger_refusal status =
+    if status == 0x02 then answers.NoSlot
+    else if status == 0x05 then answers.NoLedger
+    else if status == 0x0c then answers.NumberPassed
+    else if status == 0x10 then answers.OtherLife
+    else if status == 0x11 then answers.ReplyTooLarge
+    else answers.Other status
+
+-- a ledger without a slot for an originator has executed none of its commands
+abbrev pub may_be_executed : LedgerRefusal → Bool
+may_be_executed answers.NoSlot = false
+may_be_executed answers.NoLedger = true
+may_be_executed answers.NumberPassed = true
+may_be_executed answers.OtherLife = true
+may_be_executed answers.ReplyTooLarge = true
+may_be_executed (answers.Other status) = true
+
+-- the line of a command file that is refused
+abbrev pub fault_line : CommandFileFault → ℕ
+fault_line Head = 1
+fault_line Originator = 2
+fault_line Life = 3
+fault_line Number = 4
+fault_line Pending = 5
+fault_line End = 6
