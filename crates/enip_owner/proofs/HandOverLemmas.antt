@@ -286,13 +286,13 @@ pushed_known greatest reach next ticket past waiting k has =
     elim (or_cases (has_ticket waiting ticket) (has_ticket (next ∷ []) ticket) either) [
       | inl old ↦ k.known ticket old
       | inr new ↦ elim (or_cases (next == ticket) false new) [
-          | inl here ↦
-              let same : next ≡ ticket = eqb-true next ticket here in
-              lt-leb ticket reach (omega (arith, same, k.reached))
-              ∙ sym (or_from (nat_le ticket greatest) (has_ticket past ticket) (lt-leb ticket greatest (omega (arith, same, k.begun)))
-              (no_such next ticket past k.before (omega (arith, same))))
-          | inr never ↦ absurd (false≢true never)
-        ]
+        | inl here ↦
+            let same : next ≡ ticket = eqb-true next ticket here in
+            lt-leb ticket reach (omega (arith, same, k.reached))
+            ∙ sym (or_from (nat_le ticket greatest) (has_ticket past ticket) (lt-leb ticket greatest (omega (arith, same, k.begun)))
+            (no_such next ticket past k.before (omega (arith, same))))
+        | inr never ↦ absurd (false≢true never)
+      ]
     ]
 
 known_push : (greatest reach next : ℕ) (past waiting : List ℕ) → IsKnown greatest reach next past waiting
@@ -345,24 +345,24 @@ handed_known greatest reach next handed one ticket past waiting k under is has =
           le-leb ticket (max reach one) (omega (arith, same))
           ∙ sym (or_twice (nat_le ticket greatest) (one == ticket) (has_ticket past ticket) (eq-eqb one ticket (sym same)))
       | inr other ↦ elim other [
-          | inl before ↦
-              let early : ticket ≤ handed = earlier_waits handed waiting one 0 ticket is k.rises has before in
-              let old : (nat_le ticket greatest || has_ticket past ticket) ≡ true =
-              sym (k.known ticket has) ∙ le-leb ticket reach (omega (arith, early, under)) in
-              le-leb ticket (max reach one) (omega (arith, before))
-              ∙ sym (or_kept (nat_le ticket greatest) (has_ticket past ticket) (one == ticket) old)
-          | inr after ↦
-              let apart : (one == ticket) ≡ false = ne_eqb one ticket (λ same. omega (arith, same, after)) in
-              same_reach ticket reach one after ∙ k.known ticket has
-              ∙ or_same (nat_le ticket greatest) (has_ticket past ticket) (one == ticket) apart
-        ]
+        | inl before ↦
+            let early : ticket ≤ handed = earlier_waits handed waiting one 0 ticket is k.rises has before in
+            let old : (nat_le ticket greatest || has_ticket past ticket) ≡ true =
+            sym (k.known ticket has) ∙ le-leb ticket reach (omega (arith, early, under)) in
+            le-leb ticket (max reach one) (omega (arith, before))
+            ∙ sym (or_kept (nat_le ticket greatest) (has_ticket past ticket) (one == ticket) old)
+        | inr after ↦
+            let apart : (one == ticket) ≡ false = ne_eqb one ticket (λ same. omega (arith, same, after)) in
+            same_reach ticket reach one after ∙ k.known ticket has
+            ∙ or_same (nat_le ticket greatest) (has_ticket past ticket) (one == ticket) apart
+      ]
     ]
   where
     same_reach : (ticket reach one : ℕ) → one < ticket → nat_le ticket (max reach one) ≡ nat_le ticket reach
     same_reach ticket reach one after = elim (cases_lt reach ticket) [
-        | inl over ↦ lt-leb ticket (max reach one) (omega (arith, over, after)) ∙ sym (lt-leb ticket reach over)
-        | inr within ↦ le-leb ticket (max reach one) (omega (arith, within)) ∙ sym (le-leb ticket reach within)
-      ]
+      | inl over ↦ lt-leb ticket (max reach one) (omega (arith, over, after)) ∙ sym (lt-leb ticket reach over)
+      | inr within ↦ le-leb ticket (max reach one) (omega (arith, within)) ∙ sym (le-leb ticket reach within)
+    ]
 
 known_hand : (greatest reach next handed one : ℕ) (past waiting : List ℕ) → IsKnown greatest reach next past waiting
     → handed ≤ reach → first_above handed waiting ≡ Some one
@@ -457,9 +457,9 @@ none_skipped d steps ticket desk one has =
 
 same_again : (earlier handed one : ℕ) → handed < one → nat_le one earlier ≡ nat_le one (max earlier handed)
 same_again earlier handed one over = elim (cases_lt earlier one) [
-    | inl less ↦ lt-leb one earlier less ∙ sym (lt-leb one (max earlier handed) (omega (arith, less, over)))
-    | inr within ↦ le-leb one earlier within ∙ sym (le-leb one (max earlier handed) (omega (arith, within)))
-  ]
+  | inl less ↦ lt-leb one earlier less ∙ sym (lt-leb one (max earlier handed) (omega (arith, less, over)))
+  | inr within ↦ le-leb one earlier within ∙ sym (le-leb one (max earlier handed) (omega (arith, within)))
+]
 
 record IsHanded (h : HandOver) (waiting : List ℕ) (handed : HandedOver) : Type 0 where
   found : first_above h.handed waiting ≡ Some handed.ticket

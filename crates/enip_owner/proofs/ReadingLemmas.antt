@@ -61,11 +61,11 @@ no_number limit key text bytes same most never =
     subst (λ (t : List ℕ). number_spelled limit key t ≡ Err (faults.OutOfRange key)) same
     (unspelled limit key bytes (is_numeral bytes) (nat_lt (digits_value 10 bytes) limit) refl refl
     (λ both.
-        let parts = and_parts (is_numeral bytes) (nat_lt (digits_value 10 bytes) limit) both in
-        never (
-          digits-from_numeral bytes (nat_lt 0 (length bytes)) (list_all (λ byte. is_digit byte 10) bytes) refl refl parts.0,
-          omega (arith, most, ltb-true (digits_value 10 bytes) limit parts.1),
-        )))
+    let parts = and_parts (is_numeral bytes) (nat_lt (digits_value 10 bytes) limit) both in
+    never (
+      digits-from_numeral bytes (nat_lt 0 (length bytes)) (list_all (λ byte. is_digit byte 10) bytes) refl refl parts.0,
+      omega (arith, most, ltb-true (digits_value 10 bytes) limit parts.1),
+    )))
 
 -- ---- keys
 
@@ -120,7 +120,7 @@ pub item_step : (items : List (Value Global)) (index : ℕ) (default_ : Value Gl
 item_step items index default_ front value inside is =
     ap (in_front (map given_in front)) (item_read items index default_ inside)
     ∙ ap (λ (r : Result Given OwnerFault). in_front (map given_in front)
-        (r >>= (λ v. items_given (items_view (drop (index + 1) items)) >>= (λ values. Ok (v ∷ values))))) is
+    (r >>= (λ v. items_given (items_view (drop (index + 1) items)) >>= (λ values. Ok (v ∷ values))))) is
     ∙ one_more (map given_in front) (given_in value) (items_given (items_view (drop (index + 1) items)))
     ∙ ap (λ (l : List Given). in_front l (items_given (items_view (drop (index + 1) items)))) (sym (map-append given_in front (value ∷ [])))
 
@@ -130,7 +130,7 @@ pub item_fails : (items : List (Value Global)) (index : ℕ) (default_ : Value G
 item_fails items index default_ front fault inside is =
     ap (in_front front) (item_read items index default_ inside)
     ∙ ap (λ (r : Result Given OwnerFault). in_front front
-        (r >>= (λ v. items_given (items_view (drop (index + 1) items)) >>= (λ values. Ok (v ∷ values))))) is
+    (r >>= (λ v. items_given (items_view (drop (index + 1) items)) >>= (λ values. Ok (v ∷ values))))) is
 
 pub all_given : (items : List (Value Global)) (index : ℕ) (front : List Given) → length items ≤ index
     → in_front front (items_given (items_view (drop index items))) ≡ Ok front

@@ -146,10 +146,15 @@ items_tokens-list (j ∷ js) =
 list_done : (r : Result (Unit {0}) AllocError) (old mid new : Written) (values : List Value) → AreListed old mid values
     → Writes r mid new end_array → AddsValues r old new values
 list_done (Ok done) old mid new values listed writes = record {
-  ok = (listed.js, (listed.each,
+  ok = (
+    listed.js,
+    (
+      listed.each,
       writes.ok ∙ ap (λ l. l ++ end_array ∷ []) listed.added.tokens
-      ∙ append_assoc old.tokens (key (codes "values") ∷ begin_array ∷ flat_map json_tokens listed.js) (end_array ∷ [])
-      ∙ ap (λ l. old.tokens ++ key (codes "values") ∷ begin_array ∷ l) (sym (items_tokens-list listed.js))));
+          ∙ append_assoc old.tokens (key (codes "values") ∷ begin_array ∷ flat_map json_tokens listed.js) (end_array ∷ [])
+          ∙ ap (λ l. old.tokens ++ key (codes "values") ∷ begin_array ∷ l) (sym (items_tokens-list listed.js)),
+    ),
+  );
   before = writes.room.0 ∙ listed.added.before;
 }
 list_done (Err why) old mid new values listed writes = record { ok = tt; before = writes.room.0 ∙ listed.added.before }

@@ -17,9 +17,13 @@ each_more : (element : ElementaryType) (values : List Given) (value : Given) (by
     → IsBytes element value more → EachIsBytes element (values ++ value ∷ []) (bytes ++ more)
 each_more element [] value bytes more each is =
     (more, [], is, refl, ap (λ (l : List ℕ). l ++ more) each ∙ sym (append-nil more))
-each_more element (first ∷ values) value bytes more each is =
-    (each.0, each.1 ++ more, each.2, each_more element values value each.1 more each.3 is,
-    ap (λ (l : List ℕ). l ++ more) each.4 ∙ append_assoc each.0 each.1 more)
+each_more element (first ∷ values) value bytes more each is = (
+  each.0,
+  each.1 ++ more,
+  each.2,
+  each_more element values value each.1 more each.3 is,
+  ap (λ (l : List ℕ). l ++ more) each.4 ∙ append_assoc each.0 each.1 more,
+)
 
 -- The first values are appended, and then one more is.
 pub one_more : (element : ElementaryType) (values : List GivenValue) (index : ℕ) (default_ : GivenValue) (old new : List ℕ) → index < length values

@@ -106,11 +106,7 @@ fn write_without_data(alloc: Global, hello: &HelloEvent<'_>) -> Result<Vec<u8>, 
 }
 
 /// The first line with this much of the attributes.
-fn write_with(
-    alloc: Global,
-    detail: Detail,
-    hello: &HelloEvent<'_>,
-) -> Result<Vec<u8>, EventFault>
+fn write_with(alloc: Global, detail: Detail, hello: &HelloEvent<'_>) -> Result<Vec<u8>, EventFault>
     ensures { IsWritten (hello_json detail hello.now) result }
 {
     let mut writer = begin_line(alloc)?;

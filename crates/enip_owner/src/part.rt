@@ -118,7 +118,9 @@ pub(crate) fn write_part(
         Part::MaybeBytes(name, Some(bytes)) => write_bytes(alloc, writer, name, bytes),
         Part::Truth(name, truth) => write_member(writer, name, Token::Bool(truth)),
         Part::MaybeAddress(name, Some(address)) => write_address(alloc, writer, name, address),
-        Part::MaybeText(_, None) | Part::MaybeBytes(_, None) | Part::MaybeAddress(_, None) => Ok(()),
+        Part::MaybeText(_, None) | Part::MaybeBytes(_, None) | Part::MaybeAddress(_, None) => Ok(
+            (),
+        ),
     }
 }
 

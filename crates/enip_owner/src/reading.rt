@@ -323,10 +323,7 @@ fn values_of<'a>(alloc: Global, value: &Value<'a>) -> Result<Vec<GivenValue<'a>>
 }
 
 /// The same, by the items of the list.
-fn items_of<'a>(
-    alloc: Global,
-    items: &[Value<'a>],
-) -> Result<Vec<GivenValue<'a>>, OwnerFault>
+fn items_of<'a>(alloc: Global, items: &[Value<'a>]) -> Result<Vec<GivenValue<'a>>, OwnerFault>
     ensures { Gives (λ values. map given_in values.items) result (items_given (items_view items.now)) }
 {
     let mut values = Vec::new(alloc);

@@ -12,8 +12,8 @@ pub loop-item-preserved : goal.loop-item-preserved
 loop-item-preserved c =
     c.loop-item.invariant
     ∙ rw c.in_ok-push.ensures.items
-      (item_step c.args.items.now c.loop-item.item-index c.item-item.result c.loop-item.values.items c.in_ok-value_of.field-0 c.loop-item-test.true
-      (rw (← c.item-item.is) c.in_ok-value_of.ensures))
+    (item_step c.args.items.now c.loop-item.item-index c.item-item.result c.loop-item.values.items c.in_ok-value_of.field-0 c.loop-item-test.true
+    (rw (← c.item-item.is) c.in_ok-value_of.ensures))
 
 pub returns-in_err-value_of : goal.returns-in_err-value_of
 returns-in_err-value_of c =
@@ -22,8 +22,8 @@ returns-in_err-value_of c =
     (also_fails c.in_err-value_of.field-0.0 (value_given (value_view c.item-item.result)) (items_given (items_view c.args.items.now))
     c.in_err-value_of.ensures
     (λ is. c.loop-item.invariant
-        ∙ item_fails c.args.items.now c.loop-item.item-index c.item-item.result (map given_in c.loop-item.values.items)
-          c.in_err-value_of.field-0.0 c.loop-item-test.true (rw (← c.item-item.is) is)))
+    ∙ item_fails c.args.items.now c.loop-item.item-index c.item-item.result (map given_in c.loop-item.values.items)
+    c.in_err-value_of.field-0.0 c.loop-item-test.true (rw (← c.item-item.is) is)))
 
 pub returns : goal.returns
 returns c =
