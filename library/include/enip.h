@@ -119,7 +119,9 @@ enum {
     ENIP_CONFIG_ATTRIBUTE = 11, /* an attribute of one: its number, type, value, range or size, or more than 32 */
     ENIP_CONFIG_SERVICE = 12,   /* a service of one: its number or sizes, or more than 16 */
     ENIP_CONFIG_ORDER = 13,     /* enip_adapter_new_kept: the assemblies or the objects are not in rising order */
-    ENIP_CONFIG_ACCESS = 14     /* a list of the table access is not one (check 13 of the page) */
+    ENIP_CONFIG_ACCESS = 14,    /* a list of the table access is not one (check 13 of the page) */
+    ENIP_CONFIG_COMMANDS = 15,  /* a table commands, but no service is queued (check 14 of the page) */
+    ENIP_CONFIG_QUEUED = 16     /* a service is queued: this library has no queue of commands */
 };
 
 /* Why enip_adapter_new refuses a configuration, and enip_adapter_new_kept a configuration or a saved state. */

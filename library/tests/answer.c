@@ -119,9 +119,15 @@ int main(int count, char **arguments) {
     FILE *file = fopen(arguments[2], "rb");
     size_t size = file == NULL ? 0 : fread(text, 1, sizeof text, file);
     int status = enip_adapter_new(text, size, &adapter, &why);
+    if (status == ENIP_CONFIGURATION && why.number == ENIP_CONFIG_QUEUED) {
+        // the library has no queue of commands: the program answers
+        execv(getenv("ENIP"), arguments);
+        return 9;
+    }
     if (status == ENIP_CONFIGURATION) {
-        // the program numbers the lists of the table access 13, which is ENIP_CONFIG_ORDER here
-        unsigned number = why.number == ENIP_CONFIG_ACCESS ? 13 : why.number;
+        // 13 is ENIP_CONFIG_ORDER here, so the two last checks have the next numbers
+        int is_shifted = why.number == ENIP_CONFIG_ACCESS || why.number == ENIP_CONFIG_COMMANDS;
+        unsigned number = why.number - is_shifted;
         return fprintf(stderr, "enip: %s\nconfiguration %u\n", why.text, number), 3;
     }
     if (status != ENIP_OK)

@@ -52,6 +52,11 @@ static void refusals(void) {
        ENIP_CONFIG_ATTRIBUTE);
     is("a service", refused(HEAD NAME "[[object]]\nclass = 768\ninstance = 1\n[[object.service]]\nnumber = 49\nsize = 4\n"),
        ENIP_CONFIG_SERVICE);
+    is("a queue", refused(HEAD NAME "[commands]\nqueue = 1\n"), ENIP_CONFIG_COMMANDS);
+    is("a queued service",
+       refused(HEAD NAME
+               "[[object]]\nclass = 768\ninstance = 1\n[[object.service]]\nnumber = 50\nsize = 4\nqueued = true\n"),
+       ENIP_CONFIG_QUEUED);
 }
 
 /* A header with this command, data length and session. */

@@ -254,6 +254,11 @@ static void others(void) {
             ENIP_CONFIG_KEY, NULL);
     refused("a list of addresses", IDENTITY("4660", "7", "1") REST "[access]\nread = [\"10.0.0.5/8\"]\n", state, state_size,
             ENIP_CONFIGURATION, ENIP_CONFIG_ACCESS, NULL);
+    refused("a queue", IDENTITY("4660", "7", "1") REST "[commands]\n", state, state_size, ENIP_CONFIGURATION,
+            ENIP_CONFIG_COMMANDS, "line 11: there is a table commands, but no service is queued");
+    refused("a queued service", IDENTITY("4660", "7", "1") REST LEDGER DATA MACHINE "queued = true\n", state, state_size,
+            ENIP_CONFIGURATION, ENIP_CONFIG_QUEUED,
+            "service 0x32 of class 0x300, instance 1 is queued, and this library has no queue");
     refused("a falling order",
             IDENTITY("4660", "7", "1") REST LEDGER DATA "[[assembly]]\ninstance = 99\nmembers = [4]\n", NULL, 0, ENIP_CONFIGURATION, ENIP_CONFIG_ORDER,
             "the assemblies or the objects are not configured in rising order");

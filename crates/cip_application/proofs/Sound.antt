@@ -15,7 +15,7 @@ use Rattle.cip_application.specs.Check.{demand}
 use Rattle.cip_application.specs.Attributes.{AttributeValues, attribute_at, with_placed, in_order, AreAllowed}
 use Rattle.cip_application.specs.Objects.{position_of, AllAllowed}
 use Rattle.cip_application.specs.Values.{capacity, is_allowed, check_value}
-use Rattle.cip_application.specs.Configuration.{is_taken_class, has_invalid_name, is_invalid_object, has_object, are_invalid_objects, has_invalid_range, is_invalid_kind, is_invalid_attribute, are_invalid_attributes, has_invalid_attributes, is_invalid_service, are_invalid_services, has_invalid_services, total_capacity, fault_of, attribute_of_config, object_of_config, AreOwn, IsBefore, AreInOrder}
+use Rattle.cip_application.specs.Configuration.{is_taken_class, has_invalid_name, is_invalid_object, has_object, are_invalid_objects, has_invalid_range, is_invalid_kind, is_invalid_attribute, are_invalid_attributes, has_invalid_attributes, is_invalid_as, is_invalid_service, are_invalid_services, has_invalid_services, total_capacity, fault_of, attribute_of_config, object_of_config, AreOwn, IsBefore, AreInOrder}
 use Rattle.cip_application.specs.Whole.{IsShort, IsSound}
 
 none_cond : (b : Bool) (x : ObjectFault) (r : Option ObjectFault) → cond b (Some x) r ≡ None → (b ≡ false) × (r ≡ None)
@@ -89,7 +89,8 @@ each_service [] e k d h = absurd (omega arith)
 each_service (x ∷ xs) e zero d h =
     let a = or_false (is_invalid_service x || list_any (λ t. eqb t.number x.number) xs) (are_invalid_services xs) e in
     let b = or_false (is_invalid_service x) (list_any (λ t. eqb t.number x.number) xs) a.0 in
-    let c = or_false (((nat_lt x.number 0x32 || nat_lt 0x63 x.number) || nat_lt x.most x.least) || nat_lt 480 x.most) (nat_lt 480 x.reply) b.0 in
+    let kind = or_false ((((nat_lt x.number 0x32 || nat_lt 0x63 x.number) || nat_lt x.most x.least) || nat_lt 480 x.most) || nat_lt 480 x.reply) (is_invalid_as x.kind x) b.0 in
+    let c = or_false (((nat_lt x.number 0x32 || nat_lt 0x63 x.number) || nat_lt x.most x.least) || nat_lt 480 x.most) (nat_lt 480 x.reply) kind.0 in
     let d = or_false ((nat_lt x.number 0x32 || nat_lt 0x63 x.number) || nat_lt x.most x.least) (nat_lt 480 x.most) c.0 in
     record { asked = at_most 480 x.most d.1; answered = at_most 480 x.reply c.1 }
 each_service (x ∷ xs) e (suc k) d h =

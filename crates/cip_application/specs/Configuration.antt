@@ -10,6 +10,8 @@ use Rattle.cip_application.specs.declared.config.ObjectConfig.{ObjectConfig}
 use Rattle.cip_application.specs.declared.config.ObjectFault.{ObjectFault}
 use Rattle.cip_application.specs.declared.config.ObjectFault.TheVariants.{Object, Attribute, Service, Memory}
 use Rattle.cip_application.specs.declared.config.ServiceConfig.{ServiceConfig}
+use Rattle.cip_application.specs.declared.config.ServiceKind.{ServiceKind}
+use Rattle.cip_application.specs.declared.config.ServiceKind.TheVariants as kinds
 use Rattle.cip_application.specs.declared.kind.AttributeKind.{AttributeKind}
 use Rattle.cip_application.specs.declared.kind.AttributeKind.TheVariants.{Fixed, ShortString}
 use Rattle.cip_application.specs.declared.number.NumberRange.{NumberRange}
@@ -91,10 +93,18 @@ capacity_of attributes = sum (map (λ a. capacity a.kind) attributes)
 abbrev pub total_capacity : List ObjectConfig → ℕ
 total_capacity objects = sum (map (λ o. capacity_of o.attributes.items) objects)
 
+-- A service cannot be of this kind. The reply of a queued service has at most 476 bytes. Get_Result is 0x4e, and its
+-- data are a ticket of 4 bytes.
+abbrev pub is_invalid_as : ServiceKind → ServiceConfig → Bool
+is_invalid_as kinds.Asked s = false
+is_invalid_as kinds.Queued s = nat_lt 476 s.reply
+is_invalid_as kinds.Result s = not (s.number == 0x4e) || not (s.least == 4) || not (s.most == 4)
+
 -- Own services are vendor or class specific: 0x32 to 0x63. The data of one, and of its reply, have at most 480 bytes.
 abbrev pub is_invalid_service : ServiceConfig → Bool
 is_invalid_service s =
     nat_lt s.number 0x32 || nat_lt 0x63 s.number || nat_lt s.most s.least || nat_lt 480 s.most || nat_lt 480 s.reply
+    || is_invalid_as s.kind s
 
 -- A service is invalid, or has the number of a later one.
 abbrev pub are_invalid_services : List ServiceConfig → Bool

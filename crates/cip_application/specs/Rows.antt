@@ -3,6 +3,8 @@ use Rattle.std.specs.Prelude.{◌≡◌, ℕ, [], ◌∷◌, Some, None, true, f
 use Rattle.cip_application.specs.declared.attribute.SetFault.TheVariants.{NotEnoughData, TooMuchData}
 use Rattle.cip_application.specs.declared.attribute.SetFault.TheVariants.{InvalidAttributeValue, AttributeNotSettable}
 use Rattle.cip_application.specs.declared.attribute.SetFault.TheVariants.{AttributeNotSupported}
+use Rattle.cip_application.specs.declared.config.ServiceConfig.{ServiceConfig}
+use Rattle.cip_application.specs.declared.config.ServiceKind.TheVariants as kinds
 use Rattle.cip_application.specs.declared.kind.AttributeKind.{AttributeKind}
 use Rattle.cip_application.specs.declared.kind.AttributeKind.TheVariants.{Fixed, ShortString}
 use Rattle.cip_application.specs.declared.number.NumberRange.{NumberRange}
@@ -310,17 +312,43 @@ pub kind_of_501_bytes : is_invalid_kind (Fixed 501 None) ≡ true
 kind_of_501_bytes = refl
 
 -- The limits of a service, and one byte beyond each.
-pub service_limits : is_invalid_service (record { number = 0x63; least = 480; most = 480; reply = 480 }) ≡ false
+abbrev pub loaded : ServiceConfig
+loaded = record { number = 0x63; least = 480; most = 480; reply = 480; kind = kinds.Asked }
+
+pub service_limits : is_invalid_service loaded ≡ false
 service_limits = refl
 
-pub service_of_the_standard : is_invalid_service (record { number = 0x31; least = 0; most = 0; reply = 0 }) ≡ true
+pub service_of_the_standard : is_invalid_service (record loaded { number = 0x31 }) ≡ true
 service_of_the_standard = refl
 
-pub service_of_falling_sizes : is_invalid_service (record { number = 0x32; least = 2; most = 1; reply = 0 }) ≡ true
+pub service_of_falling_sizes : is_invalid_service (record loaded { least = 480; most = 479 }) ≡ true
 service_of_falling_sizes = refl
 
-pub service_reply_too_large : is_invalid_service (record { number = 0x32; least = 0; most = 0; reply = 481 }) ≡ true
+pub service_reply_too_large : is_invalid_service (record loaded { reply = 481 }) ≡ true
 service_reply_too_large = refl
+
+-- The limit of a queued service's reply, and one byte beyond it.
+pub queued_limits : is_invalid_service (record loaded { reply = 476; kind = kinds.Queued }) ≡ false
+queued_limits = refl
+
+pub queued_reply_too_large : is_invalid_service (record loaded { reply = 477; kind = kinds.Queued }) ≡ true
+queued_reply_too_large = refl
+
+-- Get_Result, with another number, and with a ticket that is too short or too long.
+abbrev pub get_result : ServiceConfig
+get_result = record { number = 0x4e; least = 4; most = 4; reply = 478; kind = kinds.Result }
+
+pub result_of_a_ticket : is_invalid_service get_result ≡ false
+result_of_a_ticket = refl
+
+pub result_of_another_number : is_invalid_service (record get_result { number = 0x4d }) ≡ true
+result_of_another_number = refl
+
+pub result_of_a_short_ticket : is_invalid_service (record get_result { least = 3 }) ≡ true
+result_of_a_short_ticket = refl
+
+pub result_of_a_long_ticket : is_invalid_service (record get_result { most = 5 }) ≡ true
+result_of_a_long_ticket = refl
 
 pub name_empty : is_invalid_name [] ≡ true
 name_empty = refl

@@ -7,6 +7,7 @@ ghost use Rattle.cip_application.specs.Configuration.{are_invalid_objects, is_in
 ghost use Rattle.cip_application.specs.Configuration.{is_invalid_attribute, are_invalid_attributes};
 ghost use Rattle.cip_application.specs.Configuration.{has_invalid_attributes, capacity_of, total_capacity};
 ghost use Rattle.cip_application.specs.Configuration.{is_invalid_service, are_invalid_services, has_invalid_services};
+ghost use Rattle.cip_application.specs.Configuration.{is_invalid_as};
 ghost use Rattle.cip_application.specs.Configuration.{fault_of};
 
 use crate::kind::{AttributeKind, VALUE_LIMIT};
@@ -32,6 +33,15 @@ const CAPACITY_LIMIT: usize = 16_384;
 
 /// The most bytes of an own service's data, and of its reply's (our choice).
 pub const SERVICE_DATA_LIMIT: usize = 480;
+
+/// The service that answers the result of a queued command (our choice).
+pub const GET_RESULT: u8 = 0x4e;
+
+/// The bytes of the data of Get_Result: a ticket.
+const TICKET_SIZE: u16 = 4;
+
+/// The most bytes of the data of a queued command's reply (our choice). With its head it fits the command ledger.
+pub const QUEUED_REPLY_LIMIT: usize = 476;
 
 /// The class of the command ledger (our choice).
 const LEDGER: u16 = 0x65;
@@ -79,6 +89,17 @@ pub struct AttributeConfig {
     pub value: Vec<u8>,
 }
 
+/// How a service of an object's own is executed.
+#[derive(Clone, Copy, Debug, PartialEq, Eq)]
+pub enum ServiceKind {
+    /// The owner of the device is asked while the peer waits.
+    Asked,
+    /// It is put into the queue of commands and answered by its ticket. The owner executes it later.
+    Queued,
+    /// Get_Result: it answers the result of a queued command.
+    Result,
+}
+
 /// A service of an object's own, which the owner of the device executes.
 #[derive(Clone, Copy, Debug)]
 pub struct ServiceConfig {
@@ -88,8 +109,10 @@ pub struct ServiceConfig {
     pub least: u16,
     /// The most bytes of its data, at most 480.
     pub most: u16,
-    /// The most bytes of the reply's data, at most 480.
+    /// The most bytes of the reply's data, at most 480, and at most 476 if the service is queued.
     pub reply: u16,
+    /// How it is executed. Get_Result has the number 0x4e and 4 bytes of data.
+    pub kind: ServiceKind,
 }
 
 /// Why no application objects are made from a configuration: the first of these that holds.
@@ -104,7 +127,8 @@ pub enum ObjectFault {
     #[error("an attribute whose number, size, range or value is not allowed, or too many attributes")]
     Attribute = 11,
     /// A service has a number outside 0x32 to 0x63 or one that occurs twice, or sizes that do not rise or are over
-    /// 480. Or an object has over 16 services.
+    /// 480. Or it cannot be of its kind: it is queued and its reply has over 476 bytes, or it is Get_Result and has
+    /// another number than 0x4e or other data than 4 bytes. Or an object has over 16 services.
     #[error("a service whose number or size is not allowed, or too many services")]
     Service = 12,
     /// Memory was refused.
@@ -341,6 +365,22 @@ fn is_invalid_service(service: &ServiceConfig) -> bool
         || service.most < service.least
         || usize::from(service.most) > SERVICE_DATA_LIMIT
         || usize::from(service.reply) > SERVICE_DATA_LIMIT
+        || is_invalid_as(service.kind, service)
+}
+
+/// Whether a service cannot be of this kind.
+fn is_invalid_as(kind: ServiceKind, service: &ServiceConfig) -> bool
+    ensures { result ≡ is_invalid_as kind service.now }
+{
+    match kind {
+        ServiceKind::Asked => false,
+        ServiceKind::Queued => usize::from(service.reply) > QUEUED_REPLY_LIMIT,
+        ServiceKind::Result => {
+            service.number != GET_RESULT
+                || service.least != TICKET_SIZE
+                || service.most != TICKET_SIZE
+        }
+    }
 }
 
 /// Whether a service is invalid, or has the number of another.

@@ -24,7 +24,8 @@ mod object;
 pub use application::{ApplicationObjects, ClassSummary};
 pub use attribute::SetFault;
 pub use config::{
-    AttributeConfig, ObjectConfig, ObjectFault, SERVICE_DATA_LIMIT, ServiceConfig, fault,
+    AttributeConfig, GET_RESULT, ObjectConfig, ObjectFault, QUEUED_REPLY_LIMIT, SERVICE_DATA_LIMIT,
+    ServiceConfig, ServiceKind, fault,
 };
 pub use kind::{AttributeKind, VALUE_LIMIT};
 pub use number::{NumberRange, NumberType};

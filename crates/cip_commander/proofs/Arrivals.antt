@@ -1,8 +1,11 @@
 -- A command of the originator's arrives: the ledger does what the numbered world says.
 use Rattle.std.proofs.Common.{◌≡◌, ℕ, ◌+◌, ◌==◌, nat_lt, Bool, true, false, not, if◌then◌else◌, Option, Some, None, List, [], ◌∷◌, length, add-one, refl, ap, ◌∙◌}
 use Rattle.cip_ledger.specs.declared.service.TheConstants as services
+use Rattle.cip_ledger.specs.declared.target.Standing.{Standing}
+use Rattle.cip_ledger.specs.declared.target.Standing.TheVariants as standings
 use Rattle.cip_ledger.specs.Ledger.{LedgerState, SlotState, slot_of}
 use Rattle.cip_ledger.specs.Requests.{Command}
+use Rattle.cip_ledger.specs.Standings.{embedded_standing, by_standing, at_router}
 use Rattle.cip_ledger.specs.Services.{Answer, Action, Replies, Executes, do_new, do_by_slot, do_command, success, within, reply_to, DONE, HEAD_SIZE}
 use Rattle.cip_ledger.specs.Turn.{Served, fate, Turn, turn, turn_of, turn_by, acted, after_embedded, embedded_reply}
 use Rattle.cip_ledger.specs.Runs.{Event, Executed, events_by}
@@ -41,29 +44,57 @@ module _ {M : Type 0} (after : M → ℕ → List ℕ → M) (answer : M → ℕ
   arrived_events Appended = Executed command reply ∷ []
   arrived_events (Answered said) = []
 
+module _ {M : Type 0} (after : M → ℕ → List ℕ → M) (answer : M → ℕ → List ℕ → List ℕ) (standing : M → List ℕ → Standing)
+    (ledger : LedgerState) (router : M) (life originator number : ℕ) (request : List ℕ) (max_size : ℕ)
+    (final : embedded_standing standing router request ≡ standings.Final) where
+  abbrev own : Command
+  own = record { life = life; originator = originator; number = number; request = request }
+
+  abbrev reply_of : List ℕ
+  reply_of = embedded_reply after answer router request
+
+  abbrev turn_at : Option (ℕ × List ℕ) → Arrival → Turn M
+  turn_at last what = arrived_turn after answer ledger router life originator number request max_size last what
+
+  abbrev events_at : Arrival → List Event
+  events_at what = arrived_events after answer ledger router life originator number request max_size what
+
   abbrev Agrees : Option (ℕ × List ℕ) → Action → Arrival → Type 0
   Agrees last action arrived =
-      (acted after answer action services.DO_ONCE (Some (filled_by originator last ledger)) router ≡ arrived_turn last arrived)
-      × (events_by after answer (Served services.DO_ONCE action) router ≡ arrived_events arrived)
+      (acted after answer (at_router standing router action) services.DO_ONCE (Some (filled_by originator last ledger)) router
+      ≡ turn_at last arrived)
+      × (events_by after answer (Served services.DO_ONCE (at_router standing router action)) router ≡ events_at arrived)
 
   agree_if : (last : Option (ℕ × List ℕ)) (is : Bool) (a b : Action) (c d : Arrival) → Agrees last a c → Agrees last b d →
       Agrees last (if is then a else b) (if is then c else d)
   agree_if last true a b c d if_true if_false = if_true
   agree_if last false a b c d if_true if_false = if_false
 
-  executes-agree : (last : Option (ℕ × List ℕ)) → Agrees last (Executes command) Appended
-  executes-agree None = (
-    ap (λ taken. turn_of (Some (record ledger { taken = taken })) (after_embedded after answer router request) (said_bytes (IsDone reply)))
-        (with_slot-blank originator number reply ledger.taken),
-    refl,
-  )
+  -- the router executes a command at once
+  executes-final : (last : Option (ℕ × List ℕ)) (done : Turn M) →
+      acted after answer (Executes own) services.DO_ONCE (Some (filled_by originator last ledger)) router ≡ done →
+      acted after answer (at_router standing router (Executes own)) services.DO_ONCE (Some (filled_by originator last ledger)) router
+      ≡ done
+  executes-final last done is =
+      ap (λ s. acted after answer (by_standing s own) services.DO_ONCE (Some (filled_by originator last ledger)) router) final ∙ is
+
+  executes-event : events_by after answer (Served services.DO_ONCE (at_router standing router (Executes own))) router
+      ≡ Executed own reply_of ∷ []
+  executes-event = ap (λ s. events_by after answer (Served services.DO_ONCE (by_standing s own)) router) final
+
+  abbrev executed_with : List SlotState → Turn M
+  executed_with taken =
+      turn_of (Some (record ledger { taken = taken })) (after_embedded after answer router request) (said_bytes (IsDone reply_of))
+
+  executes-agree : (last : Option (ℕ × List ℕ)) → Agrees last (Executes own) Appended
+  executes-agree None =
+      (executes-final None _ (ap executed_with (with_slot-blank originator number reply_of ledger.taken)), executes-event)
   executes-agree (Some last) = (
-    ap (λ taken. turn_of (Some (record ledger { taken = taken })) (after_embedded after answer router request) (said_bytes (IsDone reply)))
-        (with_slot-filled originator number last.0 reply last.1 ledger.taken),
-    refl,
+    executes-final (Some last) _ (ap executed_with (with_slot-filled originator number last.0 reply_of last.1 ledger.taken)),
+    executes-event,
   )
 
-  new-agree : (last : Option (ℕ × List ℕ)) → Agrees last (do_new max_size command) (new_number max_size)
+  new-agree : (last : Option (ℕ × List ℕ)) → Agrees last (do_new max_size own) (new_number max_size)
   new-agree last = agree_if last (nat_lt max_size 485) _ _ _ _ (refl, refl) (executes-agree last)
 
   again-agree : (last : ℕ × List ℕ) →
@@ -78,7 +109,7 @@ module _ {M : Type 0} (after : M → ℕ → List ℕ → M) (answer : M → ℕ
 
   by_slot-agree : (last : Option (ℕ × List ℕ)) → IsPlaced originator last ledger.taken →
       Agrees last
-      (do_by_slot (filled_by originator last ledger) max_size command (slot_of originator (filled_by originator last ledger).taken))
+      (do_by_slot (filled_by originator last ledger) max_size own (slot_of originator (filled_by originator last ledger).taken))
       (arrival_by ledger max_size number last)
   by_slot-agree None placed =
       rw placed (agree_if None (nat_lt (length ledger.taken) ledger.slots) _ _ _ _ (new-agree None) (refl, refl))
@@ -91,23 +122,24 @@ module _ {M : Type 0} (after : M → ℕ → List ℕ → M) (answer : M → ℕ
   device last = record { ledger = ledger; router = router; last = last }
 
   command-agrees : (last : Option (ℕ × List ℕ)) → IsPlaced originator last ledger.taken →
-      Agrees last (do_command (filled_by originator last ledger) max_size command) (arrival life (device last) max_size number)
+      Agrees last (do_command (filled_by originator last ledger) max_size own) (arrival life (device last) max_size number)
   command-agrees None placed =
       agree_if None (not (life == ledger.life)) _ _ _ _ (refl, refl) (by_slot-agree None placed)
   command-agrees (Some last) placed =
       agree_if (Some last) (not (life == ledger.life)) _ _ _ _ (refl, refl) (by_slot-agree (Some last) placed)
 
-  pub arrival-turn : (last : Option (ℕ × List ℕ)) → IsPlaced originator last ledger.taken → IsCommand command →
-      turn after answer (Some (filled_by originator last ledger)) router max_size (do_once command)
-      ≡ arrived_turn last (arrival life (device last) max_size number)
+  pub arrival-turn : (last : Option (ℕ × List ℕ)) → IsPlaced originator last ledger.taken → IsCommand own →
+      turn after answer standing (Some (filled_by originator last ledger)) router max_size (do_once own)
+      ≡ turn_at last (arrival life (device last) max_size number)
   arrival-turn last placed is =
-      ap (λ fate. turn_by after answer fate (Some (filled_by originator last ledger)) router max_size (do_once command))
-      (fate-do_once (filled_by originator last ledger) max_size command is)
+      ap (λ fate. turn_by after answer fate (Some (filled_by originator last ledger)) router max_size (do_once own))
+      (fate-do_once standing (filled_by originator last ledger) router max_size own is)
       ∙ (command-agrees last placed).0
 
-  pub arrival-events : (last : Option (ℕ × List ℕ)) → IsPlaced originator last ledger.taken → IsCommand command →
-      events_by after answer (fate (Some (filled_by originator last ledger)) max_size (do_once command)) router
-      ≡ arrived_events (arrival life (device last) max_size number)
+  pub arrival-events : (last : Option (ℕ × List ℕ)) → IsPlaced originator last ledger.taken → IsCommand own →
+      events_by after answer (fate standing (Some (filled_by originator last ledger)) router max_size (do_once own)) router
+      ≡ events_at (arrival life (device last) max_size number)
   arrival-events last placed is =
-      ap (λ fate. events_by after answer fate router) (fate-do_once (filled_by originator last ledger) max_size command is)
+      ap (λ fate. events_by after answer fate router)
+      (fate-do_once standing (filled_by originator last ledger) router max_size own is)
       ∙ (command-agrees last placed).1

@@ -6,8 +6,10 @@ use Rattle.cip_bytes.specs.Numbers.{le, number_at}
 use Rattle.cip_message.specs.Request.{Request, request_of}
 use Rattle.cip_message.specs.PathReading.{path_of, class_of, instance_of, attribute_of, member_of, whole_of, segment_of}
 use Rattle.cip_ledger.specs.declared.service.TheConstants as services
+use Rattle.cip_ledger.specs.declared.target.Standing.{Standing}
 use Rattle.cip_ledger.specs.Ledger.{LedgerState}
 use Rattle.cip_ledger.specs.Requests.{LedgerRequest, Command, command_of, ledger_request, request_by_parts, request_by_path}
+use Rattle.cip_ledger.specs.Standings.{at_router}
 use Rattle.cip_ledger.specs.Services.{do_command}
 use Rattle.cip_ledger.specs.Services as ledger
 use Rattle.cip_ledger.specs.Turn.{Served, fate, fate_of}
@@ -71,10 +73,13 @@ do_once-long : (state : LedgerState) (max_size : ℕ) (content : List ℕ) → n
 do_once-long state max_size content long = rw long refl
 
 -- what the ledger does with a commander's message
-pub fate-do_once : (state : LedgerState) (max_size : ℕ) (command : Command) → IsCommand command →
-    fate (Some state) max_size (do_once command) ≡ Served services.DO_ONCE (do_command state max_size command)
-fate-do_once state max_size command is =
+pub fate-do_once : {M : Type 0} (standing : M → List ℕ → Standing) (state : LedgerState) (router : M) (max_size : ℕ)
+    (command : Command) → IsCommand command →
+    fate standing (Some state) router max_size (do_once command)
+    ≡ Served services.DO_ONCE (at_router standing router (do_command state max_size command))
+fate-do_once standing state router max_size command is =
     let request = is.request in
     let long : nat_lt (length (data_of command)) 22 ≡ false = le-ltb _ _ (omega arith) in
-    ap (fate_of state max_size) (ledger_request-do_once (data_of command))
-    ∙ ap (Served services.DO_ONCE) (do_once-long state max_size (data_of command) long ∙ ap (do_command state max_size) (command_of-data command is))
+    ap (fate_of standing state router max_size) (ledger_request-do_once (data_of command))
+    ∙ ap (λ action. Served services.DO_ONCE (at_router standing router action))
+    (do_once-long state max_size (data_of command) long ∙ ap (do_command state max_size) (command_of-data command is))

@@ -1,11 +1,12 @@
 -- The slot of one originator, filled in: in the numbered world nothing is kept in it.
-use Rattle.std.proofs.Common.{◌≡◌, ◌≢◌, ℕ, suc, ◌==◌, Bool, true, false, not, if◌then◌else◌, Some, List, [], ◌∷◌, length, refl, ap, sym, ◌∙◌}
+use Rattle.std.proofs.Common.{◌≡◌, ◌≢◌, ℕ, suc, ◌==◌, Bool, true, false, not, if◌then◌else◌, Some, None, List, [], ◌∷◌, length, refl, ap, sym, ◌∙◌}
 use Rattle.std.proofs.lemmas.Bool.{eq-eqb, ne_eqb, eqb-true}
 use Rattle.cip_ledger.specs.Ledger.{SlotState, slot_of, with_slot, without_slot}
 use Rattle.cip_commander.specs.NumberedWorld.{blank_slot}
 
 abbrev pub own_slot : ℕ → ℕ → List ℕ → SlotState
-own_slot originator number reply = record { originator = originator; number = number; reply = Some reply }
+own_slot originator number reply =
+    record { originator = originator; number = number; reply = Some reply; ticket = None }
 
 -- the slots, with this one in place of the first of its originator
 abbrev pub fill : SlotState → List SlotState → List SlotState

@@ -7,14 +7,16 @@ use Rattle.std.proofs.lemmas.Option.{slice_get-map}
 use Rattle.std.proofs.lemmas.List.{append-nil, map-append}
 use Rattle.cip_message.specs.Reply.{reply_of}
 use Rattle.cip_ledger.specs.declared.router.LedgerRouter.{LedgerRouter}
+use Rattle.cip_ledger.specs.declared.target.Standing.{Standing}
 use Rattle.cip_ledger.specs.Ledger.{LedgerState, slot_of}
 use Rattle.cip_ledger.specs.Requests.{Command}
-use Rattle.cip_ledger.specs.Services.{Replies, Executes, Frees}
+use Rattle.cip_ledger.specs.Services.{Replies, Executes, Queues, Frees}
 use Rattle.cip_ledger.specs.Turn.{Fate, Passed, Served, fate, Turn, turn, turn_by}
-use Rattle.cip_ledger.specs.Runs.{slot_in, node_of, next}
+use Rattle.cip_ledger.specs.Runs.{slot_in, node_of, next, StaysFinal}
 use Rattle.cip_ledger.specs.Laws.{IsOfAnother}
 use Rattle.cip_ledger.proofs.SlotLemmas.{slot_of-with_slot}
 use Rattle.cip_ledger.proofs.Settled.{others-run}
+use Rattle.cip_ledger.proofs.Finals.{final-embedded, final-after_embedded, final-next}
 use Rattle.cip_commander.specs.declared.refusal.CommandRefused.{CommandRefused}
 use Rattle.cip_commander.specs.Outcome as outcomes
 use Rattle.cip_commander.specs.Outcome.{outcome_of_text}
@@ -117,13 +119,13 @@ sends-image opening commander (Some request) life originator =
     ap (λ l. (commander.last_number, do_once (record { life = l; originator = commander.originator; number = commander.last_number; request = request })) ∷ []) life
     ∙ ap (λ o. (commander.last_number, do_once (record { life = opening.life; originator = o; number = commander.last_number; request = request })) ∷ []) originator
 
-module _ {M : Type 0} (after : M → ℕ → List ℕ → M) (answer : M → ℕ → List ℕ → List ℕ) (opening : Opening M)
-    (range : IsInRange opening.commander) where
+module _ {M : Type 0} (after : M → ℕ → List ℕ → M) (answer : M → ℕ → List ℕ → List ℕ) (standing : M → List ℕ → Standing)
+    (opening : Opening M) (range : IsInRange opening.commander) where
   abbrev own : ℕ
   own = opening.commander.originator
 
   abbrev pub device_of : NumberedWorld → Device M
-  device_of world = device_after after answer opening world.log
+  device_of world = device_after after answer standing opening world.log
 
   abbrev pub node_in : Device M → LedgerRouter M
   node_in device = record { ledger = Some (filled_by own device.last device.ledger); router = device.router }
@@ -141,6 +143,7 @@ module _ {M : Type 0} (after : M → ℕ → List ℕ → M) (answer : M → ℕ
     pub commander : IsOurs opening.commander world.commander
     pub sent : AllByRecursion IsSendable world.sent
     pub placed : IsPlaced own (device_of world).last (device_of world).ledger.taken
+    pub final : StaysFinal after answer standing (device_of world).router
 
   -- ---- a message reaches the device
 
@@ -153,14 +156,14 @@ module _ {M : Type 0} (after : M → ℕ → List ℕ → M) (answer : M → ℕ
   arrived-image : (world : NumberedWorld) (message : ℕ × List ℕ) (what : Arrival) →
       put world message.0
       (arrived_turn after answer (device_of world).ledger (device_of world).router opening.commander.life own message.0 message.1 0 (device_of world).last what)
-      ≡ image (arrived after answer what world (device_of world) message.0 message.1)
+      ≡ image (arrived after answer standing what world (device_of world) message.0 message.1)
   arrived-image world message Appended =
-      rw (device-after after answer opening world.log (Own message.0 message.1), map-append answer_in world.back) refl
+      rw (device-after after answer standing opening world.log (Own message.0 message.1), map-append answer_in world.back) refl
   arrived-image world message (Answered said) = rw (map-append answer_in world.back) refl
 
   reach-image : (world : NumberedWorld) (max_size : ℕ) (found : Option (ℕ × List ℕ)) → IsSound world → MatchOption found ⊤ IsSendable →
-      ends_reach after answer (image world) max_size (option_map (message_in opening.commander) found)
-      ≡ image (world_reach after answer opening world max_size found)
+      ends_reach after answer standing (image world) max_size (option_map (message_in opening.commander) found)
+      ≡ image (world_reach after answer standing opening world max_size found)
   reach-image world max_size None sound fits = refl
   reach-image world max_size (Some message) sound fits =
       let device = device_of world in
@@ -171,24 +174,29 @@ module _ {M : Type 0} (after : M → ℕ → List ℕ → M) (answer : M → ℕ
         request = fits.request;
       } in
       ap (put world message.0)
-      (arrival-turn after answer device.ledger device.router opening.commander.life own message.0 message.1 max_size device.last sound.placed is)
+      (arrival-turn after answer standing device.ledger device.router opening.commander.life own message.0 message.1 max_size
+      (final-embedded after answer standing device.router message.1 sound.final) device.last sound.placed is)
       ∙ arrived-image world message (arrival opening.commander.life device max_size message.0)
 
   arrived-sound : (world : NumberedWorld) (number : ℕ) (request : List ℕ) (what : Arrival) → IsSound world →
-      IsSound (arrived after answer what world (device_of world) number request)
+      IsSound (arrived after answer standing what world (device_of world) number request)
   arrived-sound world number request Appended sound = record {
     commander = sound.commander;
     sent = sound.sent;
     placed =
         let taken = (device_of world).ledger.taken in
         let P : Device M → Type 0 = λ device. IsPlaced own device.last device.ledger.taken in
-        subst P (sym (device-after after answer opening world.log (Own number request))) (blank_slot own, slot_of-with_slot taken (blank_slot own));
+        subst P (sym (device-after after answer standing opening world.log (Own number request))) (blank_slot own, slot_of-with_slot taken (blank_slot own));
+    final =
+        let P : Device M → Type 0 = λ device. StaysFinal after answer standing device.router in
+        subst P (sym (device-after after answer standing opening world.log (Own number request)))
+        (final-after_embedded after answer standing (device_of world).router request sound.final);
   }
   arrived-sound world number request (Answered said) sound =
-      record { commander = sound.commander; sent = sound.sent; placed = sound.placed }
+      record { commander = sound.commander; sent = sound.sent; placed = sound.placed; final = sound.final }
 
   reach-sound : (world : NumberedWorld) (max_size : ℕ) (found : Option (ℕ × List ℕ)) → IsSound world →
-      IsSound (world_reach after answer opening world max_size found)
+      IsSound (world_reach after answer standing opening world max_size found)
   reach-sound world max_size None sound = sound
   reach-sound world max_size (Some message) sound =
       arrived-sound world message.0 message.1 (arrival opening.commander.life (device_of world) max_size message.0) sound
@@ -201,6 +209,7 @@ module _ {M : Type 0} (after : M → ℕ → List ℕ → M) (answer : M → ℕ
   ledger-stays Passed ledger router max_size text = refl
   ledger-stays (Served service (Replies reply)) ledger router max_size text = refl
   ledger-stays (Served service (Executes command)) ledger router max_size text = refl
+  ledger-stays (Served service (Queues command ticket)) ledger router max_size text = refl
   ledger-stays (Served service (Frees originator)) ledger router max_size text = refl
 
   same_node : (one other : Option LedgerState) (router again : M) → one ≡ other → router ≡ again →
@@ -210,26 +219,26 @@ module _ {M : Type 0} (after : M → ℕ → List ℕ → M) (answer : M → ℕ
   same_node one other router again ledgers routers = cc
 
   abbrev done_by : LedgerState → M → ℕ → List ℕ → Turn M
-  done_by ledger router max_size request = turn after answer (Some ledger) router max_size request
+  done_by ledger router max_size request = turn after answer standing (Some ledger) router max_size request
 
   other-node : (last : Option (ℕ × List ℕ)) (ledger : LedgerState) (router : M) (max_size : ℕ) (request : List ℕ) →
       IsOfAnother own (max_size, request) →
-      next after answer (record { ledger = Some (filled_by own last ledger); router = router }) (max_size, request)
-      ≡ node_in (device_step after answer own (record { ledger = ledger; router = router; last = last }) (Another max_size request))
+      next after answer standing (record { ledger = Some (filled_by own last ledger); router = router }) (max_size, request)
+      ≡ node_in (device_step after answer standing own (record { ledger = ledger; router = router; last = last }) (Another max_size request))
   other-node None ledger router max_size request others =
-      same_node _ _ _ _ (ledger-stays (fate (Some ledger) max_size request) ledger router max_size request) refl
+      same_node _ _ _ _ (ledger-stays (fate standing (Some ledger) router max_size request) ledger router max_size request) refl
   other-node (Some last) ledger router max_size request others =
       let slot = own_slot own last.0 last.1 in
-      let alike = turn-alike after answer slot ledger router max_size request others in
+      let alike = turn-alike after answer standing slot ledger router max_size request others in
       same_node _ _ _ _
-      (alike.ledger ∙ ap (option_map (filled slot)) (ledger-stays (fate (Some ledger) max_size request) ledger router max_size request))
+      (alike.ledger ∙ ap (option_map (filled slot)) (ledger-stays (fate standing (Some ledger) router max_size request) ledger router max_size request))
       alike.router
 
   other-slot : (ledger : LedgerState) (router : M) (max_size : ℕ) (request : List ℕ) → IsOfAnother own (max_size, request) →
       slot_of own (unwrap_or (done_by ledger router max_size request).ledger ledger).taken ≡ slot_of own ledger.taken
   other-slot ledger router max_size request others =
-      ap (slot_in own) (sym (ledger-stays (fate (Some ledger) max_size request) ledger router max_size request))
-      ∙ others-run after answer ((max_size, request) ∷ []) (record { ledger = Some ledger; router = router }) own (others, tt)
+      ap (slot_in own) (sym (ledger-stays (fate standing (Some ledger) router max_size request) ledger router max_size request))
+      ∙ others-run after answer standing ((max_size, request) ∷ []) (record { ledger = Some ledger; router = router }) own (others, tt)
 
   other-placed : (last : Option (ℕ × List ℕ)) (ledger : LedgerState) (router : M) (max_size : ℕ) (request : List ℕ) →
       IsOfAnother own (max_size, request) → IsPlaced own last ledger.taken →
@@ -281,6 +290,7 @@ module _ {M : Type 0} (after : M → ℕ → List ℕ → M) (answer : M → ℕ
     };
     sent = sound.sent;
     placed = sound.placed;
+    final = sound.final;
   }
   said-sound world (IsRefused status) sound = sound
 
@@ -300,7 +310,7 @@ module _ {M : Type 0} (after : M → ℕ → List ℕ → M) (answer : M → ℕ
   found_sendable (Some message) sent position all is = all_at IsSendable sent position message all is
 
   pub step-image : (world : NumberedWorld) (event : Event) → IsSound world → IsOthers own event →
-      ends_step after answer (image world) event ≡ image (world_step after answer opening world event)
+      ends_step after answer standing (image world) event ≡ image (world_step after answer standing opening world event)
   step-image world (NewCommand request) sound others = refl
   step-image world Abandon sound others = refl
   step-image world Send sound others =
@@ -309,7 +319,7 @@ module _ {M : Type 0} (after : M → ℕ → List ℕ → M) (answer : M → ℕ
       (sends-image opening.commander world.commander world.commander.pending sound.commander.life sound.commander.originator)
       ∙ sym (map-append (message_in opening.commander) world.sent (sends world.commander world.commander.pending)))
   step-image world (Reach position max_size) sound others =
-      ap (ends_reach after answer (image world) max_size) (slice_get-map (message_in opening.commander) world.sent position)
+      ap (ends_reach after answer standing (image world) max_size) (slice_get-map (message_in opening.commander) world.sent position)
       ∙ reach-image world max_size (slice_get world.sent position) sound
       (found_sendable (slice_get world.sent position) world.sent position sound.sent refl)
   step-image world (Back position) sound others =
@@ -318,14 +328,15 @@ module _ {M : Type 0} (after : M → ℕ → List ℕ → M) (answer : M → ℕ
       let device = device_of world in
       ap (λ node. record (image world) { device = node })
       (other-node device.last device.ledger device.router max_size request others
-      ∙ ap node_in (sym (device-after after answer opening world.log (Another max_size request))))
+      ∙ ap node_in (sym (device-after after answer standing opening world.log (Another max_size request))))
 
   pub step-sound : (world : NumberedWorld) (event : Event) → IsSound world → IsOthers own event →
-      IsSound (world_step after answer opening world event)
+      IsSound (world_step after answer standing opening world event)
   step-sound world (NewCommand request) sound others = record {
     commander = given-ours opening.commander world.commander request (command_refusal world.commander request) sound.commander refl;
     sent = sound.sent;
     placed = sound.placed;
+    final = sound.final;
   }
   step-sound world Abandon sound others = record {
     commander = record {
@@ -336,6 +347,7 @@ module _ {M : Type 0} (after : M → ℕ → List ℕ → M) (answer : M → ℕ
     };
     sent = sound.sent;
     placed = sound.placed;
+    final = sound.final;
   }
   step-sound world Send sound others = record {
     commander = sound.commander;
@@ -343,6 +355,7 @@ module _ {M : Type 0} (after : M → ℕ → List ℕ → M) (answer : M → ℕ
         all_append IsSendable world.sent _ sound.sent
         (sends-ours opening.commander world.commander world.commander.pending sound.commander.pending sound.commander.number);
     placed = sound.placed;
+    final = sound.final;
   }
   step-sound world (Reach position max_size) sound others = reach-sound world max_size (slice_get world.sent position) sound
   step-sound world (Back position) sound others = back-sound world (slice_get world.back position) sound
@@ -352,29 +365,36 @@ module _ {M : Type 0} (after : M → ℕ → List ℕ → M) (answer : M → ℕ
     placed =
         let device = device_of world in
         let P : Device M → Type 0 = λ device. IsPlaced own device.last device.ledger.taken in
-        subst P (sym (device-after after answer opening world.log (Another max_size request)))
+        subst P (sym (device-after after answer standing opening world.log (Another max_size request)))
         (other-placed device.last device.ledger device.router max_size request others sound.placed);
+    final =
+        let device = device_of world in
+        let P : Device M → Type 0 = λ device. StaysFinal after answer standing device.router in
+        subst P (sym (device-after after answer standing opening world.log (Another max_size request)))
+        (final-next after answer standing (record { ledger = Some device.ledger; router = device.router }) (max_size, request)
+        sound.final);
   }
 
   pub run-image : (events : List Event) (world : NumberedWorld) → IsSound world → AllByRecursion (IsOthers own) events →
-      fold (ends_step after answer) (image world) events ≡ image (fold (world_step after answer opening) world events)
+      fold (ends_step after answer standing) (image world) events ≡ image (fold (world_step after answer standing opening) world events)
   run-image [] world sound others = refl
   run-image (event ∷ events) world sound others =
-      ap (λ ends. fold (ends_step after answer) ends events) (step-image world event sound others.0)
-      ∙ run-image events (world_step after answer opening world event) (step-sound world event sound others.0) others.1
+      ap (λ ends. fold (ends_step after answer standing) ends events) (step-image world event sound others.0)
+      ∙ run-image events (world_step after answer standing opening world event) (step-sound world event sound others.0) others.1
 
-  pub opening-sound : IsSound (world_at opening)
-  opening-sound = record {
+  pub opening-sound : StaysFinal after answer standing opening.router → IsSound (world_at opening)
+  opening-sound final = record {
     commander = record { life = refl; originator = refl; number = range.last_number; pending = range.pending };
     sent = tt;
     placed = refl;
+    final = final;
   }
 
   -- both ends, after any events, are the image of the numbered world
-  pub worlds-image : (events : List Event) → AllByRecursion (IsOthers own) events →
-      ends_after after answer opening events ≡ image (world_after after answer opening events)
-  worlds-image events others = run-image events (world_at opening) opening-sound others
+  pub worlds-image : (events : List Event) → StaysFinal after answer standing opening.router → AllByRecursion (IsOthers own) events →
+      ends_after after answer standing opening events ≡ image (world_after after answer standing opening events)
+  worlds-image events final others = run-image events (world_at opening) (opening-sound final) others
 
-  pub worlds-agree : (events : List Event) → AllByRecursion (IsOthers own) events →
-      seen_of_ends (ends_after after answer opening events) ≡ seen_of_world after answer opening (world_after after answer opening events)
-  worlds-agree events others = ap seen_of_ends (worlds-image events others)
+  pub worlds-agree : (events : List Event) → StaysFinal after answer standing opening.router → AllByRecursion (IsOthers own) events →
+      seen_of_ends (ends_after after answer standing opening events) ≡ seen_of_world after answer standing opening (world_after after answer standing opening events)
+  worlds-agree events final others = ap seen_of_ends (worlds-image events final others)

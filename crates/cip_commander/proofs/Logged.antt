@@ -5,6 +5,7 @@ use Rattle.std.specs.List.{slice_get, AllByRecursion}
 use Rattle.std.proofs.lemmas.Bool.{and_parts, ltb-false, eqb-true, eqb-false}
 use Rattle.std.proofs.lemmas.List.{append-nil}
 use Rattle.std.proofs.lemmas.List.Sums.{fold-append}
+use Rattle.cip_ledger.specs.declared.target.Standing.{Standing}
 use Rattle.cip_ledger.specs.Ledger.{LedgerState}
 use Rattle.cip_ledger.specs.Services.{HEAD_SIZE}
 use Rattle.cip_ledger.specs.Turn.{embedded_reply}
@@ -13,9 +14,10 @@ use Rattle.cip_commander.specs.NumberedWorld.{Entry, Own, Another, Said, IsDone,
 use Rattle.cip_commander.specs.Laws.{numbers_in, Rises, IsExecutedOnce, GrowsAbove}
 use Rattle.cip_commander.proofs.Rising.{all_at, all_append, all_map, all_second, rises_snoc, rises_smaller, rises_greater, numbers_in-append, device-after}
 
-module _ {M : Type 0} (after : M → ℕ → List ℕ → M) (answer : M → ℕ → List ℕ → List ℕ) (opening : Opening M) where
+module _ {M : Type 0} (after : M → ℕ → List ℕ → M) (answer : M → ℕ → List ℕ → List ℕ) (standing : M → List ℕ → Standing)
+    (opening : Opening M) where
   abbrev device_of : List Entry → Device M
-  device_of log = device_after after answer opening log
+  device_of log = device_after after answer standing opening log
 
   -- the number is in the log, and this is the reply of its execution there
   pub record IsExecuted (log : List Entry) (number : ℕ) (reply : List ℕ) : Type 0 where
@@ -117,7 +119,7 @@ module _ {M : Type 0} (after : M → ℕ → List ℕ → M) (answer : M → ℕ
       (λ a is. executed-grows log more a.0 a.1 is) all
 
   arrived-logged : (world : NumberedWorld) (number : ℕ) (request : List ℕ) (what : Arrival) → IsLogged world →
-      Means world.log number what → IsLogged (arrived after answer what world (device_of world.log) number request)
+      Means world.log number what → IsLogged (arrived after answer standing what world (device_of world.log) number request)
   arrived-logged world number request Appended logged below =
       let grown = numbers_in-append world.log (Own number request ∷ []) in
       record {
@@ -128,7 +130,7 @@ module _ {M : Type 0} (after : M → ℕ → List ℕ → M) (answer : M → ℕ
             let under : Q (numbers_in world.log) =
             all_map (λ o. o < number) (λ o. o ≤ number) (numbers_in world.log) (λ o less. omega arith) below in
             let self : number ≤ number = omega arith in
-            subst P (sym (device-after after answer opening world.log (Own number request))) (
+            subst P (sym (device-after after answer standing opening world.log (Own number request))) (
               executed-new world.log number request,
               subst Q (sym grown) (all_append (λ o. o ≤ number) (numbers_in world.log) (number ∷ []) under (self, tt)),
             );
@@ -145,7 +147,7 @@ module _ {M : Type 0} (after : M → ℕ → List ℕ → M) (answer : M → ℕ
   }
 
   reach-logged : (world : NumberedWorld) (max_size : ℕ) (found : Option (ℕ × List ℕ)) → IsLogged world →
-      IsLogged (world_reach after answer opening world max_size found)
+      IsLogged (world_reach after answer standing opening world max_size found)
   reach-logged world max_size None logged = logged
   reach-logged world max_size (Some message) logged =
       arrived-logged world message.0 message.1 _ logged
@@ -187,7 +189,7 @@ module _ {M : Type 0} (after : M → ℕ → List ℕ → M) (answer : M → ℕ
       go false awaited = logged
 
   step-logged : (world : NumberedWorld) (event : Event) → IsLogged world →
-      IsLogged (world_step after answer opening world event)
+      IsLogged (world_step after answer standing opening world event)
   step-logged world (NewCommand request) logged =
       record { rises = logged.rises; last = logged.last; back = logged.back; accepted = logged.accepted }
   step-logged world Abandon logged =
@@ -202,25 +204,25 @@ module _ {M : Type 0} (after : M → ℕ → List ℕ → M) (answer : M → ℕ
         rises = subst Rises (sym (numbers_in-append world.log more ∙ append-nil (numbers_in world.log))) logged.rises;
         last =
             let P : Device M → Type 0 = λ device. IsLast device.last (world.log ++ more) in
-            subst P (sym (device-after after answer opening world.log (Another max_size request)))
+            subst P (sym (device-after after answer standing opening world.log (Another max_size request)))
             (last-another (device_of world.log).last world.log max_size request logged.last);
         back = back-grows world.log more world.back logged.back;
         accepted = accepted-grows world.log more world.accepted logged.accepted;
       }
 
   run-logged : (events : List Event) (world : NumberedWorld) → IsLogged world →
-      IsLogged (fold (world_step after answer opening) world events)
+      IsLogged (fold (world_step after answer standing opening) world events)
   run-logged [] world logged = logged
   run-logged (event ∷ events) world logged =
-      run-logged events (world_step after answer opening world event) (step-logged world event logged)
+      run-logged events (world_step after answer standing opening world event) (step-logged world event logged)
 
-  pub after-logged : (events : List Event) → IsLogged (world_after after answer opening events)
+  pub after-logged : (events : List Event) → IsLogged (world_after after answer standing opening events)
   after-logged events = run-logged events (world_at opening) (record { rises = tt; last = refl; back = tt; accepted = tt })
 
   -- ---- executed exactly once
 
   pub once : (log : List Entry) (number : ℕ) (reply : List ℕ) → Rises (numbers_in log) → IsExecuted log number reply →
-      IsExecutedOnce after answer opening log number reply
+      IsExecutedOnce after answer standing opening log number reply
   once log number reply rises is =
       let numbers : numbers_in log ≡ numbers_in is.earlier ++ number ∷ numbers_in is.later =
       ap numbers_in is.place ∙ numbers_in-append is.earlier (Own number is.request ∷ is.later) in
@@ -245,12 +247,12 @@ module _ {M : Type 0} (after : M → ℕ → List ℕ → M) (answer : M → ℕ
   stays log = record { more = []; grown = sym (append-nil log) }
 
   arrived-grows : (world : NumberedWorld) (number : ℕ) (request : List ℕ) (what : Arrival) →
-      Grows world.log (arrived after answer what world (device_of world.log) number request).log
+      Grows world.log (arrived after answer standing what world (device_of world.log) number request).log
   arrived-grows world number request Appended = record { more = Own number request ∷ []; grown = refl }
   arrived-grows world number request (Answered said) = stays world.log
 
   reach-grows : (world : NumberedWorld) (max_size : ℕ) (found : Option (ℕ × List ℕ)) →
-      Grows world.log (world_reach after answer opening world max_size found).log
+      Grows world.log (world_reach after answer standing opening world max_size found).log
   reach-grows world max_size None = stays world.log
   reach-grows world max_size (Some message) = arrived-grows world message.0 message.1 _
 
@@ -266,7 +268,7 @@ module _ {M : Type 0} (after : M → ℕ → List ℕ → M) (answer : M → ℕ
       go true = said-stays world said.1
       go false = refl
 
-  step-grows : (world : NumberedWorld) (event : Event) → Grows world.log (world_step after answer opening world event).log
+  step-grows : (world : NumberedWorld) (event : Event) → Grows world.log (world_step after answer standing opening world event).log
   step-grows world (NewCommand request) = stays world.log
   step-grows world Abandon = stays world.log
   step-grows world Send = stays world.log
@@ -276,11 +278,11 @@ module _ {M : Type 0} (after : M → ℕ → List ℕ → M) (answer : M → ℕ
   step-grows world (Other max_size request) = record { more = Another max_size request ∷ []; grown = refl }
 
   run-grows : (events : List Event) (world : NumberedWorld) →
-      Grows world.log (fold (world_step after answer opening) world events).log
+      Grows world.log (fold (world_step after answer standing opening) world events).log
   run-grows [] world = stays world.log
   run-grows (event ∷ events) world =
       let first = step-grows world event in
-      let rest = run-grows events (world_step after answer opening world event) in
+      let rest = run-grows events (world_step after answer standing opening world event) in
       record {
         more = first.more ++ rest.more;
         grown = rest.grown ∙ ap (λ log. log ++ rest.more) first.grown ∙ append_assoc world.log first.more rest.more;
@@ -295,11 +297,11 @@ module _ {M : Type 0} (after : M → ℕ → List ℕ → M) (answer : M → ℕ
       (subst (AllByRecursion (λ other. number < other)) (numbers_in-append is.later more) grown.greater)
 
   pub grows_above : (events later : List Event) (number : ℕ) (reply : List ℕ) →
-      IsExecuted (world_after after answer opening events).log number reply →
-      GrowsAbove number (world_after after answer opening events).log (world_after after answer opening (events ++ later)).log
+      IsExecuted (world_after after answer standing opening events).log number reply →
+      GrowsAbove number (world_after after answer standing opening events).log (world_after after answer standing opening (events ++ later)).log
   grows_above events later number reply is =
-      let world = world_after after answer opening events in
-      let joined = fold-append (world_step after answer opening) (world_at opening) events later in
+      let world = world_after after answer standing opening events in
+      let joined = fold-append (world_step after answer standing opening) (world_at opening) events later in
       let grows = run-grows later world in
       let grown = ap (λ (w : NumberedWorld). w.log) joined ∙ grows.grown in
       record {

@@ -4,6 +4,7 @@ use Rattle.std.specs.Prelude.{⊤, MatchOption, is_some, fold}
 use Rattle.std.specs.List.{slice_get, AllByRecursion}
 use Rattle.std.proofs.lemmas.Bool.{and_parts}
 use Rattle.std.proofs.lemmas.List.{append-nil, map-append}
+use Rattle.cip_ledger.specs.declared.target.Standing.{Standing}
 use Rattle.cip_commander.specs.declared.refusal.CommandRefused.{CommandRefused}
 use Rattle.cip_commander.specs.CommanderRule.{CommanderState, command_refusal, with_command, abandoned}
 use Rattle.cip_commander.specs.Worlds.{Event, NewCommand, Abandon, Send, Reach, Back, Other, Opening, after_given, gives, sends, awaits}
@@ -88,7 +89,8 @@ past-abandoned commander accepted past =
 
 -- ---- the world
 
-module _ {M : Type 0} (after : M → ℕ → List ℕ → M) (answer : M → ℕ → List ℕ → List ℕ) (opening : Opening M) where
+module _ {M : Type 0} (after : M → ℕ → List ℕ → M) (answer : M → ℕ → List ℕ → List ℕ) (standing : M → List ℕ → Standing)
+    (opening : Opening M) where
   pub record IsNumbered (world : NumberedWorld) : Type 0 where
     pub given : IsGiven world.given world.commander
     pub sent : AreGiven world.given world.sent
@@ -97,7 +99,7 @@ module _ {M : Type 0} (after : M → ℕ → List ℕ → M) (answer : M → ℕ
     pub past : ArePast world.commander world.accepted
 
   arrived-numbered : (world : NumberedWorld) (device : Device M) (number : ℕ) (request : List ℕ) (what : Arrival) → IsNumbered world →
-      IsAmong world.given number request → IsNumbered (arrived after answer what world device number request)
+      IsAmong world.given number request → IsNumbered (arrived after answer standing what world device number request)
   arrived-numbered world device number request Appended is among = record {
     given = is.given;
     sent = is.sent;
@@ -109,10 +111,10 @@ module _ {M : Type 0} (after : M → ℕ → List ℕ → M) (answer : M → ℕ
       record { given = is.given; sent = is.sent; log = is.log; rises = is.rises; past = is.past }
 
   reach-numbered : (world : NumberedWorld) (position max_size : ℕ) (found : Option (ℕ × List ℕ)) → IsNumbered world →
-      slice_get world.sent position ≡ found → IsNumbered (world_reach after answer opening world max_size found)
+      slice_get world.sent position ≡ found → IsNumbered (world_reach after answer standing opening world max_size found)
   reach-numbered world position max_size None is found = is
   reach-numbered world position max_size (Some message) is found =
-      arrived-numbered world (device_after after answer opening world.log) message.0 message.1 _ is
+      arrived-numbered world (device_after after answer standing opening world.log) message.0 message.1 _ is
       (all_at (λ (m : ℕ × List ℕ). IsAmong world.given m.0 m.1) world.sent position message is.sent found)
 
   said-numbered : (world : NumberedWorld) (said : Said) → IsNumbered world → is_some world.commander.pending ≡ true →
@@ -145,7 +147,7 @@ module _ {M : Type 0} (after : M → ℕ → List ℕ → M) (answer : M → ℕ
       go false awaited = is
 
   step-numbered : (world : NumberedWorld) (event : Event) → IsNumbered world →
-      IsNumbered (world_step after answer opening world event)
+      IsNumbered (world_step after answer standing opening world event)
   step-numbered world (NewCommand request) is =
       let refusal = command_refusal world.commander request in
       let more = gives world.commander request refusal in
@@ -188,10 +190,10 @@ module _ {M : Type 0} (after : M → ℕ → List ℕ → M) (answer : M → ℕ
   }
 
   run-numbered : (events : List Event) (world : NumberedWorld) → IsNumbered world →
-      IsNumbered (fold (world_step after answer opening) world events)
+      IsNumbered (fold (world_step after answer standing opening) world events)
   run-numbered [] world is = is
   run-numbered (event ∷ events) world is =
-      run-numbered events (world_step after answer opening world event) (step-numbered world event is)
+      run-numbered events (world_step after answer standing opening world event) (step-numbered world event is)
 
   opening-given : (commander : CommanderState) (pending : Option (List ℕ)) →
       IsGiven (sends commander pending) (record commander { pending = pending })
@@ -200,7 +202,7 @@ module _ {M : Type 0} (after : M → ℕ → List ℕ → M) (answer : M → ℕ
       let self : commander.last_number ≤ commander.last_number = omega arith in
       record { rises = (tt, tt); below = (self, tt); pending = inl refl }
 
-  pub after-numbered : (events : List Event) → IsNumbered (world_after after answer opening events)
+  pub after-numbered : (events : List Event) → IsNumbered (world_after after answer standing opening events)
   after-numbered events =
       run-numbered events (world_at opening) (record {
         given = opening-given opening.commander opening.commander.pending;

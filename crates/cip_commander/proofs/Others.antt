@@ -4,10 +4,13 @@ use Rattle.std.specs.Prelude.{⊤, option_map}
 use Rattle.std.proofs.lemmas.Bool.{ltb-false, eq-eqb}
 use Rattle.cip_bytes.specs.Numbers.{number_at}
 use Rattle.cip_ledger.specs.declared.service.TheConstants as services
+use Rattle.cip_ledger.specs.declared.target.Standing.{Standing}
+use Rattle.cip_ledger.specs.declared.target.Standing.TheVariants as standings
 use Rattle.cip_ledger.specs.Ledger.{LedgerState, SlotState, slot_of}
 use Rattle.cip_ledger.specs.Requests.{LedgerRequest, Command, command_of, ledger_request}
-use Rattle.cip_ledger.specs.Services.{Answer, Action, Replies, Executes, Frees, action_of, instance_action, do_once, do_command, do_by_slot, do_new, forget, forget_in, size_fault, unless, refuses}
-use Rattle.cip_ledger.specs.Turn.{fate_of, Turn, turn, turn_by, acted, embedded_reply}
+use Rattle.cip_ledger.specs.Standings.{embedded_standing, by_standing, new_at_router, at_router}
+use Rattle.cip_ledger.specs.Services.{Answer, Action, Replies, Executes, Queues, Frees, action_of, instance_action, do_once, do_command, do_by_slot, do_new, forget, forget_in, size_fault, unless, refuses}
+use Rattle.cip_ledger.specs.Turn.{fate_of, Turn, turn, turn_by, acted, slot_done, slot_queued, embedded_reply}
 use Rattle.cip_ledger.specs.Runs.{command_by, command_in_data, forgotten_by, forgotten_in_data}
 use Rattle.cip_ledger.specs.Laws.{IsOfAnother}
 use Rattle.cip_commander.proofs.Filled.{fill, length-fill, slot_of-fill_other, with_slot-fill_other, without_slot-fill_other}
@@ -16,10 +19,11 @@ use Rattle.cip_commander.proofs.Filled.{fill, length-fill, slot_of-fill_other, w
 abbrev pub filled : SlotState → LedgerState → LedgerState
 filled slot ledger = record ledger { taken = fill slot ledger.taken }
 
--- both only reply, execute the same command of another, or free the same slot of another
+-- both only reply, execute or queue the same command of another, or free the same slot of another
 abbrev Same : ℕ → Action → Action → Type 0
 Same own (Replies one) (Replies other) = ⊤
 Same own (Executes one) (Executes other) = (one ≡ other) × (other.originator ≢ own)
+Same own (Queues one ticket) (Queues other again) = (one ≡ other) × (ticket ≡ again) × (other.originator ≢ own)
 Same own (Frees one) (Frees other) = (one ≡ other) × (other ≢ own)
 Same own _ _ = ⊥
 
@@ -133,7 +137,39 @@ module _ (slot : SlotState) (ledger : LedgerState) (max_size : ℕ) where
 
 -- ---- the turn
 
-module _ {M : Type 0} (after : M → ℕ → List ℕ → M) (answer : M → ℕ → List ℕ → List ℕ) (slot : SlotState) where
+-- what the router makes of the same command is the same
+module _ {M : Type 0} (standing : M → List ℕ → Standing) (router : M) (own : ℕ) where
+  standing-same : (is : Standing) (command : Command) → command.originator ≢ own →
+      Same own (by_standing is command) (by_standing is command)
+  standing-same standings.Final command apart = (refl, apart)
+  standing-same (standings.Pending ticket) command apart = (refl, refl, apart)
+  standing-same standings.Refused command apart = tt
+
+  put-same : (one other : Command) → one ≡ other → other.originator ≢ own →
+      Same own (new_at_router standing router one) (new_at_router standing router other)
+  put-same one other same apart =
+      rw same (standing-same (embedded_standing standing router other.request) other apart)
+
+  router-same : (one other : Action) → Same own one other →
+      Same own (at_router standing router one) (at_router standing router other)
+  router-same (Replies one) (Replies other) same = tt
+  router-same (Executes one) (Executes other) same = put-same one other same.0 same.1
+  router-same (Queues one ticket) (Queues other again) same = put-same one other same.0 same.2
+  router-same (Frees one) (Frees other) same = same
+  router-same (Replies one) (Executes other) same = absurd same
+  router-same (Replies one) (Queues other again) same = absurd same
+  router-same (Replies one) (Frees other) same = absurd same
+  router-same (Executes one) (Replies other) same = absurd same
+  router-same (Executes one) (Queues other again) same = absurd same
+  router-same (Executes one) (Frees other) same = absurd same
+  router-same (Queues one ticket) (Replies other) same = absurd same
+  router-same (Queues one ticket) (Executes other) same = absurd same
+  router-same (Queues one ticket) (Frees other) same = absurd same
+  router-same (Frees one) (Replies other) same = absurd same
+  router-same (Frees one) (Executes other) same = absurd same
+  router-same (Frees one) (Queues other again) same = absurd same
+
+module _ {M : Type 0} (after : M → ℕ → List ℕ → M) (answer : M → ℕ → List ℕ → List ℕ) (standing : M → List ℕ → Standing) (slot : SlotState) where
   -- both turns leave the same router, and ledgers that differ in what is kept in the slot
   pub record Alike (one other : Turn M) : Type 0 where
     pub router : one.router ≡ other.router
@@ -149,9 +185,14 @@ module _ {M : Type 0} (after : M → ℕ → List ℕ → M) (answer : M → ℕ
         router = refl;
         ledger =
             ap (λ taken. Some (record ledger { taken = taken }))
-            (with_slot-fill_other slot
-            (record { originator = other.originator; number = other.number; reply = Some (embedded_reply after answer router other.request) })
-            ledger.taken same.1);
+            (with_slot-fill_other slot (slot_done other (embedded_reply after answer router other.request)) ledger.taken same.1);
+      })
+  acted-alike (Queues one ticket) (Queues other again) service ledger router same =
+      rw (same.0, same.1) (record {
+        router = refl;
+        ledger =
+            ap (λ taken. Some (record ledger { taken = taken }))
+            (with_slot-fill_other slot (slot_queued other again) ledger.taken same.2);
       })
   acted-alike (Frees one) (Frees other) service ledger router same =
       rw same.0 (record {
@@ -159,24 +200,33 @@ module _ {M : Type 0} (after : M → ℕ → List ℕ → M) (answer : M → ℕ
         ledger = ap (λ taken. Some (record ledger { taken = taken })) (without_slot-fill_other slot other ledger.taken same.1);
       })
   acted-alike (Replies one) (Executes other) service ledger router same = absurd same
+  acted-alike (Replies one) (Queues other again) service ledger router same = absurd same
   acted-alike (Replies one) (Frees other) service ledger router same = absurd same
   acted-alike (Executes one) (Replies other) service ledger router same = absurd same
+  acted-alike (Executes one) (Queues other again) service ledger router same = absurd same
   acted-alike (Executes one) (Frees other) service ledger router same = absurd same
+  acted-alike (Queues one ticket) (Replies other) service ledger router same = absurd same
+  acted-alike (Queues one ticket) (Executes other) service ledger router same = absurd same
+  acted-alike (Queues one ticket) (Frees other) service ledger router same = absurd same
   acted-alike (Frees one) (Replies other) service ledger router same = absurd same
   acted-alike (Frees one) (Executes other) service ledger router same = absurd same
+  acted-alike (Frees one) (Queues other again) service ledger router same = absurd same
 
   read-alike : (asked : Option LedgerRequest) (ledger : LedgerState) (router : M) (max_size : ℕ) (text : List ℕ) →
       option_map (λ (c : Command). c.originator) (command_by asked) ≢ Some slot.originator →
       ((n : ℕ) → forgotten_by asked ≢ Some (slot.originator, n)) →
       Alike
-      (turn_by after answer (fate_of (filled slot ledger) max_size asked) (Some (filled slot ledger)) router max_size text)
-      (turn_by after answer (fate_of ledger max_size asked) (Some ledger) router max_size text)
+      (turn_by after answer (fate_of standing (filled slot ledger) router max_size asked) (Some (filled slot ledger)) router max_size text)
+      (turn_by after answer (fate_of standing ledger router max_size asked) (Some ledger) router max_size text)
   read-alike None ledger router max_size text command freed = record { router = refl; ledger = refl }
   read-alike (Some asked) ledger router max_size text command freed =
-      acted-alike (action_of (filled slot ledger) max_size asked) (action_of ledger max_size asked) asked.service ledger router
-      (action-same slot ledger max_size asked command freed)
+      acted-alike (at_router standing router (action_of (filled slot ledger) max_size asked))
+      (at_router standing router (action_of ledger max_size asked)) asked.service ledger router
+      (router-same standing router slot.originator (action_of (filled slot ledger) max_size asked) (action_of ledger max_size asked)
+      (action-same slot ledger max_size asked command freed))
 
   pub turn-alike : (ledger : LedgerState) (router : M) (max_size : ℕ) (text : List ℕ) → IsOfAnother slot.originator (max_size, text) →
-      Alike (turn after answer (Some (filled slot ledger)) router max_size text) (turn after answer (Some ledger) router max_size text)
+      Alike (turn after answer standing (Some (filled slot ledger)) router max_size text)
+      (turn after answer standing (Some ledger) router max_size text)
   turn-alike ledger router max_size text others =
       read-alike (ledger_request text) ledger router max_size text others.command others.forget

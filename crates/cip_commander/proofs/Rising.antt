@@ -2,6 +2,7 @@
 use Rattle.std.proofs.Common.{◌≡◌, inl, inr, ℕ, zero, suc, ◌<◌, Some, unwrap_or, List, [], ◌∷◌, ◌++◌, refl, ap, subst}
 use Rattle.std.specs.List.{slice_get, AllByRecursion}
 use Rattle.std.proofs.lemmas.List.Sums.{fold-append}
+use Rattle.cip_ledger.specs.declared.target.Standing.{Standing}
 use Rattle.cip_commander.specs.Worlds.{Opening}
 use Rattle.cip_commander.specs.NumberedWorld.{Entry, Own, Another, device_at, device_step, device_after}
 use Rattle.cip_commander.specs.Laws.{numbers_in, Rises, IsAmong, WasGiven}
@@ -70,9 +71,10 @@ was_given-first given more (Another max_size request) is = tt
 
 -- ---- a device after one more entry
 
-module _ {M : Type 0} (after : M → ℕ → List ℕ → M) (answer : M → ℕ → List ℕ → List ℕ) (opening : Opening M) where
+module _ {M : Type 0} (after : M → ℕ → List ℕ → M) (answer : M → ℕ → List ℕ → List ℕ) (standing : M → List ℕ → Standing)
+    (opening : Opening M) where
   pub device-after : (log : List Entry) (entry : Entry) →
-      device_after after answer opening (log ++ entry ∷ [])
-      ≡ device_step after answer opening.commander.originator (device_after after answer opening log) entry
+      device_after after answer standing opening (log ++ entry ∷ [])
+      ≡ device_step after answer standing opening.commander.originator (device_after after answer standing opening log) entry
   device-after log entry =
-      fold-append (device_step after answer opening.commander.originator) (device_at opening) log (entry ∷ [])
+      fold-append (device_step after answer standing opening.commander.originator) (device_at opening) log (entry ∷ [])

@@ -5,6 +5,7 @@ use Rattle.std.specs.Prelude.{List, [], ◌∷◌, ◌++◌, length, map, fold}
 use Rattle.std.specs.List.{slice_get}
 use Rattle.cip_message.specs.Reply.{reply_service}
 use Rattle.cip_ledger.specs.declared.service.TheConstants as services
+use Rattle.cip_ledger.specs.declared.target.Standing.{Standing}
 use Rattle.cip_ledger.specs.Ledger.{LedgerState, SlotState, empty_ledger, with_slot}
 use Rattle.cip_ledger.specs.Services.{HEAD_SIZE, KEPT_LIMIT, DONE, reply_to, success}
 use Rattle.cip_ledger.specs.Turn.{Turn, turn, after_embedded, embedded_reply}
@@ -30,8 +31,8 @@ said_bytes (IsRefused status) = reply_service services.DO_ONCE ∷ 0 ∷ status 
 abbrev pub answer_in : ℕ × Said → ℕ × List ℕ
 answer_in said = (said.0, said_bytes said.1)
 
--- The device once a log was executed: the ledger of the others, the router, and the last number of the originator's, with
--- the reply of its execution. In the ledger the originator has a slot, once it needs one, with nothing kept in it.
+-- The device once a log was executed: the ledger of the others, the router, and the last number of the originator's,
+-- with the reply of its execution. In the ledger the originator has a slot, once it needs one, with nothing kept in it.
 pub record Device (M : Type 0) : Type 0 where
   pub ledger : LedgerState
   pub router : M
@@ -63,7 +64,7 @@ world_at opening = record {
 
 -- the slot of the originator, with nothing kept
 abbrev pub blank_slot : ℕ → SlotState
-blank_slot originator = record { originator = originator; number = 0; reply = None }
+blank_slot originator = record { originator = originator; number = 0; reply = None; ticket = None }
 
 abbrev pub with_blank : ℕ → LedgerState → LedgerState
 with_blank originator ledger = record ledger { taken = with_slot (blank_slot originator) ledger.taken }
@@ -108,9 +109,10 @@ abbrev pub world_back : NumberedWorld → Option (ℕ × Said) → NumberedWorld
 world_back world None = world
 world_back world (Some said) = if awaits world.commander said.0 then said_of said.1 world else world
 
-module _ {M : Type 0} (after : M → ℕ → List ℕ → M) (answer : M → ℕ → List ℕ → List ℕ) where
+module _ {M : Type 0} (after : M → ℕ → List ℕ → M) (answer : M → ℕ → List ℕ → List ℕ)
+    (standing : M → List ℕ → Standing) where
   abbrev pub turn_on : Device M → ℕ → List ℕ → Turn M
-  turn_on device max_size request = turn after answer (Some device.ledger) device.router max_size request
+  turn_on device max_size request = turn after answer standing (Some device.ledger) device.router max_size request
 
   -- the device once an entry was executed
   abbrev pub device_step : ℕ → Device M → Entry → Device M

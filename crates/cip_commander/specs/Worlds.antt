@@ -7,6 +7,7 @@ use Rattle.std.specs.Prelude.{ℕ, ◌+◌, ◌==◌, ◌&&◌, Bool, is_some, i
 use Rattle.std.specs.Prelude.{List, [], ◌∷◌, ◌++◌, fold}
 use Rattle.std.specs.List.{slice_get}
 use Rattle.cip_ledger.specs.declared.router.LedgerRouter.{LedgerRouter}
+use Rattle.cip_ledger.specs.declared.target.Standing.{Standing}
 use Rattle.cip_ledger.specs.Ledger.{empty_ledger}
 use Rattle.cip_ledger.specs.Runs.{next, answer_to}
 use Rattle.cip_commander.specs.declared.refusal.CommandRefused.{CommandRefused}
@@ -14,10 +15,10 @@ use Rattle.cip_commander.specs.Outcome as outcomes
 use Rattle.cip_commander.specs.CommanderRule.{CommanderState, command_refusal, with_command, abandoned}
 use Rattle.cip_commander.specs.CommanderRule.{pending_message, outcome_of, after_outcome}
 
--- What may happen: the originator gives a command, gives the pending one up, or puts its message on the network, for the
--- first time or again. The message at this position of all that were sent reaches the device, which replies within this
--- limit. The answer at this position of all that were sent back reaches the originator. A request of another reaches the
--- device.
+-- What may happen: the originator gives a command, gives the pending one up, or puts its message on the network, for
+-- the first time or again. The message at this position of all that were sent reaches the device, which replies within
+-- this limit. The answer at this position of all that were sent back reaches the originator. A request of another
+-- reaches the device.
 pub data Event : Type 0 where
   NewCommand : (request : List ℕ) → Event
   Abandon : Event
@@ -114,12 +115,13 @@ seen_of_ends ends = record {
   accepted = ends.accepted;
 }
 
-module _ {M : Type 0} (after : M → ℕ → List ℕ → M) (answer : M → ℕ → List ℕ → List ℕ) where
+module _ {M : Type 0} (after : M → ℕ → List ℕ → M) (answer : M → ℕ → List ℕ → List ℕ)
+    (standing : M → List ℕ → Standing) where
   abbrev pub ends_reach : BothEnds M → ℕ → Option (ℕ × List ℕ) → BothEnds M
   ends_reach ends max_size None = ends
   ends_reach ends max_size (Some message) = record ends {
-    device = next after answer ends.device (max_size, message.1);
-    back = ends.back ++ (message.0, answer_to after answer ends.device (max_size, message.1)) ∷ [];
+    device = next after answer standing ends.device (max_size, message.1);
+    back = ends.back ++ (message.0, answer_to after answer standing ends.device (max_size, message.1)) ∷ [];
   }
 
   abbrev pub ends_step : BothEnds M → Event → BothEnds M
@@ -129,7 +131,7 @@ module _ {M : Type 0} (after : M → ℕ → List ℕ → M) (answer : M → ℕ
   ends_step ends (Reach position max_size) = ends_reach ends max_size (slice_get ends.sent position)
   ends_step ends (Back position) = ends_back ends (slice_get ends.back position)
   ends_step ends (Other max_size request) =
-      record ends { device = next after answer ends.device (max_size, request) }
+      record ends { device = next after answer standing ends.device (max_size, request) }
 
   -- both ends after these events
   abbrev pub ends_after : Opening M → List Event → BothEnds M

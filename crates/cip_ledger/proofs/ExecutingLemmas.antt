@@ -5,16 +5,19 @@ use Rattle.std.proofs.lemmas.Bool.{eq-eqb, ne_eqb, eqb-true}
 use Rattle.std.proofs.lemmas.Bool.Decides.{nat_tests}
 use Rattle.cip_ledger.specs.declared.doubt.DoubtfulCommand.{DoubtfulCommand}
 use Rattle.cip_ledger.specs.declared.service.TheConstants as services
+use Rattle.cip_ledger.specs.declared.target.Standing.{Standing}
+use Rattle.cip_ledger.specs.declared.target.Standing.TheVariants as standings
 use Rattle.cip_ledger.specs.declared.status.Status.{Status}
 use Rattle.cip_ledger.specs.declared.status.Status.TheVariants as statuses
 use Rattle.cip_ledger.specs.Doubt.{can_doubt, can_doubt_at, doubted, with_last, is_in_doubt, is_in_doubt_at}
-use Rattle.cip_ledger.specs.Executing.{name_of, executed_by, executed_in, command_of, doubtful, IsDoubtedAt}
+use Rattle.cip_ledger.specs.Executing.{name_of, new_command, executed_by, executed_in, command_of, doubtful, IsDoubtedAt}
 use Rattle.cip_ledger.specs.Ledger.{SlotState, LedgerState, slot_of}
 use Rattle.cip_ledger.specs.Requests.{LedgerRequest, Command, ledger_request}
 use Rattle.cip_ledger.specs.Requests as requests
 use Rattle.cip_ledger.specs.Runs.{Request}
 use Rattle.cip_bytes.specs.Numbers.{number_at}
-use Rattle.cip_ledger.specs.Services.{Action, Replies, Executes, Frees, Answer, HEAD_SIZE, KEPT_LIMIT, do_new, do_by_slot, do_command, do_once, forget, forget_in, get_last, size_fault, unless, refuses, refusal, success, within, last_content, instance_action, action_of, class_answer, single, value_named, ledger_values, get_attribute_list}
+use Rattle.cip_ledger.specs.Standings.{embedded_standing, by_standing, at_router}
+use Rattle.cip_ledger.specs.Services.{Action, Replies, Executes, Queues, Frees, Answer, HEAD_SIZE, KEPT_LIMIT, do_new, do_by_slot, do_command, do_once, forget, forget_in, get_last, size_fault, unless, refuses, refusal, success, within, last_content, instance_action, action_of, class_answer, single, value_named, ledger_values, get_attribute_list}
 use Rattle.cip_ledger.specs.Slots.{IsAt, IsMissing}
 use Rattle.cip_ledger.specs.Turn.{fate_of}
 use Rattle.cip_ledger.proofs.SlotLemmas.{slot_of-with_slot}
@@ -74,7 +77,7 @@ doubted_missing ledger command index missing last can = λ at.
 -- ---- what would be executed can be in doubt
 
 record CanBeDoubted (ledger : LedgerState) (action : Action) : Type 0 where
-  can : (command : DoubtfulCommand) → executed_by action ≡ Some command
+  can : (command : Command) → new_command action ≡ Some command
       → can_doubt ledger command.originator command.number ≡ true
 
 by_reply : (ledger : LedgerState) (answer : Answer) → CanBeDoubted ledger (Replies answer)
@@ -106,8 +109,8 @@ by_new : (ledger : LedgerState) (max_size : ℕ) (command : Command)
 by_new ledger max_size command can =
     refused_or ledger (nat_lt max_size (HEAD_SIZE + 1 + KEPT_LIMIT)) statuses.ReplyDataTooLarge (Executes command)
     (record {
-      can = λ named e. subst (λ (c : DoubtfulCommand). can_doubt ledger c.originator c.number ≡ true)
-          (same_some (name_of command) named e) can;
+      can = λ named e. subst (λ (c : Command). can_doubt ledger c.originator c.number ≡ true)
+          (same_some command named e) can;
     })
 
 by_slot : (ledger : LedgerState) (max_size : ℕ) (command : Command) (found : Option SlotState)
@@ -123,9 +126,9 @@ by_slot ledger max_size command (Some slot) is =
   where
     go : (smaller same : Bool) → nat_lt command.number slot.number ≡ smaller → (command.number == slot.number) ≡ same
         → CanBeDoubted ledger (if smaller then refuses statuses.ObjectStateConflict
-        else (if same then Replies (within max_size (success (last_content slot.reply))) else do_new max_size command))
+        else (if same then Replies (within max_size (success (last_content slot))) else do_new max_size command))
     go true same h k = by_reply ledger (refusal statuses.ObjectStateConflict)
-    go false true h k = by_reply ledger (within max_size (success (last_content slot.reply)))
+    go false true h k = by_reply ledger (within max_size (success (last_content slot)))
     go false false h k =
         let greater : nat_lt slot.number command.number ≡ true = grind (arith, nat_tests, h, k) in
         by_new ledger max_size command (ap (can_doubt_at ledger command.number) is ∙ greater)
@@ -204,11 +207,32 @@ module _ (ledger : LedgerState) (max_size : ℕ) (request : LedgerRequest) where
       (either ledger (request.instance == 1) (instance_action ledger max_size request)
       (refuses statuses.PathDestinationUnknown) by_instance (by_reply ledger (refusal statuses.PathDestinationUnknown)))
 
-by_request : (ledger : LedgerState) (max_size : ℕ) (asked : Option LedgerRequest) (command : DoubtfulCommand)
-    → executed_in (fate_of ledger max_size asked) ≡ Some command
-    → can_doubt ledger command.originator command.number ≡ true
-by_request ledger max_size None command e = absurd (cc)
-by_request ledger max_size (Some request) command e = (by_action ledger max_size request).can command e
+-- a command with a final reply is the new one
+module _ {M : Type 0} (standing : M → List ℕ → Standing) (router : M) where
+  by_final : (ledger : LedgerState) (is : Standing) (new : Command) (command : DoubtfulCommand)
+      → can_doubt ledger new.originator new.number ≡ true → executed_by (by_standing is new) ≡ Some command
+      → can_doubt ledger command.originator command.number ≡ true
+  by_final ledger standings.Final new command can e =
+      subst (λ (c : DoubtfulCommand). can_doubt ledger c.originator c.number ≡ true) (same_some (name_of new) command e) can
+  by_final ledger (standings.Pending ticket) new command can e = absurd (cc)
+  by_final ledger standings.Refused new command can e = absurd (cc)
+
+  by_router : (ledger : LedgerState) (action : Action) (command : DoubtfulCommand) → CanBeDoubted ledger action
+      → executed_by (at_router standing router action) ≡ Some command
+      → can_doubt ledger command.originator command.number ≡ true
+  by_router ledger (Replies answer) command is e = absurd (cc)
+  by_router ledger (Executes new) command is e =
+      by_final ledger (embedded_standing standing router new.request) new command (is.can new refl) e
+  by_router ledger (Queues new ticket) command is e =
+      by_final ledger (embedded_standing standing router new.request) new command (is.can new refl) e
+  by_router ledger (Frees originator) command is e = absurd (cc)
+
+  by_request : (ledger : LedgerState) (max_size : ℕ) (asked : Option LedgerRequest) (command : DoubtfulCommand)
+      → executed_in (fate_of standing ledger router max_size asked) ≡ Some command
+      → can_doubt ledger command.originator command.number ≡ true
+  by_request ledger max_size None command e = absurd (cc)
+  by_request ledger max_size (Some request) command e =
+      by_router ledger (action_of ledger max_size request) command (by_action ledger max_size request) e
 
 doubtful_at : (number : ℕ) (found : Option SlotState) (originator : ℕ)
     → found ≡ Some (doubtful (record { originator = originator; number = number }))
@@ -216,10 +240,10 @@ doubtful_at : (number : ℕ) (found : Option SlotState) (originator : ℕ)
 doubtful_at number found originator e =
     ap (is_in_doubt_at number) e ∙ rw (eq-eqb number number refl) refl
 
-pub executed_in_doubt : (ledger : LedgerState) (request : Request) (command : DoubtfulCommand)
-    → command_of (Some ledger) request ≡ Some command
+pub executed_in_doubt : {M : Type 0} (standing : M → List ℕ → Standing) (ledger : LedgerState) (router : M)
+    (request : Request) (command : DoubtfulCommand) → command_of standing (Some ledger) router request ≡ Some command
     → is_in_doubt (doubted ledger command.originator command.number) command.originator command.number ≡ true
-executed_in_doubt ledger request command e =
-    let can = by_request ledger request.0 (ledger_request request.1) command e in
+executed_in_doubt standing ledger router request command e =
+    let can = by_request standing router ledger request.0 (ledger_request request.1) command e in
     ap (λ b. is_in_doubt (doubted_if ledger command b) command.originator command.number) can
     ∙ doubtful_at command.number _ command.originator (slot_of-with_slot ledger.taken (doubtful command))

@@ -6,10 +6,13 @@ use Rattle.cip_bytes.specs.Numbers.{le, number_at, words_of}
 use Rattle.cip_ledger.specs.declared.status.Status.{Status}
 use Rattle.cip_ledger.specs.declared.status.Status.TheVariants as statuses
 use Rattle.cip_ledger.specs.declared.service.TheConstants as services
+use Rattle.cip_ledger.specs.declared.target.Standing.{Standing}
+use Rattle.cip_ledger.specs.declared.target.Standing.TheVariants as standings
 use Rattle.cip_ledger.specs.Status.{status_number}
 use Rattle.cip_ledger.specs.Ledger.{LedgerState, SlotState, slot_of}
 use Rattle.cip_ledger.specs.Requests.{LedgerRequest, Command, command_of, ledger_request}
-use Rattle.cip_ledger.specs.Services.{Answer, Action, Replies, Executes, Frees, refusal, refuses, success, within, size_fault, unless, last_content, KEPT_LIMIT, HEAD_SIZE, do_once, do_command, do_by_slot, do_new, get_last, last_in, forget, forget_in, single, value_named, class_answer, class_values, get_attribute_list, list_answer, ledger_values, instance_action, action_of}
+use Rattle.cip_ledger.specs.Standings.{embedded_standing, by_standing, new_at_router, at_router}
+use Rattle.cip_ledger.specs.Services.{Answer, Action, Replies, Executes, Queues, Frees, refusal, refuses, success, within, size_fault, unless, last_content, KEPT_LIMIT, HEAD_SIZE, do_once, do_command, do_by_slot, do_new, get_last, last_in, forget, forget_in, single, value_named, class_answer, class_values, get_attribute_list, list_answer, ledger_values, instance_action, action_of}
 use Rattle.cip_ledger.specs.Turn.{Fate, Passed, Served, fate, fate_of}
 use Rattle.cip_ledger.specs.Runs.{Request, command_by, command_in_data, command_given, forgotten_by, forgotten_in_data, forgotten}
 
@@ -23,7 +26,7 @@ pub record IsKept (ledger : LedgerState) (command : Command) (content : List ℕ
   pub slot : SlotState
   pub found : slot_of command.originator ledger.taken ≡ Some slot
   pub number_is : slot.number ≡ command.number
-  pub content_is : content ≡ last_content slot.reply
+  pub content_is : content ≡ last_content slot
 
 -- the originator's slot has a greater number than the command
 pub record IsOlder (ledger : LedgerState) (command : Command) : Type 0 where
@@ -53,6 +56,7 @@ pub record Forgets (ledger : LedgerState) (given : Option Command) (named : Opti
 abbrev pub MeansAction : LedgerState → ℕ → Option Command → Option (ℕ × ℕ) → Action → Type 0
 MeansAction ledger max_size given named (Replies answer) = Answers ledger max_size given answer
 MeansAction ledger max_size given named (Executes command) = IsExecuted ledger max_size given command
+MeansAction ledger max_size given named (Queues command ticket) = IsExecuted ledger max_size given command
 MeansAction ledger max_size given named (Frees originator) = Forgets ledger given named originator
 
 refused_of : (ledger : LedgerState) (max_size : ℕ) (given : Option Command) (named : Option (ℕ × ℕ)) (status : Status) →
@@ -85,13 +89,13 @@ within-fits max_size answer least = go (nat_lt max_size (HEAD_SIZE + length answ
 
 module _ (ledger : LedgerState) (max_size : ℕ) (bytes : List ℕ) (named : Option (ℕ × ℕ)) where
   kept_means : (slot : SlotState) (tight : Bool) → slot_of (command_of bytes).originator ledger.taken ≡ Some slot → slot.number ≡ (command_of bytes).number →
-      nat_lt max_size (HEAD_SIZE + length (last_content slot.reply)) ≡ tight →
+      nat_lt max_size (HEAD_SIZE + length (last_content slot)) ≡ tight →
       MeansAction ledger max_size (Some (command_of bytes)) named
-      (Replies (if tight then refusal statuses.ReplyDataTooLarge else success (last_content slot.reply)))
+      (Replies (if tight then refusal statuses.ReplyDataTooLarge else success (last_content slot)))
   kept_means slot true found number h = refused_of ledger max_size (Some (command_of bytes)) named statuses.ReplyDataTooLarge (λ e. absurd (omega (arith, e))) (λ e. absurd (omega (arith, e)))
   kept_means slot false found number h = record {
-    fits = λ least. ltb-false max_size (HEAD_SIZE + length (last_content slot.reply)) h;
-    kept = λ command is e. subst (λ (command : Command). IsKept ledger command (last_content slot.reply)) (ap (λ o. unwrap_or o command) is)
+    fits = λ least. ltb-false max_size (HEAD_SIZE + length (last_content slot)) h;
+    kept = λ command is e. subst (λ (command : Command). IsKept ledger command (last_content slot)) (ap (λ o. unwrap_or o command) is)
         (record { slot = slot; found = found; number_is = number; content_is = refl });
     older = λ command is e. absurd (omega (arith, e));
   }
@@ -115,7 +119,7 @@ module _ (ledger : LedgerState) (max_size : ℕ) (bytes : List ℕ) (named : Opt
       nat_lt (command_of bytes).number slot.number ≡ less → ((command_of bytes).number == slot.number) ≡ same →
       MeansAction ledger max_size (Some (command_of bytes)) named
       (if less then refuses statuses.ObjectStateConflict
-      else (if same then Replies (within max_size (success (last_content slot.reply))) else do_new max_size (command_of bytes)))
+      else (if same then Replies (within max_size (success (last_content slot))) else do_new max_size (command_of bytes)))
   some_means slot true same enough life found h i = record {
     fits = λ least. omega (arith, least);
     kept = λ command is e. absurd (omega (arith, e));
@@ -123,7 +127,7 @@ module _ (ledger : LedgerState) (max_size : ℕ) (bytes : List ℕ) (named : Opt
         (record { slot = slot; found = found; greater = ltb-true (command_of bytes).number slot.number h });
   }
   some_means slot false true enough life found h i =
-      kept_means slot (nat_lt max_size (HEAD_SIZE + length (last_content slot.reply))) found (sym (eqb-true (command_of bytes).number slot.number i)) refl
+      kept_means slot (nat_lt max_size (HEAD_SIZE + length (last_content slot))) found (sym (eqb-true (command_of bytes).number slot.number i)) refl
   some_means slot false false enough life found h i =
       let least = ltb-false (command_of bytes).number slot.number h in
       let other = eqb-false (command_of bytes).number slot.number i in
@@ -164,7 +168,7 @@ unless_fits max_size (Some status) answer least fits = omega (arith, least)
 
 last-fits : (max_size : ℕ) (found : Option SlotState) → 8 ≤ max_size → HEAD_SIZE + length (last_in max_size found).content ≤ max_size
 last-fits max_size None least = omega (arith, least)
-last-fits max_size (Some slot) least = within-fits max_size (success (le 4 slot.number ++ last_content slot.reply)) least
+last-fits max_size (Some slot) least = within-fits max_size (success (le 4 slot.number ++ last_content slot)) least
 
 single-fits : (max_size : ℕ) (bytes : List ℕ) (value : Option (List ℕ)) → 8 ≤ max_size →
     HEAD_SIZE + length (single max_size bytes value).content ≤ max_size
@@ -289,19 +293,45 @@ abbrev pub Means : Option LedgerState → Request → Fate → Type 0
 Means ledger request Passed = (ledger ≡ None) ⊎ (ledger_request request.1 ≡ None)
 Means ledger request (Served service action) = IsServed ledger request service action
 
-asked_means : (ledger : LedgerState) (request : Request) (asked : Option LedgerRequest) → ledger_request request.1 ≡ asked →
-    Means (Some ledger) request (fate_of ledger request.0 asked)
-asked_means ledger request None e = inr e
-asked_means ledger request (Some asked) e = record {
-  state = ledger;
-  ledger_is = refl;
-  asked = asked;
-  asked_is = e;
-  service_is = refl;
-  means = subst (λ o. MeansAction ledger request.0 (command_by o) (forgotten_by o) (action_of ledger request.0 asked)) (sym e)
-      (action-means ledger request.0 asked);
-}
+-- what the router makes of a new command
+module _ {M : Type 0} (standing : M → List ℕ → Standing) (ledger : LedgerState) (max_size : ℕ) (given : Option Command)
+    (named : Option (ℕ × ℕ)) where
+  standing-means : (is : Standing) (command : Command) → IsExecuted ledger max_size given command →
+      MeansAction ledger max_size given named (by_standing is command)
+  standing-means standings.Final command means = means
+  standing-means (standings.Pending ticket) command means = means
+  standing-means standings.Refused command means =
+      refused_of ledger max_size given named statuses.ResourceUnavailable (λ e. absurd (omega (arith, e)))
+      (λ e. absurd (omega (arith, e)))
 
-pub fate-means : (ledger : Option LedgerState) (request : Request) → Means ledger request (fate ledger request.0 request.1)
-fate-means None request = inl refl
-fate-means (Some ledger) request = asked_means ledger request (ledger_request request.1) refl
+  router-means : (router : M) (action : Action) → MeansAction ledger max_size given named action →
+      MeansAction ledger max_size given named (at_router standing router action)
+  router-means router (Replies answer) means = means
+  router-means router (Executes command) means =
+      standing-means (embedded_standing standing router command.request) command means
+  router-means router (Queues command ticket) means =
+      standing-means (embedded_standing standing router command.request) command means
+  router-means router (Frees originator) means = means
+
+module _ {M : Type 0} (standing : M → List ℕ → Standing) where
+  asked_means : (ledger : LedgerState) (router : M) (request : Request) (asked : Option LedgerRequest) →
+      ledger_request request.1 ≡ asked →
+      Means (Some ledger) request (fate_of standing ledger router request.0 asked)
+  asked_means ledger router request None e = inr e
+  asked_means ledger router request (Some asked) e = record {
+    state = ledger;
+    ledger_is = refl;
+    asked = asked;
+    asked_is = e;
+    service_is = refl;
+    means = subst
+        (λ o. MeansAction ledger request.0 (command_by o) (forgotten_by o)
+        (at_router standing router (action_of ledger request.0 asked))) (sym e)
+        (router-means standing ledger request.0 (command_by (Some asked)) (forgotten_by (Some asked)) router
+        (action_of ledger request.0 asked) (action-means ledger request.0 asked));
+  }
+
+  pub fate-means : (ledger : Option LedgerState) (router : M) (request : Request) →
+      Means ledger request (fate standing ledger router request.0 request.1)
+  fate-means None router request = inl refl
+  fate-means (Some ledger) router request = asked_means ledger router request (ledger_request request.1) refl

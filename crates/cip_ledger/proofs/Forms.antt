@@ -8,9 +8,10 @@ use Rattle.cip_message.specs.Request.{Request as Spelled, request_of}
 use Rattle.cip_message.specs.Reply.{reply_service}
 use Rattle.cip_objects.specs.Router.{IsReplyTo, RepliesWellFormed}
 use Rattle.cip_ledger.specs.declared.router.LedgerRouter.{LedgerRouter}
+use Rattle.cip_ledger.specs.declared.target.Standing.{Standing}
 use Rattle.cip_ledger.specs.Ledger.{LedgerState}
 use Rattle.cip_ledger.specs.Requests.{LedgerRequest, ledger_request, request_by_path, request_by_parts, is_barred}
-use Rattle.cip_ledger.specs.Services.{Replies, Executes, Frees, reply_to, refusal, KEPT_LIMIT}
+use Rattle.cip_ledger.specs.Services.{Replies, Executes, Queues, Frees, reply_to, refusal, KEPT_LIMIT}
 use Rattle.cip_ledger.specs.declared.status.Status.TheVariants as statuses
 use Rattle.cip_ledger.specs.Turn.{Fate, Passed, Served, fate, fate_of, turn_by, turn_of}
 use Rattle.cip_ledger.specs.Runs.{Request, answer_to, turn_at}
@@ -44,20 +45,21 @@ service_first (service ∷ words ∷ rest) request e = by_size (nat_lt (length r
     by_size true e = absurd (cc)
     by_size false e = by_path (path_of (take (2 * words) rest)) e
 
-module _ {M : Type 0} (after : M → ℕ → List ℕ → M) (answer : M → ℕ → List ℕ → List ℕ) where
+module _ {M : Type 0} (after : M → ℕ → List ℕ → M) (answer : M → ℕ → List ℕ → List ℕ)
+    (standing : M → List ℕ → Standing) where
   -- without a ledger, or elsewhere, the turn is the router's
   pub passes : (node : LedgerRouter M) (request : Request) → (node.ledger ≡ None) ⊎ (ledger_request request.1 ≡ None) →
-      turn_at after answer node request
+      turn_at after answer standing node request
       ≡ turn_of node.ledger (after node.router request.0 request.1) (answer node.router request.0 request.1)
   passes node request is = go node.ledger is
     where
       go : (l : Option LedgerState) → (l ≡ None) ⊎ (ledger_request request.1 ≡ None) →
-          turn_by after answer (fate l request.0 request.1) l node.router request.0 request.1
+          turn_by after answer (fate standing l node.router request.0 request.1) l node.router request.0 request.1
           ≡ turn_of l (after node.router request.0 request.1) (answer node.router request.0 request.1)
       go None is = refl
       go (Some ledger) (inl e) = absurd (cc)
       go (Some ledger) (inr e) =
-          ap (λ asked. turn_by after answer (fate_of ledger request.0 asked) (Some ledger) node.router request.0 request.1) e
+          ap (λ asked. turn_by after answer (fate_of standing ledger node.router request.0 asked) (Some ledger) node.router request.0 request.1) e
 
   module _ (form : RepliesWellFormed answer) where
     embedded-within : (barred : Bool) (router : M) (request : List ℕ) → 2 ≤ length request →
@@ -74,6 +76,8 @@ module _ {M : Type 0} (after : M → ℕ → List ℕ → M) (answer : M → ℕ
         let fits = means.means.fits in
         let inner = embedded-within (is_barred command.request) node.router command.request means.means.request in
         omega (arith, fits, inner)
+    within-by (Served service (Queues command ticket)) node request means least enough =
+        let fits = means.means.fits in omega (arith, fits)
     within-by (Served service (Frees freed)) node request means least enough = omega (arith, least)
 
     begins-by : (f : Fate) (node : LedgerRouter M) (request : Request) → Means node.ledger request f → 8 ≤ request.0 → 2 ≤ length request.1 →
@@ -83,13 +87,17 @@ module _ {M : Type 0} (after : M → ℕ → List ℕ → M) (answer : M → ℕ
         record { head = omega arith; service = ap reply_service (sym means.service_is ∙ service_first request.1 means.asked means.asked_is) }
     begins-by (Served service (Executes command)) node request means least enough =
         record { head = omega arith; service = ap reply_service (sym means.service_is ∙ service_first request.1 means.asked means.asked_is) }
+    begins-by (Served service (Queues command ticket)) node request means least enough =
+        record { head = omega arith; service = ap reply_service (sym means.service_is ∙ service_first request.1 means.asked means.asked_is) }
     begins-by (Served service (Frees freed)) node request means least enough =
         record { head = omega arith; service = ap reply_service (sym means.service_is ∙ service_first request.1 means.asked means.asked_is) }
 
-    pub in-form : RepliesWellFormed (λ (node : LedgerRouter M) max_size request. answer_to after answer node (max_size, request))
+    pub in-form : RepliesWellFormed (λ (node : LedgerRouter M) max_size request. answer_to after answer standing node (max_size, request))
     in-form = record {
       begins = λ node max_size request least enough.
-          begins-by (fate node.ledger max_size request) node (max_size, request) (fate-means node.ledger (max_size, request)) least enough;
+          begins-by (fate standing node.ledger node.router max_size request) node (max_size, request)
+          (fate-means standing node.ledger node.router (max_size, request)) least enough;
       within = λ node max_size request least enough.
-          within-by (fate node.ledger max_size request) node (max_size, request) (fate-means node.ledger (max_size, request)) least enough;
+          within-by (fate standing node.ledger node.router max_size request) node (max_size, request)
+          (fate-means standing node.ledger node.router (max_size, request)) least enough;
     }

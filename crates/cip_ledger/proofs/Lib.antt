@@ -2,10 +2,13 @@ pub mod SlotLemmas
 pub mod KeptLemmas
 pub mod RequestLemmas
 pub mod Fates
+pub mod CompletedSlots
 pub mod Settled
+pub mod Finals
 pub mod Answered
 pub mod Executions
 pub mod Doubts
+pub mod Pendings
 pub mod Lives
 pub mod Forms
 pub mod Words

@@ -2,6 +2,7 @@
 use Rattle.std.proofs.Common.{◌≢◌, ℕ, List, [], ◌∷◌, refl, sym, ◌∙◌}
 use Rattle.std.specs.Prelude.{map}
 use Rattle.std.specs.List.{AllByRecursion}
+use Rattle.cip_ledger.specs.declared.target.Standing.{Standing}
 use Rattle.cip_ledger.specs.Requests.{Command}
 use Rattle.cip_ledger.specs.Runs.{Event, Executed, Freed}
 use Rattle.cip_ledger.specs.Laws.{AreOfLife, IsNotExecuted, AreApart, IsOnceInAll, Life, begun, HaveOwnNumbers, journal_of}
@@ -22,22 +23,23 @@ apart life other_life (Executed command reply ∷ events) others other own all =
 )
 apart life other_life (Freed freed ∷ events) others other own all = apart life other_life events others other own all
 
-module _ {M : Type 0} (after : M → ℕ → List ℕ → M) (answer : M → ℕ → List ℕ → List ℕ) where
-  of_life : (life : Life M) → AreOfLife life.number (journal_of after answer life)
-  of_life life = journal-life after answer life.requests (begun life) life.number refl
+module _ {M : Type 0} (after : M → ℕ → List ℕ → M) (answer : M → ℕ → List ℕ → List ℕ)
+    (standing : M → List ℕ → Standing) where
+  of_life : (life : Life M) → AreOfLife life.number (journal_of after answer standing life)
+  of_life life = journal-life after answer standing life.requests (begun life) life.number refl
 
   all_apart : (life : Life M) (lives : List (Life M)) → AllByRecursion (λ (other : Life M). life.number ≢ other.number) lives →
-      AllByRecursion (AreApart (journal_of after answer life)) (map (journal_of after answer) lives)
+      AllByRecursion (AreApart (journal_of after answer standing life)) (map (journal_of after answer standing) lives)
   all_apart life [] own = tt
   all_apart life (other ∷ lives) own = (
-    apart life.number other.number (journal_of after answer life) (journal_of after answer other) own.0 (of_life life) (of_life other),
+    apart life.number other.number (journal_of after answer standing life) (journal_of after answer standing other) own.0 (of_life life) (of_life other),
     all_apart life lives own.1,
   )
 
-  pub once_in_all : (lives : List (Life M)) → HaveOwnNumbers lives → IsOnceInAll (map (journal_of after answer) lives)
+  pub once_in_all : (lives : List (Life M)) → HaveOwnNumbers lives → IsOnceInAll (map (journal_of after answer standing) lives)
   once_in_all [] own = tt
   once_in_all (life ∷ lives) own = (
-    rises-apart (journal_of after answer life) (journal-rises after answer life.requests (begun life)),
+    rises-apart (journal_of after answer standing life) (journal-rises after answer standing life.requests (begun life)),
     all_apart life lives own.0,
     once_in_all lives own.1,
   )

@@ -1,8 +1,8 @@
 -- Commands in doubt.
 --
 -- A device that starts from a kept state may not know whether an originator's last command was executed. Such a command
--- is never executed, and is answered by its state alone, until the owner settles it: gives the reply that it should have
--- had.
+-- is never executed, and is answered by its state alone, until the owner settles it: gives the reply that it should
+-- have had. A command that is pending is not in doubt: it is in the queue of the router.
 use Rattle.std.specs.Prelude.{ℕ, ◌==◌, ◌&&◌, nat_lt, nat_le, not, Bool, false, is_some, if◌then◌else◌, Option, Some, None}
 use Rattle.std.specs.Prelude.{List, length, filter}
 use Rattle.cip_ledger.specs.Ledger.{SlotState, LedgerState, slot_of, with_slot}
@@ -10,7 +10,7 @@ use Rattle.cip_ledger.specs.Services.{HEAD_SIZE, KEPT_LIMIT}
 use Rattle.cip_ledger.specs.declared.doubt.DoubtfulCommand.{DoubtfulCommand}
 
 abbrev pub is_doubtful : SlotState → Bool
-is_doubtful slot = not (is_some slot.reply)
+is_doubtful slot = not (is_some slot.reply) && not (is_some slot.ticket)
 
 -- the slots whose commands are in doubt, in their order
 abbrev pub doubtful_in : LedgerState → List SlotState
@@ -19,7 +19,7 @@ doubtful_in ledger = filter is_doubtful ledger.taken
 -- the ledger once this is an originator's last command, with this reply or in doubt
 abbrev pub with_last : ℕ → ℕ → Option (List ℕ) → LedgerState → LedgerState
 with_last originator number reply ledger = record ledger {
-  taken = with_slot (record { originator = originator; number = number; reply = reply }) ledger.taken;
+  taken = with_slot (record { originator = originator; number = number; reply = reply; ticket = None }) ledger.taken;
 }
 
 -- who gave a slot's command, and its number

@@ -2,6 +2,7 @@
 use Rattle.std.specs.Prelude.{◌≡◌, ℕ, ◌+◌, ◌<◌, ◌≤◌, true, false, Some, List, [], ◌∷◌, length, option_map}
 use Rattle.cip_ledger.specs.declared.router.LedgerRouter.{LedgerRouter}
 use Rattle.cip_ledger.specs.declared.service.TheConstants as services
+use Rattle.cip_ledger.specs.declared.target.Standing.{Standing}
 use Rattle.cip_ledger.specs.Doubt.{is_in_doubt, can_settle, settled}
 use Rattle.cip_ledger.specs.Ledger.{LedgerState, SlotState, slot_of}
 use Rattle.cip_ledger.specs.Requests.{Command}
@@ -28,20 +29,21 @@ settled_numbers_law = (ledger : LedgerState) (originator number : ℕ) (reply : 
     option_map (λ (slot : SlotState). slot.number) (slot_of any (settled ledger originator number reply).taken)
     ≡ option_map (λ (slot : SlotState). slot.number) (slot_of any ledger.taken)
 
-module _ {M : Type 0} (after : M → ℕ → List ℕ → M) (answer : M → ℕ → List ℕ → List ℕ) where
-  -- a number that an originator's slot has, done or in doubt, is never executed: until the slot is freed, only greater
-  -- ones of that originator are
+module _ {M : Type 0} (after : M → ℕ → List ℕ → M) (answer : M → ℕ → List ℕ → List ℕ)
+    (standing : M → List ℕ → Standing) where
+  -- a number that an originator's slot has, done, pending or in doubt, is never executed again: until the slot is
+  -- freed, only greater ones of that originator are
   abbrev pub kept_law : Type 0
   kept_law = (node : LedgerRouter M) (requests : List Request) (originator : ℕ) (slot : SlotState) →
       slot_in originator node.ledger ≡ Some slot →
-      UntilFreed originator (λ command. slot.number < command.number) (journal after answer node requests)
+      UntilFreed originator (λ command. slot.number < command.number) (journal after answer standing node requests)
 
   -- a command in doubt is answered by its state, and changes nothing
   abbrev pub doubt_law : Type 0
   doubt_law = (node : LedgerRouter M) (ledger : LedgerState) (request : Request) (command : Command) →
       node.ledger ≡ Some ledger → IsGiven ledger request command (HEAD_SIZE + 1) →
       is_in_doubt ledger command.originator command.number ≡ true →
-      turn_at after answer node request
+      turn_at after answer standing node request
       ≡ turn_of node.ledger node.router (reply_to services.DO_ONCE (success (IN_DOUBT ∷ [])))
 
   -- a command that was settled is answered by the reply that the owner gave, and changes nothing
@@ -50,5 +52,5 @@ module _ {M : Type 0} (after : M → ℕ → List ℕ → M) (answer : M → ℕ
       node.ledger ≡ Some (settled ledger command.originator command.number reply) →
       IsGiven ledger request command (HEAD_SIZE + 1 + length reply) →
       can_settle ledger command.originator command.number reply ≡ true →
-      turn_at after answer node request
+      turn_at after answer standing node request
       ≡ turn_of node.ledger node.router (reply_to services.DO_ONCE (success (DONE ∷ reply)))

@@ -5,12 +5,15 @@ use Rattle.std.specs.List.{AllByRecursion}
 use Rattle.cip_objects.specs.Router.{general_status, RepliesWellFormed}
 use Rattle.cip_ledger.specs.declared.router.LedgerRouter.{LedgerRouter}
 use Rattle.cip_ledger.specs.declared.service.TheConstants as services
+use Rattle.cip_ledger.specs.declared.target.Standing.{Standing}
+use Rattle.cip_ledger.specs.declared.target.Standing.TheVariants as standings
 use Rattle.cip_ledger.specs.Ledger.{LedgerState, SlotState, empty_ledger}
 use Rattle.cip_ledger.specs.Requests.{Command, ledger_request}
-use Rattle.cip_ledger.specs.Services.{reply_to, success, DONE, KEPT_LIMIT, HEAD_SIZE}
-use Rattle.cip_ledger.specs.Turn.{turn_of, embedded_reply}
+use Rattle.cip_ledger.specs.Services.{reply_to, success, DONE, PENDING, KEPT_LIMIT, HEAD_SIZE}
+use Rattle.cip_ledger.specs.Standings.{embedded_standing, new_at_router}
+use Rattle.cip_ledger.specs.Turn.{turn_of, acted, embedded_reply}
 use Rattle.cip_ledger.specs.Runs.{Request, slot_in, command_given, forgotten, Event, Executed, Freed}
-use Rattle.cip_ledger.specs.Runs.{answer_to, turn_at, next, node_after, journal, reached, router_after}
+use Rattle.cip_ledger.specs.Runs.{answer_to, turn_at, next, node_after, journal, reached, router_after, StaysFinal}
 
 -- ---- facts on events
 
@@ -107,9 +110,16 @@ abbrev pub HaveOwnNumbers : {M : Type 0} → List (Life M) → Type 0
 HaveOwnNumbers [] = ⊤
 HaveOwnNumbers (life ∷ lives) = AllByRecursion (λ other. life.number ≢ other.number) lives × HaveOwnNumbers lives
 
+-- an answer has this reply to the embedded request, or says that the command is pending
+abbrev pub IsOfExecution : List ℕ → List ℕ → Type 0
+IsOfExecution reply answer =
+    (answer ≡ reply_to services.DO_ONCE (success (DONE ∷ reply)))
+    ⊎ (answer ≡ reply_to services.DO_ONCE (success (PENDING ∷ [])))
+
 -- ---- the laws
 
-module _ {M : Type 0} (after : M → ℕ → List ℕ → M) (answer : M → ℕ → List ℕ → List ℕ) where
+module _ {M : Type 0} (after : M → ℕ → List ℕ → M) (answer : M → ℕ → List ℕ → List ℕ)
+    (standing : M → List ℕ → Standing) where
   -- the request is the originator's command of this number, and the ledger answers it with this status
   pub record IsAnswered (node : LedgerRouter M) (request : Request) (originator number status : ℕ) : Type 0 where
     pub has_ledger : node.ledger ≢ None
@@ -117,7 +127,7 @@ module _ {M : Type 0} (after : M → ℕ → List ℕ → M) (answer : M → ℕ
     pub given : command_given request ≡ Some command
     pub originator_is : command.originator ≡ originator
     pub number_is : command.number ≡ number
-    pub status_is : general_status (answer_to after answer node request) ≡ status
+    pub status_is : general_status (answer_to after answer standing node request) ≡ status
 
   abbrev pub Succeeds : LedgerRouter M → Request → ℕ → ℕ → Type 0
   Succeeds node request originator number = IsAnswered node request originator number 0
@@ -125,22 +135,23 @@ module _ {M : Type 0} (after : M → ℕ → List ℕ → M) (answer : M → ℕ
   -- the router is as if it alone had executed what reached it
   abbrev pub router_law : Type 0
   router_law = (node : LedgerRouter M) (requests : List Request) →
-      (node_after after answer node requests).router
-      ≡ router_after after answer node.router (reached after answer node requests)
+      (node_after after answer standing node requests).router
+      ≡ router_after after answer node.router (reached after answer standing node requests)
 
   -- without a ledger, and if it is not to the ledger's class, a request is the router's alone
   abbrev pub passing_law : Type 0
   passing_law = (node : LedgerRouter M) (request : Request) → (node.ledger ≡ None) ⊎ (ledger_request request.1 ≡ None) →
-      turn_at after answer node request
+      turn_at after answer standing node request
       ≡ turn_of node.ledger (after node.router request.0 request.1) (answer node.router request.0 request.1)
 
   -- the numbers that are executed for one originator rise, unless its slot is freed in between
   abbrev pub rising_law : Type 0
-  rising_law = (node : LedgerRouter M) (requests : List Request) → Rises (journal after answer node requests)
+  rising_law = (node : LedgerRouter M) (requests : List Request) → Rises (journal after answer standing node requests)
 
   -- each number of an originator is executed at most once, unless its slot is freed in between
   abbrev pub once_law : Type 0
-  once_law = (node : LedgerRouter M) (requests : List Request) → HasNoDoubles (journal after answer node requests)
+  once_law = (node : LedgerRouter M) (requests : List Request) →
+      HasNoDoubles (journal after answer standing node requests)
 
   -- once a number was answered with success, or with 0x0c as a greater one was executed, only greater ones of that
   -- originator are executed, until its slot is freed
@@ -148,64 +159,86 @@ module _ {M : Type 0} (after : M → ℕ → List ℕ → M) (answer : M → ℕ
   never_again_law = (node : LedgerRouter M) (request : Request) (later : List Request) (originator number status : ℕ) →
       IsAnswered node request originator number status → (status ≡ 0) ⊎ (status ≡ 0x0c) →
       UntilFreed originator (λ command. number < command.number)
-      (journal after answer (next after answer node request) later)
+      (journal after answer standing (next after answer standing node request) later)
 
   -- every two success answers to a number have the same bytes, whatever else the requests say, and whatever came
   -- between them, but a Forget that freed the slot
   abbrev pub same_bytes_law : Type 0
   same_bytes_law = (node : LedgerRouter M) (first again : Request) (between : List Request) (originator number : ℕ) →
       Succeeds node first originator number →
-      Succeeds (node_after after answer node (first ∷ between)) again originator number →
-      IsNotFreed originator (journal after answer (next after answer node first) between) →
-      answer_to after answer (node_after after answer node (first ∷ between)) again
-      ≡ answer_to after answer node first
+      Succeeds (node_after after answer standing node (first ∷ between)) again originator number →
+      IsNotFreed originator (journal after answer standing (next after answer standing node first) between) →
+      answer_to after answer standing (node_after after answer standing node (first ∷ between)) again
+      ≡ answer_to after answer standing node first
 
-  -- from an empty ledger on, every success answer has the reply of the execution of that number
+  -- from an empty ledger on, every success answer has the reply of the execution of that number, or says that the
+  -- command is pending, which was executed too
   abbrev pub of_execution_law : Type 0
   of_execution_law = (life : Life M) (request : Request) (originator number : ℕ) →
-      Succeeds (node_after after answer (begun life) life.requests) request originator number →
+      Succeeds (node_after after answer standing (begun life) life.requests) request originator number →
       (reply : List ℕ)
-      × IsDone originator number reply (journal after answer (begun life) (life.requests ++ request ∷ []))
-      × (answer_to after answer (node_after after answer (begun life) life.requests) request
+      × IsDone originator number reply (journal after answer standing (begun life) (life.requests ++ request ∷ []))
+      × IsOfExecution reply
+      (answer_to after answer standing (node_after after answer standing (begun life) life.requests) request)
+
+  -- of a router that queues no command every success answer has the reply of the execution
+  abbrev pub of_final_execution_law : Type 0
+  of_final_execution_law = (life : Life M) (request : Request) (originator number : ℕ) →
+      StaysFinal after answer standing life.router →
+      Succeeds (node_after after answer standing (begun life) life.requests) request originator number →
+      (reply : List ℕ)
+      × IsDone originator number reply (journal after answer standing (begun life) (life.requests ++ request ∷ []))
+      × (answer_to after answer standing (node_after after answer standing (begun life) life.requests) request
       ≡ reply_to services.DO_ONCE (success (DONE ∷ reply)))
 
   -- an originator's slot stays as it is under the requests of others
   abbrev pub others_law : Type 0
   others_law = (node : LedgerRouter M) (requests : List Request) (originator : ℕ) →
       AllByRecursion (IsOfAnother originator) requests →
-      slot_in originator (node_after after answer node requests).ledger ≡ slot_in originator node.ledger
+      slot_in originator (node_after after answer standing node requests).ledger ≡ slot_in originator node.ledger
 
   -- a slot is freed by Forget with its number alone, and is free then
   pub record IsForgotten (node : LedgerRouter M) (request : Request) (originator : ℕ) : Type 0 where
     pub slot : SlotState
     pub found : slot_in originator node.ledger ≡ Some slot
     pub named : forgotten request ≡ Some (originator, slot.number)
-    pub free : slot_in originator (next after answer node request).ledger ≡ None
+    pub free : slot_in originator (next after answer standing node request).ledger ≡ None
 
   abbrev pub frees_law : Type 0
   frees_law = (node : LedgerRouter M) (request : Request) (originator : ℕ) →
-      journal after answer node (request ∷ []) ≡ Freed originator ∷ [] → IsForgotten node request originator
+      journal after answer standing node (request ∷ []) ≡ Freed originator ∷ [] → IsForgotten node request originator
 
-  -- a new command is executed, if the longest reply fits
+  -- a new command is executed, if the longest reply fits and the router takes it
   abbrev pub executes_law : Type 0
   executes_law = (node : LedgerRouter M) (ledger : LedgerState) (request : Request) (command : Command) →
       node.ledger ≡ Some ledger → command_given request ≡ Some command → IsNew ledger command →
       HEAD_SIZE + 1 + KEPT_LIMIT ≤ request.0 →
-      journal after answer node (request ∷ [])
+      embedded_standing standing node.router command.request ≢ standings.Refused →
+      journal after answer standing node (request ∷ [])
       ≡ Executed command (embedded_reply after answer node.router command.request) ∷ []
+
+  -- What becomes of a new command is what the router makes of its embedded request: it is executed and kept with its
+  -- reply, executed and kept with the ticket under which the router queues it, or refused, and then nothing changes.
+  abbrev pub standing_law : Type 0
+  standing_law = (node : LedgerRouter M) (ledger : LedgerState) (request : Request) (command : Command) →
+      node.ledger ≡ Some ledger → command_given request ≡ Some command → IsNew ledger command →
+      HEAD_SIZE + 1 + KEPT_LIMIT ≤ request.0 →
+      turn_at after answer standing node request
+      ≡ acted after answer (new_at_router standing node.router command) services.DO_ONCE node.ledger node.router
 
   -- replies are well-formed if those of the router are
   abbrev pub form_law : Type 0
   form_law = RepliesWellFormed answer →
-      RepliesWellFormed (λ (node : LedgerRouter M) max_size request. answer_to after answer node (max_size, request))
+      RepliesWellFormed
+      (λ (node : LedgerRouter M) max_size request. answer_to after answer standing node (max_size, request))
 
   -- only commands of the ledger's life are executed
   abbrev pub life_law : Type 0
   life_law = (node : LedgerRouter M) (ledger : LedgerState) (requests : List Request) → node.ledger ≡ Some ledger →
-      AreOfLife ledger.life (journal after answer node requests)
+      AreOfLife ledger.life (journal after answer standing node requests)
 
   abbrev pub journal_of : Life M → List Event
-  journal_of life = journal after answer (begun life) life.requests
+  journal_of life = journal after answer standing (begun life) life.requests
 
   -- over lives with numbers of their own each command is executed at most once altogether
   abbrev pub lives_law : Type 0

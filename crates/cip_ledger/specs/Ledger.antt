@@ -1,12 +1,14 @@
 -- The command ledger's state: for each originator the greatest number that was executed or is in doubt, and its reply.
-use Rattle.std.specs.Prelude.{◌≡◌, ℕ, ◌≤◌, ◌<◌, ◌^◌, ◌==◌, if◌then◌else◌, Option, None, List, [], ◌∷◌, find, filter, not, length, unwrap_or}
+use Rattle.std.specs.Prelude.{◌≡◌, ℕ, ◌≤◌, ◌<◌, ◌^◌, ◌==◌, ◌&&◌, Bool, false, is_some, if◌then◌else◌, Option, None}
+use Rattle.std.specs.Prelude.{List, [], ◌∷◌, find, filter, not, length, unwrap_or}
 
--- an originator's slot: the last of its commands, and the reply to it; without a reply the command is in doubt, that is,
--- the device does not know whether it was executed
+-- An originator's slot: the last of its commands, and the reply to it. Without a reply the command is pending if it has
+-- a ticket: it is in the queue of the router. Else it is in doubt: the device does not know whether it was executed.
 pub record SlotState : Type 0 where
   pub originator : ℕ
   pub number : ℕ
   pub reply : Option (List ℕ)
+  pub ticket : Option ℕ
 
 -- how many slots there are, the number of the device's life, and the slots that are taken, one for each originator
 pub record LedgerState : Type 0 where
@@ -27,15 +29,21 @@ abbrev pub AreApart : List SlotState → Type 0
 AreApart [] = Unit {0}
 AreApart (slot ∷ taken) = (slot_of slot.originator taken ≡ None) × AreApart taken
 
--- the kept bytes: nothing is kept of the reply to a command in doubt
+-- the kept bytes: nothing is kept of the reply to a command that is pending or in doubt
 abbrev pub kept_bytes : SlotState → List ℕ
 kept_bytes slot = unwrap_or slot.reply []
 
--- the originator has 64 bits, the number 32, and the reply at most 480 bytes
+-- a command that is done has no ticket
+abbrev pub has_both : SlotState → Bool
+has_both slot = is_some slot.reply && is_some slot.ticket
+
+-- the originator has 64 bits, the number and the ticket 32, and the reply at most 480 bytes
 pub record IsSlot (slot : SlotState) : Type 0 where
   pub originator : slot.originator < 2 ^ 64
   pub number : slot.number < 2 ^ 32
   pub short : length (kept_bytes slot) ≤ 480
+  pub ticket : unwrap_or slot.ticket 0 < 2 ^ 32
+  pub one : has_both slot ≡ false
 
 abbrev pub AreSlots : List SlotState → Type 0
 AreSlots [] = Unit {0}

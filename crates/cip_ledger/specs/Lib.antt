@@ -5,14 +5,17 @@ pub mod Kept
 pub mod Requests
 pub mod Services
 pub mod Slots
+pub mod Standings
 pub mod Status
 pub mod Turn
 pub mod Verdicts
 pub mod Views
 pub mod TooLarge
 pub mod Doubt
+pub mod Pending
 pub mod Laws
 pub mod DoubtLaws
+pub mod PendingLaws
 pub mod Runs
 pub mod Reaching
 pub mod Executing

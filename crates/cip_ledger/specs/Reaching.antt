@@ -1,7 +1,7 @@
 -- What of one request would reach the router behind a ledger.
 use Rattle.std.specs.Prelude.{ℕ, if◌then◌else◌, Option, Some, None, List, [], ◌∷◌}
 use Rattle.cip_ledger.specs.Requests.{Command, is_barred}
-use Rattle.cip_ledger.specs.Services.{Action, Replies, Executes, Frees}
+use Rattle.cip_ledger.specs.Services.{Action, Replies, Executes, Queues, Frees}
 
 -- What may be none, as a list.
 abbrev pub listed : {A : Type 0} → Option A → List A
@@ -15,4 +15,5 @@ embedded_of command = if is_barred command.request then None else Some command.r
 abbrev pub embedded_by : Action → Option (List ℕ)
 embedded_by (Replies reply) = None
 embedded_by (Executes command) = embedded_of command
+embedded_by (Queues command ticket) = embedded_of command
 embedded_by (Frees originator) = None

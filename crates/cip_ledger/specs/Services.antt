@@ -26,14 +26,23 @@ KEPT_LIMIT = 480
 abbrev pub DONE : ℕ
 DONE = 0
 
+-- the state byte of a command that is pending: it is in the queue of the router
+abbrev pub PENDING : ℕ
+PENDING = 1
+
 -- the state byte of a command in doubt
 abbrev pub IN_DOUBT : ℕ
 IN_DOUBT = 2
 
+-- the state of a command by what is kept of it, its reply or its ticket
+abbrev pub state_content : Option (List ℕ) → Option ℕ → List ℕ
+state_content (Some reply) ticket = DONE ∷ reply
+state_content None (Some ticket) = PENDING ∷ []
+state_content None None = IN_DOUBT ∷ []
+
 -- the state of an originator's last command, and the reply that is kept of it
-abbrev pub last_content : Option (List ℕ) → List ℕ
-last_content None = IN_DOUBT ∷ []
-last_content (Some reply) = DONE ∷ reply
+abbrev pub last_content : SlotState → List ℕ
+last_content slot = state_content slot.reply slot.ticket
 
 -- the general status and the data of a reply
 pub record Answer : Type 0 where
@@ -55,11 +64,13 @@ abbrev pub within : ℕ → Answer → Answer
 within max_size answer =
     if nat_lt max_size (HEAD_SIZE + length answer.content) then refusal statuses.ReplyDataTooLarge else answer
 
--- What the ledger does with a request: it only replies, executes a command and keeps its reply, or frees the slot of
--- an originator.
+-- What the ledger does with a request: it only replies, executes a command and keeps its reply, executes a command that
+-- the router puts into its queue and keeps its ticket, or frees the slot of an originator. The ledger alone decides
+-- between all but the third (`action_of`); that the router queues a command is decided by the router (`Standings`).
 pub data Action : Type 0 where
   Replies : (answer : Answer) → Action
   Executes : (command : Command) → Action
+  Queues : (command : Command) (ticket : ℕ) → Action
   Frees : (originator : ℕ) → Action
 
 abbrev pub refuses : Status → Action
@@ -91,7 +102,7 @@ do_by_slot ledger max_size command None =
     else refuses statuses.ResourceUnavailable
 do_by_slot ledger max_size command (Some slot) =
     if nat_lt command.number slot.number then refuses statuses.ObjectStateConflict
-    else (if command.number == slot.number then Replies (within max_size (success (last_content slot.reply)))
+    else (if command.number == slot.number then Replies (within max_size (success (last_content slot)))
     else do_new max_size command)
 
 -- a command of another life is never executed
@@ -110,7 +121,7 @@ do_once ledger max_size bytes =
 
 abbrev pub last_in : ℕ → Option SlotState → Answer
 last_in max_size None = refusal statuses.ObjectDoesNotExist
-last_in max_size (Some slot) = within max_size (success (le 4 slot.number ++ last_content slot.reply))
+last_in max_size (Some slot) = within max_size (success (le 4 slot.number ++ last_content slot))
 
 -- an originator's last number, the state and the kept reply
 abbrev pub get_last : LedgerState → ℕ → List ℕ → Answer

@@ -5,95 +5,106 @@
 
 ghost use Rattle.cip_ledger.specs.Laws.{router_law, passing_law, rising_law, once_law, never_again_law, same_bytes_law};
 ghost use Rattle.cip_ledger.specs.Laws.{of_execution_law, others_law, frees_law, executes_law, form_law, life_law};
-ghost use Rattle.cip_ledger.specs.Laws.{lives_law};
+ghost use Rattle.cip_ledger.specs.Laws.{lives_law, standing_law, of_final_execution_law};
 ghost use Rattle.cip_ledger.specs.DoubtLaws.{kept_law, doubt_law, settled_law, settled_once_law, settled_numbers_law};
 ghost use Rattle.cip_ledger.specs.Executing.{doubtable_law};
 ghost use Rattle.cip_ledger.specs.Kept.{restored_law};
+ghost use Rattle.cip_ledger.specs.PendingLaws.{completed_once_law, completed_numbers_law, done_law, result_law};
+ghost use Rattle.cip_ledger.specs.PendingLaws.{pending_law, completed_law, never_back_law};
 
-use cip_objects::Router;
+use crate::target::Target;
 
 /// The router is as if it alone had executed what reached it: each request that is not to the ledger, and the embedded
 /// request of each command once.
-pub fn router_executes_what_reaches_it<R: Router>()
-    ensures { router_law R.after R.answer }
+pub fn router_executes_what_reaches_it<R: Target>()
+    ensures { router_law R.after R.answer R.standing }
 {}
 
 /// Without a ledger a request is the router's alone, and so is a request to another class.
-pub fn others_pass<R: Router>()
-    ensures { passing_law R.after R.answer }
+pub fn others_pass<R: Target>()
+    ensures { passing_law R.after R.answer R.standing }
 {}
 
 /// The numbers of an originator's executed commands rise, unless its slot is freed in between.
-pub fn numbers_rise<R: Router>()
-    ensures { rising_law R.after R.answer }
+pub fn numbers_rise<R: Target>()
+    ensures { rising_law R.after R.answer R.standing }
 {}
 
 /// No number of an originator is executed twice, unless its slot is freed in between.
-pub fn each_command_once<R: Router>()
-    ensures { once_law R.after R.answer }
+pub fn each_command_once<R: Target>()
+    ensures { once_law R.after R.answer R.standing }
 {}
 
 /// Once a number was answered with success, or with 0x0c as a greater one was executed, only greater numbers of its
 /// originator are executed, until its slot is freed.
-pub fn never_again<R: Router>()
-    ensures { never_again_law R.after R.answer }
+pub fn never_again<R: Target>()
+    ensures { never_again_law R.after R.answer R.standing }
 {}
 
 /// Every two success answers to a number have the same bytes, even if the requests have other bytes.
-pub fn same_bytes<R: Router>()
-    ensures { same_bytes_law R.after R.answer }
+pub fn same_bytes<R: Target>()
+    ensures { same_bytes_law R.after R.answer R.standing }
 {}
 
-/// From an empty ledger on, every success answer has the reply of the execution of its number.
-pub fn reply_of_execution<R: Router>()
-    ensures { of_execution_law R.after R.answer }
+/// From an empty ledger on, every success answer has the reply of the execution of its number, or says that the command
+/// is pending, which was executed too. If the router queues no command, it has the reply.
+pub fn reply_of_execution<R: Target>()
+    ensures any { of_execution_law R.after R.answer R.standing }
+    ensures unqueued { of_final_execution_law R.after R.answer R.standing }
 {}
 
 /// The requests of others leave an originator's slot as it is.
-pub fn others_leave_the_slot<R: Router>()
-    ensures { others_law R.after R.answer }
+pub fn others_leave_the_slot<R: Target>()
+    ensures { others_law R.after R.answer R.standing }
 {}
 
 /// A slot is freed only by Forget with the number that it has, and is free then.
-pub fn freed_by_its_number<R: Router>()
-    ensures { frees_law R.after R.answer }
+pub fn freed_by_its_number<R: Target>()
+    ensures { frees_law R.after R.answer R.standing }
 {}
 
-/// A new command is executed, if a slot is its originator's or free and the longest reply fits the reply limit.
-pub fn new_is_executed<R: Router>()
-    ensures { executes_law R.after R.answer }
+/// A new command is executed, if a slot is its originator's or free, the longest reply fits the reply limit, and the
+/// router takes it.
+pub fn new_is_executed<R: Target>()
+    ensures { executes_law R.after R.answer R.standing }
+{}
+
+/// What becomes of a new command is what the router makes of its embedded request: it is executed and kept with its
+/// reply, executed and kept with the ticket under which the router queues it, or refused, and then nothing changes.
+pub fn new_is_as_the_router_says<R: Target>()
+    ensures { standing_law R.after R.answer R.standing }
 {}
 
 /// Replies are well-formed if those of the router are.
-pub fn replies_are_well_formed<R: Router>()
-    ensures { form_law R.after R.answer }
+pub fn replies_are_well_formed<R: Target>()
+    ensures { form_law R.after R.answer R.standing }
 {}
 
 /// Only commands of the ledger's life are executed.
-pub fn only_in_its_life<R: Router>()
-    ensures { life_law R.after R.answer }
+pub fn only_in_its_life<R: Target>()
+    ensures { life_law R.after R.answer R.standing }
 {}
 
 /// Over any lives of a device with numbers of their own, each command is executed at most once altogether, unless its
 /// originator's slot is freed in between.
-pub fn once_over_all_lives<R: Router>()
-    ensures { lives_law R.after R.answer }
+pub fn once_over_all_lives<R: Target>()
+    ensures { lives_law R.after R.answer R.standing }
 {}
 
-/// A number that an originator's slot has, whether its command is done or in doubt, is never executed: until the slot is
-/// freed, only greater numbers of that originator are.
-pub fn kept_numbers_are_not_executed<R: Router>()
-    ensures { kept_law R.after R.answer }
+/// A number that an originator's slot has, whether its command is done, pending or in doubt, is never executed again:
+/// until the slot is freed, only greater numbers of that originator are.
+pub fn kept_numbers_are_not_executed<R: Target>()
+    ensures { kept_law R.after R.answer R.standing }
 {}
 
 /// A command in doubt is answered by its state, and is not executed: nothing changes.
-pub fn a_doubtful_command_is_not_executed<R: Router>()
-    ensures { doubt_law R.after R.answer }
+pub fn a_doubtful_command_is_not_executed<R: Target>()
+    ensures { doubt_law R.after R.answer R.standing }
 {}
 
 /// A command that was settled is answered by the reply that the owner gave, and is not executed: nothing changes.
-pub fn settled_is_answered<R: Router>()
-    ensures { settled_law R.after R.answer }
+pub fn settled_is_answered<R: Target>()
+    ensures { settled_law R.after R.answer R.standing }
 {}
 
 /// A command is settled once: no other reply is taken for it.
@@ -112,6 +123,35 @@ pub fn restored_is_kept()
 {}
 
 /// A command that a request would execute can be put in doubt, and is in doubt then.
-pub fn executed_can_be_in_doubt()
-    ensures { doubtable_law }
+pub fn executed_can_be_in_doubt<R: Target>()
+    ensures { doubtable_law R.standing }
+{}
+
+/// A pending command is answered by its state, and is not executed again: nothing changes.
+pub fn a_pending_command_is_not_executed<R: Target>()
+    ensures { pending_law R.after R.answer R.standing }
+{}
+
+/// Once a reply is given to the ticket of a pending command, the command is answered by this reply, and is not
+/// executed: nothing changes.
+pub fn completed_is_answered<R: Target>()
+    ensures { completed_law R.after R.answer R.standing }
+{}
+
+/// A ticket has one reply: no other one is taken for it.
+pub fn completed_once()
+    ensures { completed_once_law }
+{}
+
+/// The numbers in all slots stay as they are if a command is completed, so what is never executed stays so.
+pub fn completing_keeps_numbers()
+    ensures { completed_numbers_law }
+{}
+
+/// Every two success answers to a number have the same bytes, or the first says that the command is pending and the
+/// other one has the one result of the command, over every list of requests and of replies to tickets.
+pub fn answers_never_go_back<R: Target>()
+    ensures answers { never_back_law R.after R.answer R.standing }
+    ensures done { done_law R }
+    ensures pending { result_law R }
 {}

@@ -1,34 +1,36 @@
 //! The ledger: what it does with each request.
-ghost use Rattle.std.specs.Prelude.{◌≡◌, ◌<◌, ◌≤◌, ◌∷◌, ◌++◌, ◌+◌, ℕ, length, map, Some, None, IfOk, IfSome, option_map};
+ghost use Rattle.std.specs.Prelude.{◌≡◌, ◌≤◌, ◌∷◌, length, map, Some, IfOk, IfSome, option_map};
 ghost use Rattle.std.specs.Prelude.{unwrap_or, is_some, slice_get};
-ghost use Rattle.std.specs.Option.{option_copied};
 ghost use Rattle.cip_ledger.specs.Kept.{kept_in, with_life, restored, IsLedger};
-ghost use Rattle.cip_ledger.specs.Ledger.{empty_ledger, slot_of};
-ghost use Rattle.cip_ledger.specs.Reaching.{embedded_by};
+ghost use Rattle.cip_ledger.specs.Ledger.{empty_ledger};
 ghost use Rattle.cip_ledger.specs.Requests as requests;
 ghost use Rattle.cip_ledger.specs.Doubt.{doubtful_in, command_name, can_settle, settled, can_doubt, doubted};
-ghost use Rattle.cip_ledger.specs.Services.{do_command, Replies, Executes, KEPT_LIMIT};
+ghost use Rattle.cip_ledger.specs.Doubt.{is_kept_reply};
+ghost use Rattle.cip_ledger.specs.Pending.{can_complete, completed};
+ghost use Rattle.cip_ledger.specs.Services.{do_command, KEPT_LIMIT};
 ghost use Rattle.cip_ledger.specs.Services as services;
 ghost use Rattle.cip_ledger.specs.Slots.{IsFound};
-ghost use Rattle.cip_ledger.specs.Turn.{turn, turn_of, acted, after_embedded, embedded_reply, ActsAlone};
+ghost use Rattle.cip_ledger.specs.Standings.{at_router};
+ghost use Rattle.cip_ledger.specs.Turn.{turn, turn_of, acted, ActsAlone};
 ghost use Rattle.cip_ledger.specs.Verdicts.{action_in, Fits};
 ghost use Rattle.cip_ledger.specs.Views.{command_in, request_in};
 ghost use Rattle.cip_ledger.specs.AttributeValue.{values_in};
 
+mod commands;
 mod executing;
 
 use crate::attributes::{Attributes, class_value, write_single};
 use crate::doubt::DoubtfulCommand;
-use crate::reply::{
-    DONE, HEAD_SIZE, IN_DOUBT, LONGEST_DONE, answer, begin, size_fault, write_done,
-};
-use crate::request::{Command, LedgerRequest, SHORT_SIZE, is_barred, is_do_once};
+use crate::reply::{DONE, HEAD_SIZE, IN_DOUBT, LONGEST_DONE, PENDING, answer, begin, size_fault};
+use crate::request::{Command, LedgerRequest, SHORT_SIZE, is_do_once};
 use crate::service::{DO_ONCE, FORGET, GET_ATTRIBUTE_LIST, GET_ATTRIBUTE_SINGLE, GET_LAST};
 use crate::slot::{KEPT_LIMIT, Slot};
 use crate::slots::{MOST_ORIGINATORS, Slots};
 use crate::status::Status;
+use crate::target::Target;
 use byteorder::{ByteOrder, LittleEndian};
-use cip_objects::{REPLY_LIMIT, ReplyBuf, Router};
+use cip_objects::{REPLY_LIMIT, ReplyBuf};
+pub(crate) use commands::embedded_standing;
 use std::alloc::{AllocError, Global};
 use std::marker::Model;
 
@@ -36,27 +38,27 @@ use std::marker::Model;
 pub(crate) enum Verdict<'a> {
     /// It is refused.
     Refuses(Status),
-    /// It was executed before, with this reply.
-    Repeats(&'a [u8]),
-    /// It is in doubt whether it was executed before.
-    Doubts,
+    /// It is the last one of its originator: it has this state, and this is kept of its reply.
+    Repeats(u8, &'a [u8]),
     /// It is new, and is executed.
     Executes,
 }
 
-/// The last command of an originator, and the reply to it, as a slot keeps them.
+/// The last command of an originator, and the reply to it or its ticket, as a slot keeps them.
 #[derive(Clone, Copy, Debug)]
 pub struct KeptCommand<'a> {
     /// Whose command it is.
     pub originator: u64,
     /// The number of the command.
     pub number: u32,
-    /// The reply, at most 480 bytes. `None` if the command is in doubt.
+    /// The reply, at most 480 bytes. `None` if the command is pending or in doubt.
     pub reply: Option<&'a [u8]>,
+    /// The ticket of a command that is pending. A command without a reply and without a ticket is in doubt.
+    pub ticket: Option<u32>,
 }
 
-/// The ledger of a device: for each originator the last command that was executed, and its reply, or a command that is
-/// in doubt.
+/// The ledger of a device: for each originator the last command that was executed, and its reply or its ticket, or a
+/// command that is in doubt.
 ///
 /// A caller sees it as `LedgerState`: how many slots there are, the number of the device's life, and the taken slots.
 /// No call after `new` takes memory.
@@ -108,13 +110,13 @@ impl Ledger {
             None => self.slots.has_free(),
         };
         if is_new {
-            self.slots.doubt(index, originator, number);
+            self.slots.await_reply(index, originator, number, None);
         }
         is_new
     }
 
-    /// Settles a command in doubt: its kept reply is this one from now on, and a repeat of the command gets it. False if
-    /// this command is not in doubt, or if the reply does not have 4 to 480 bytes. Nothing has changed then.
+    /// Settles a command in doubt: its kept reply is this one from now on, and a repeat of the command gets it. False
+    /// if this command is not in doubt, or if the reply does not have 4 to 480 bytes. Nothing has changed then.
     ///
     /// `reply` is the whole reply that the embedded request should have had, with its head.
     ///
@@ -126,7 +128,7 @@ impl Ledger {
         ensures result { result ≡ can_settle self.old originator number reply.now }
         ensures state { self.new ≡ settled self.old originator number reply.now }
     {
-        if reply.len() < HEAD_SIZE || reply.len() > KEPT_LIMIT {
+        if !is_kept_reply(reply) {
             return false;
         }
         let index = self.position(originator);
@@ -138,6 +140,26 @@ impl Ledger {
             self.slots.keep(index, originator, number, reply);
         }
         is_doubtful
+    }
+
+    /// Keeps the reply to a pending command: it is done with this reply from now on, and a repeat of the command gets
+    /// it. `ticket` is the one that the router gave the command. False if no command is pending with this ticket, or if
+    /// the reply does not have 4 to 480 bytes. Nothing has changed then.
+    ///
+    /// `reply` is the whole reply to the embedded request, with its head.
+    ///
+    /// ```
+    /// // the command with ticket 7 is done: a success without data
+    /// ledger.complete(7, &[0xb2, 0, 0, 0]);
+    /// ```
+    pub fn complete(&mut self, ticket: u32, reply: &[u8]) -> bool
+        ensures result { result ≡ can_complete self.old ticket reply.now }
+        ensures state { self.new ≡ completed self.old ticket reply.now }
+    {
+        if !is_kept_reply(reply) {
+            return false;
+        }
+        self.slots.complete(ticket, reply)
     }
 
     /// The command at this place among those in doubt, from 0, `None` if there are fewer. A command that is settled is
@@ -179,7 +201,8 @@ impl Ledger {
         usize::from(self.slots.taken())
     }
 
-    /// The last command in a taken slot, by the slot's index in the order in which they were taken. `None` past the last.
+    /// The last command in a taken slot, by the slot's index in the order in which they were taken. `None` past the
+    /// last.
     pub fn slot(&self, index: usize) -> Option<KeptCommand<'_>>
         ensures kept { option_map kept_in result ≡ slice_get self.now.taken index }
         ensures short { IfSome result (λ kept. IfSome kept.reply (λ reply. length reply.now ≤ KEPT_LIMIT)) }
@@ -189,41 +212,48 @@ impl Ledger {
                 originator: slot.originator(),
                 number: slot.number(),
                 reply: slot.reply(),
+                ticket: slot.ticket(),
             }),
             None => None,
         }
     }
 
-    /// Puts the last command of an originator and its reply into a free slot, as they were kept, and returns whether it
-    /// did. Without a reply the command is in doubt. If no slot is free, the originator has one, or the reply has over
-    /// 480 bytes, nothing changes.
+    /// Puts the last command of an originator into a free slot, as it was kept, and returns whether it did. If no slot
+    /// is free, the originator has one, the reply has over 480 bytes, or there are both a reply and a ticket, nothing
+    /// changes.
     ///
     /// With this call a device starts from what was kept of its ledger, before it answers any peer.
     ///
     /// ```
     /// ledger.set_life(life);
-    /// let restored = ledger.restore(originator, number, Some(reply));
+    /// let restored = ledger.restore(KeptCommand { originator, number, reply: Some(reply), ticket: None });
     /// ```
-    pub fn restore(&mut self, originator: u64, number: u32, reply: Option<&[u8]>) -> bool
-        ensures restored { self.new
-            ≡ unwrap_or (restored (record { originator = originator; number = number; reply = option_copied reply.entry }) self.old)
-            self.old }
-        ensures reported { result
-            ≡ is_some (restored (record { originator = originator; number = number; reply = option_copied reply.entry }) self.old) }
+    pub fn restore(&mut self, kept: KeptCommand<'_>) -> bool
+        ensures restored { self.new ≡ unwrap_or (restored (kept_in kept.entry) self.old) self.old }
+        ensures reported { result ≡ is_some (restored (kept_in kept.entry) self.old) }
     {
-        let size = reply.map_or(0, |reply| reply.len());
+        let size = kept.reply.map_or(0, |reply| reply.len());
         if !self.slots.has_free() || size > KEPT_LIMIT {
             return false;
         }
-        let index = self.position(originator);
+        let index = self.position(kept.originator);
         if index.is_some() {
             return false;
         }
-        match reply {
-            Some(reply) => {
-                self.slots.keep(index, originator, number, reply);
+        match (kept.reply, kept.ticket) {
+            // a command that is done has no ticket
+            (Some(_), Some(_)) => return false,
+            (Some(reply), None) => {
+                self.slots.keep(index, kept.originator, kept.number, reply);
             }
-            None => self.slots.doubt(index, originator, number),
+            (None, Some(ticket)) => {
+                self.slots
+                    .await_reply(index, kept.originator, kept.number, Some(ticket));
+            }
+            (None, None) => {
+                self.slots
+                    .await_reply(index, kept.originator, kept.number, None);
+            }
         }
         true
     }
@@ -251,7 +281,8 @@ impl Ledger {
             return Verdict::Refuses(Status::ObjectStateConflict);
         }
         if command.number == slot.number() {
-            return verdict_on_repeat(slot);
+            let (state, kept) = last_state(slot);
+            return Verdict::Repeats(state, kept);
         }
         verdict_on_new(max_size)
     }
@@ -267,7 +298,7 @@ impl Ledger {
     /// Do_Once: executes a command that is new, and replies to one that was executed as it was replied to then. The
     /// arguments have the router's order.
     #[tactic(auto, unfolding(crate::specs::Services::do_once))]
-    fn do_once<R: Router>(
+    fn do_once<R: Target>(
         router: &mut R,
         data: &[u8],
         max_size: usize,
@@ -277,8 +308,8 @@ impl Ledger {
         requires max_size_from { 8 ≤ max_size }
         requires max_size_to { max_size ≤ REPLY_LIMIT }
         ensures rule { turn_of (Some ledger.new) router.new reply.new.items
-            ≡ acted R.after R.answer (services.do_once ledger.old max_size «data».now) DO_ONCE
-            (Some ledger.old) router.old }
+            ≡ acted R.after R.answer (at_router R.standing router.old (services.do_once ledger.old max_size «data».now))
+            DO_ONCE (Some ledger.old) router.old }
         ensures fits { length reply.new.items ≤ max_size }
     {
         // two numbers of 64 bits, one of 32, a request: 0x13 (ledger, ours)
@@ -290,66 +321,11 @@ impl Ledger {
         let index = ledger.position(command.originator);
         match ledger.verdict(command, index, max_size) {
             Verdict::Refuses(status) => begin(DO_ONCE, status, reply),
-            Verdict::Repeats(kept) => answer(DO_ONCE, &[DONE], kept, max_size, reply),
-            Verdict::Doubts => answer(DO_ONCE, &[IN_DOUBT], &[], max_size, reply),
+            Verdict::Repeats(state, kept) => answer(DO_ONCE, &[state], kept, max_size, reply),
             Verdict::Executes => {
                 let request = &data[Command::FRONT_SIZE..];
-                ledger.execute_command(router, command, request, index, reply);
+                ledger.take_command(router, command, request, index, reply);
             }
-        }
-    }
-
-    /// Executes a command that is new, and keeps its reply. `request` is the command's own.
-    fn execute_command<R: Router>(
-        &mut self,
-        router: &mut R,
-        command: Command<'_>,
-        request: &[u8],
-        index: Option<usize>,
-        reply: &mut ReplyBuf,
-    )
-        requires found { IsFound self.old.taken command.originator index }
-        requires free { slot_of command.originator self.old.taken ≡ None → length self.old.taken < self.old.slots }
-        requires own { request.now ≡ command.request.now }
-        requires request { 2 ≤ length request.now }
-        ensures rule { turn_of (Some self.new) router.new reply.new.items
-            ≡ acted R.after R.answer (Executes (command_in command.entry)) DO_ONCE (Some self.old) router.old }
-        ensures fits { length reply.new.items ≤ LONGEST_DONE }
-    {
-        execute_embedded(router, request, reply);
-        let index = self.slots.keep(index, command.originator, command.number, reply.as_slice());
-        write_done(self.slots.reply(index), reply);
-    }
-
-    /// The embedded request of a request to the ledger, if it would be executed and passed on to the router now.
-    #[tactic(auto, unfolding(crate::specs::Services::do_once))]
-    pub(crate) fn embedded_in<'a>(
-        &self,
-        request: LedgerRequest<'a>,
-        max_size: usize,
-    ) -> Option<&'a [u8]>
-        ensures { option_map (λ embedded. embedded.now) result
-            ≡ embedded_by (services.action_of self.now max_size (request_in request.entry)) }
-    {
-        if request.instance != 1 || request.service != DO_ONCE {
-            return None;
-        }
-        if request.data.len() < Command::SMALLEST {
-            return None;
-        }
-        self.passed_on(Command::read(request.data), max_size)
-    }
-
-    /// The embedded request of a command, if it would be executed and passed on to the router now.
-    fn passed_on<'a>(&self, command: Command<'a>, max_size: usize) -> Option<&'a [u8]>
-        ensures { option_map (λ embedded. embedded.now) result
-            ≡ embedded_by (do_command self.now max_size (command_in command.entry)) }
-    {
-        let index = self.position(command.originator);
-        match self.verdict(command, index, max_size) {
-            Verdict::Refuses(_) | Verdict::Repeats(_) | Verdict::Doubts => None,
-            Verdict::Executes if is_barred(command.request) => None,
-            Verdict::Executes => Some(command.request),
         }
     }
 
@@ -370,16 +346,9 @@ impl Ledger {
             return;
         };
         let [first, second, third, fourth] = slot.number().to_le_bytes();
-        match slot.reply() {
-            Some(kept) => {
-                let front = [first, second, third, fourth, DONE];
-                answer(GET_LAST, &front, kept, max_size, reply);
-            }
-            None => {
-                let front = [first, second, third, fourth, IN_DOUBT];
-                answer(GET_LAST, &front, &[], max_size, reply);
-            }
-        }
+        let (state, kept) = last_state(slot);
+        let front = [first, second, third, fourth, state];
+        answer(GET_LAST, &front, kept, max_size, reply);
     }
 
     /// Forget: frees the slot of an originator, if its last command has this number.
@@ -417,7 +386,7 @@ impl Ledger {
     }
 
     /// Serves a request to the instance.
-    fn serve_instance<R: Router>(
+    fn serve_instance<R: Target>(
         &mut self,
         router: &mut R,
         request: LedgerRequest<'_>,
@@ -427,7 +396,8 @@ impl Ledger {
         requires max_size_from { 8 ≤ max_size }
         requires max_size_to { max_size ≤ REPLY_LIMIT }
         ensures rule { turn_of (Some self.new) router.new reply.new.items
-            ≡ acted R.after R.answer (services.instance_action self.old max_size (request_in request.entry))
+            ≡ acted R.after R.answer
+            (at_router R.standing router.old (services.instance_action self.old max_size (request_in request.entry)))
             request.entry.service (Some self.old) router.old }
         ensures fits { length reply.new.items ≤ max_size }
     {
@@ -446,7 +416,7 @@ impl Ledger {
     }
 
     /// Serves a request to the ledger's class, by its instance.
-    fn serve<R: Router>(
+    fn serve<R: Target>(
         &mut self,
         router: &mut R,
         request: LedgerRequest<'_>,
@@ -456,7 +426,8 @@ impl Ledger {
         requires max_size_from { 8 ≤ max_size }
         requires max_size_to { max_size ≤ REPLY_LIMIT }
         ensures rule { turn_of (Some self.new) router.new reply.new.items
-            ≡ acted R.after R.answer (services.action_of self.old max_size (request_in request.entry))
+            ≡ acted R.after R.answer
+            (at_router R.standing router.old (services.action_of self.old max_size (request_in request.entry)))
             request.entry.service (Some self.old) router.old }
         ensures fits { length reply.new.items ≤ max_size }
     {
@@ -473,7 +444,7 @@ impl Ledger {
 /// Executes a request that may be one to the ledger's class, and leaves its reply in `reply`. The arguments have the
 /// router's order, so that a request which is the router's is passed on as it is.
 #[inline(never)]
-pub(crate) fn execute_by<R: Router>(
+pub(crate) fn execute_by<R: Target>(
     router: &mut R,
     request: &[u8],
     max_size: usize,
@@ -484,7 +455,7 @@ pub(crate) fn execute_by<R: Router>(
     requires max_size_from { 8 ≤ max_size }
     requires max_size_to { max_size ≤ REPLY_LIMIT }
     ensures rule { turn_of (Some ledger.new) router.new reply.new.items
-        ≡ turn R.after R.answer (Some ledger.old) router.old max_size request.now }
+        ≡ turn R.after R.answer R.standing (Some ledger.old) router.old max_size request.now }
     ensures fits { length reply.new.items ≤ max_size }
 {
     if is_do_once(request) {
@@ -497,7 +468,7 @@ pub(crate) fn execute_by<R: Router>(
 /// Executes a request as `execute_by` does, however it is spelled. It is a function of its own, so that Do_Once saves
 /// no registers for it.
 #[inline(never)]
-fn execute_any<R: Router>(
+fn execute_any<R: Target>(
     router: &mut R,
     request: &[u8],
     max_size: usize,
@@ -508,7 +479,7 @@ fn execute_any<R: Router>(
     requires max_size_from { 8 ≤ max_size }
     requires max_size_to { max_size ≤ REPLY_LIMIT }
     ensures rule { turn_of (Some ledger.new) router.new reply.new.items
-        ≡ turn R.after R.answer (Some ledger.old) router.old max_size request.now }
+        ≡ turn R.after R.answer R.standing (Some ledger.old) router.old max_size request.now }
     ensures fits { length reply.new.items ≤ max_size }
 {
     match LedgerRequest::read(request) {
@@ -537,16 +508,24 @@ fn serve_class(request: LedgerRequest<'_>, max_size: usize, reply: &mut ReplyBuf
     );
 }
 
-/// What is to be done with a command that has the number of this slot.
-fn verdict_on_repeat(slot: &Slot) -> Verdict<'_>
-    ensures action { (max_size : ℕ) → (command : requests.Command) → action_in max_size command result
-        ≡ Replies (services.within max_size (services.success (services.last_content slot.now.reply))) }
-    ensures fits { (max_size : ℕ) → Fits max_size result }
+/// Whether a reply has a head at least, and is no longer than one that a slot keeps.
+fn is_kept_reply(reply: &[u8]) -> bool
+    ensures { result ≡ is_kept_reply reply.now }
+{
+    HEAD_SIZE <= reply.len() && reply.len() <= KEPT_LIMIT
+}
+
+/// The state of the last command of a slot, and what is kept of the reply to it.
+fn last_state(slot: &Slot) -> (u8, &[u8])
+    ensures content { result.0 ∷ result.1.now ≡ services.last_content slot.now }
+    ensures fits { length result.1.now ≤ KEPT_LIMIT }
 {
     match slot.reply() {
-        Some(reply) => Verdict::Repeats(reply),
+        Some(kept) => (DONE, kept),
+        // what is in the queue is not executed again: state 1 (ledger, ours)
+        None if slot.ticket().is_some() => (PENDING, &[]),
         // what may have been executed is never executed again: state 2 (ledger, ours)
-        None => Verdict::Doubts,
+        None => (IN_DOUBT, &[]),
     }
 }
 
@@ -561,18 +540,4 @@ fn verdict_on_new(max_size: usize) -> Verdict<'static>
         return Verdict::Refuses(Status::ReplyDataTooLarge);
     }
     Verdict::Executes
-}
-
-/// Executes an embedded request, unless it goes to the Connection Manager or to the ledger.
-fn execute_embedded<R: Router>(router: &mut R, request: &[u8], reply: &mut ReplyBuf)
-    requires { 2 ≤ length request.now }
-    ensures router { router.new ≡ after_embedded R.after R.answer router.old request.now }
-    ensures reply { reply.new.items ≡ embedded_reply R.after R.answer router.old request.now }
-    ensures fits { length reply.new.items ≤ KEPT_LIMIT }
-{
-    if is_barred(request) {
-        begin(request[0], Status::ServiceNotSupported, reply);
-        return;
-    }
-    router.execute(request, KEPT_LIMIT, reply);
 }

@@ -6,8 +6,11 @@
 //! depends on connections, sessions or the order of requests. [`laws`] states what follows for whole lists of requests
 //! and for several lives of a device.
 //!
-//! A [`LedgerRouter`] is a ledger before any router that keeps the laws of `cip_objects::Router`, and such a router
-//! itself. Only `Ledger::new` allocates: 64 slots take some 32 KB.
+//! A router that has a queue puts some commands into it ([`Standing`]). Such a command is pending: the ledger keeps its
+//! ticket, answers that it is pending, and answers its reply once that is given to the ticket (`Ledger::complete`).
+//!
+//! A [`LedgerRouter`] is a ledger before any router that keeps the laws of `cip_objects::Router` and is a [`Target`],
+//! and a router itself. Only `Ledger::new` allocates: 64 slots take some 32 KB.
 //!
 //! ```
 //! let mut device = LedgerRouter {
@@ -21,6 +24,7 @@
 
 mod attributes;
 mod doubt;
+mod finishing;
 pub mod laws;
 mod ledger;
 mod reply;
@@ -30,6 +34,7 @@ mod service;
 mod slot;
 mod slots;
 mod status;
+mod target;
 
 pub use doubt::DoubtfulCommand;
 pub use ledger::{KeptCommand, Ledger};
@@ -38,3 +43,4 @@ pub use router::LedgerRouter;
 pub use service::{DO_ONCE, FORGET, GET_LAST};
 pub use slot::KEPT_LIMIT;
 pub use slots::MOST_ORIGINATORS;
+pub use target::{Standing, Target};

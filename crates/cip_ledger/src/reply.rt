@@ -13,8 +13,11 @@ use cip_objects::{REPLY_LIMIT, ReplyBuf};
 /// The bytes of a reply before its data.
 pub(crate) const HEAD_SIZE: usize = 4;
 
-/// The state byte of a command that is done. (1, pending, is kept for commands that wait.)
+/// The state byte of a command that is done.
 pub(crate) const DONE: u8 = 0;
+
+/// The state byte of a command that is pending: it is in the queue of the router.
+pub(crate) const PENDING: u8 = 1;
 
 /// The state byte of a command in doubt.
 pub(crate) const IN_DOUBT: u8 = 2;

@@ -1,7 +1,8 @@
 //! An originator's slot.
-ghost use Rattle.std.specs.Prelude.{◌≡◌, ◌≤◌, ℕ, List, length, Some, None, IfSome};
+ghost use Rattle.std.specs.Prelude.{◌≡◌, ◌≤◌, ℕ, List, length, Some, None, IfSome, if◌then◌else◌};
 ghost use Rattle.std.specs.Option.{option_copied};
 ghost use Rattle.cip_ledger.specs.Doubt.{is_doubtful};
+ghost use Rattle.cip_ledger.specs.Pending.{is_pending_at, completed_slot};
 ghost use Rattle.cip_ledger.specs.Services.{KEPT_LIMIT};
 
 use arrayvec::ArrayVec;
@@ -11,12 +12,14 @@ use std::marker::Model;
 /// The most bytes of a kept reply, and so the reply limit of an embedded request.
 pub const KEPT_LIMIT: usize = 480;
 
-/// An originator's slot: the last of its commands, and the reply to it, unless the command is in doubt.
+/// An originator's slot: the last of its commands, and the reply to it, unless the command is pending or in doubt. A
+/// pending one has a ticket.
 #[derive(Drop)]
 pub(crate) struct Slot {
     originator: u64,
     number: u32,
-    is_in_doubt: bool,
+    is_done: bool,
+    ticket: Option<u32>,
     reply: ArrayVec<u8, KEPT_LIMIT>,
 }
 
@@ -34,26 +37,31 @@ impl Slot {
     /// The slot of an originator whose last command has this number and this reply.
     pub(crate) fn new(originator: u64, number: u32, reply: &[u8]) -> Slot
         requires { length reply.now ≤ KEPT_LIMIT }
-        ensures { result ≡ record { originator = originator; number = number; reply = Some reply.now } }
+        ensures { result
+            ≡ record { originator = originator; number = number; reply = Some reply.now; ticket = None } }
     {
         let mut kept = ArrayVec::new();
         append(&mut kept, reply);
         Slot {
             originator,
             number,
-            is_in_doubt: false,
+            is_done: true,
+            ticket: None,
             reply: kept,
         }
     }
 
-    /// The slot of an originator whose last command has this number and is in doubt.
-    pub(crate) fn new_in_doubt(originator: u64, number: u32) -> Slot
-        ensures { result ≡ record { originator = originator; number = number; reply = None } }
+    /// The slot of an originator whose last command has this number and no reply: it is pending with this ticket, or in
+    /// doubt.
+    pub(crate) fn new_unanswered(originator: u64, number: u32, ticket: Option<u32>) -> Slot
+        ensures { result
+            ≡ record { originator = originator; number = number; reply = None; ticket = ticket } }
     {
         Slot {
             originator,
             number,
-            is_in_doubt: true,
+            is_done: false,
+            ticket,
             reply: ArrayVec::new(),
         }
     }
@@ -76,15 +84,25 @@ impl Slot {
     pub(crate) fn is_in_doubt(&self) -> bool
         ensures { result ≡ is_doubtful self.now }
     {
-        self.is_in_doubt
+        !self.is_done && self.ticket.is_none()
     }
 
-    /// The reply to the last command, `None` if that is in doubt.
+    /// The ticket of the last command, if that is pending.
+    pub(crate) fn ticket(&self) -> Option<u32>
+        ensures { result ≡ self.now.ticket }
+    {
+        if !self.is_done {
+            return self.ticket;
+        }
+        None
+    }
+
+    /// The reply to the last command, `None` if that is pending or in doubt.
     pub(crate) fn reply(&self) -> Option<&[u8]>
         ensures reply { option_copied result ≡ self.now.reply }
         ensures fits { IfSome result (λ reply. length reply.now ≤ KEPT_LIMIT) }
     {
-        if self.is_in_doubt {
+        if !self.is_done {
             return None;
         }
         Some(self.reply.as_slice())
@@ -101,20 +119,40 @@ impl Slot {
     /// Keeps the originator's next command and its reply.
     pub(crate) fn keep(&mut self, number: u32, reply: &[u8])
         requires { length reply.now ≤ KEPT_LIMIT }
-        ensures { self.new ≡ record self.old { number = number; reply = Some reply.now } }
+        ensures { self.new ≡ record self.old { number = number; reply = Some reply.now; ticket = None } }
     {
         self.number = number;
-        self.is_in_doubt = false;
+        self.is_done = true;
         keep_reply(&mut self.reply, reply);
     }
 
-    /// Puts the originator's next command in doubt.
-    pub(crate) fn doubt(&mut self, number: u32)
-        ensures { self.new ≡ record self.old { number = number; reply = None } }
+    /// Keeps the originator's next command without a reply: it is pending with this ticket, or in doubt.
+    pub(crate) fn await_reply(&mut self, number: u32, ticket: Option<u32>)
+        ensures { self.new ≡ record self.old { number = number; reply = None; ticket = ticket } }
     {
         self.number = number;
-        self.is_in_doubt = true;
+        self.is_done = false;
+        self.ticket = ticket;
         self.reply.clear();
+    }
+
+    /// Keeps the reply to the command with this ticket, if that is pending here, and returns whether it is.
+    pub(crate) fn complete(&mut self, ticket: u32, reply: &[u8]) -> bool
+        requires { length reply.now ≤ KEPT_LIMIT }
+        ensures result { result ≡ is_pending_at ticket self.old }
+        ensures slot { self.new ≡ completed_slot ticket reply.now self.old }
+    {
+        if self.is_done {
+            return false;
+        }
+        let Some(own) = self.ticket else {
+            return false;
+        };
+        if own != ticket {
+            return false;
+        }
+        self.keep(self.number, reply);
+        true
     }
 }
 

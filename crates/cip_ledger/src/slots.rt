@@ -1,8 +1,9 @@
 //! The slots of the originators. No call after `new` takes memory.
 ghost use Rattle.std.specs.Prelude.{◌≡◌, ℕ, List, ◌≤◌, ◌<◌, nat_lt, [], ◌∷◌, ◌++◌, length, option_map, Some, None};
-ghost use Rattle.std.specs.Prelude.{IfOk, IfSome, IfNone};
+ghost use Rattle.std.specs.Prelude.{IfOk, IfSome, IfNone, unwrap_or, ◌^◌};
 ghost use Rattle.std.specs.Prelude.{slice_index_or, slice_set, slice_get, map, filter};
 ghost use Rattle.cip_ledger.specs.Doubt.{is_doubtful, command_name};
+ghost use Rattle.cip_ledger.specs.Pending.{any_pending, completed_slot};
 ghost use Rattle.cip_ledger.specs.Ledger.{SlotState, slot_of, with_slot, without_slot, AreApart, AreSlots};
 ghost use Rattle.cip_ledger.specs.Services.{KEPT_LIMIT};
 ghost use Rattle.cip_ledger.specs.Slots.{slots_in, IsKeptAt, IsFound};
@@ -120,7 +121,8 @@ impl Slots {
         requires fits { length reply.now ≤ KEPT_LIMIT }
         ensures limit { self.new.limit ≡ self.old.limit }
         ensures taken { self.new.taken
-            ≡ with_slot (record { originator = originator; number = number; reply = Some reply.now }) self.old.taken }
+            ≡ with_slot (record { originator = originator; number = number; reply = Some reply.now; ticket = None })
+            self.old.taken }
         ensures index { IsKeptAt self.new.taken result reply.now }
     {
         let Some(index) = index else {
@@ -153,20 +155,39 @@ impl Slots {
         self.taken[index].kept()
     }
 
-    /// Puts an originator's next command in doubt, in the slot that was found at this index or in a free one.
-    pub(crate) fn doubt(&mut self, index: Option<usize>, originator: u64, number: u32)
+    /// Keeps the last command of an originator without a reply, pending with this ticket or in doubt, in the slot that
+    /// was found at this index or in a free one.
+    pub(crate) fn await_reply(
+        &mut self,
+        index: Option<usize>,
+        originator: u64,
+        number: u32,
+        ticket: Option<u32>,
+    )
         requires found { IsFound self.old.taken originator index }
         requires free { slot_of originator self.old.taken ≡ None → length self.old.taken < self.old.limit }
+        requires ticket { unwrap_or ticket 0 < 2 ^ 32 }
         ensures limit { self.new.limit ≡ self.old.limit }
         ensures taken { self.new.taken
-            ≡ with_slot (record { originator = originator; number = number; reply = None }) self.old.taken }
+            ≡ with_slot (record { originator = originator; number = number; reply = None; ticket = ticket })
+            self.old.taken }
     {
         let Some(index) = index else {
             self.taken
-                .push_reserved(Slot::new_in_doubt(originator, number));
+                .push_reserved(Slot::new_unanswered(originator, number, ticket));
             return;
         };
-        self.taken[index].doubt(number);
+        self.taken[index].await_reply(number, ticket);
+    }
+
+    /// Keeps the reply to the command with this ticket, wherever it is pending, and returns whether it is.
+    pub(crate) fn complete(&mut self, ticket: u32, reply: &[u8]) -> bool
+        requires { length reply.now ≤ KEPT_LIMIT }
+        ensures limit { self.new.limit ≡ self.old.limit }
+        ensures taken { self.new.taken ≡ map (completed_slot ticket reply.now) self.old.taken }
+        ensures result { result ≡ any_pending ticket self.old.taken }
+    {
+        complete_in(self.taken.as_mut_slice(), ticket, reply)
     }
 
     /// Frees the slot of an originator.
@@ -176,6 +197,20 @@ impl Slots {
     {
         self.taken.retain(|slot| slot.originator() != originator);
     }
+}
+
+/// Keeps the reply to the command with this ticket, wherever it is pending, and returns whether it is.
+fn complete_in(taken: &mut [Slot], ticket: u32, reply: &[u8]) -> bool
+    requires { length reply.now ≤ KEPT_LIMIT }
+    ensures taken { taken.new ≡ map (completed_slot ticket reply.now) taken.old }
+    ensures result { result ≡ any_pending ticket taken.old }
+{
+    let mut any = false;
+    for index in 0..taken.len() {
+        let was_pending = taken[index].complete(ticket, reply);
+        any = any || was_pending;
+    }
+    any
 }
 
 /// Where the slot of an originator is, `None` if it has none.

@@ -4,6 +4,7 @@ use Rattle.std.proofs.lemmas.Bool.{eqb-true}
 use Rattle.std.specs.Prelude.{is_ok}
 use Rattle.std.specs.Option.{option_and_then}
 use Rattle.cip_bytes.specs.Reading.{◌>>◌}
+use Rattle.cip_application.specs.declared.config.ServiceKind.TheVariants as kinds
 use Rattle.cip_application.specs.Configuration.{is_taken_class}
 use Rattle.cip_message.specs.declared.path.Path.{Path}
 use Rattle.cip_message.specs.declared.path.PathFault.{PathFault}
@@ -193,7 +194,7 @@ by_shape : (m : Contents) (q : Request) (p : Path) (asked : Asked) (attribute n 
 by_shape m q p asked attribute n None named e f g = absurd (cc)
 by_shape m q p asked attribute n (Some a) named e f g =
     let r = same_some (ask_set q p a) (Ok asked) f in
-    let made : Asked = record { class = p.class; instance = p.instance; service = q.service; attribute = p.attribute; content = q.data; reply_limit = 0 } in
+    let made : Asked = record { class = p.class; instance = p.instance; service = q.service; attribute = p.attribute; content = q.data; reply_limit = 0; kind = kinds.Asked } in
     let b = after_passed (check_set a.kind q.data) made asked r in
     let number : n ≡ attribute = same_some n attribute (sym named ∙ ap (λ x. x.attribute) b.1 ∙ g) in
     record {

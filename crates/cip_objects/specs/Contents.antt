@@ -3,10 +3,11 @@ use Rattle.std.specs.Prelude.{ℕ, Bool, List, [], Option, unwrap_or, refl}
 use Rattle.std.specs.FinMap.{get, insert, code}
 use Rattle.std.specs.Coded.{Coded, code_by, coded×, coded_ℕ, coded_bool, coded_list}
 use Rattle.cip_application.specs.declared.config.ServiceConfig.{ServiceConfig}
+use Rattle.cip_application.specs.declared.config.ServiceKind.{ServiceKind}
 use Rattle.cip_application.specs.declared.kind.AttributeKind.{AttributeKind}
 use Rattle.byteorder.specs.Endian.{little_number}
 use Rattle.cip_message.specs.declared.key.Device.{Device}
-use Rattle.cip_objects.specs.Kinds.{kind_code}
+use Rattle.cip_objects.specs.Kinds.{kind_code, service_kind_code}
 use Rattle.cip_objects.specs.ObjectMap.{Key, key, ObjectMap}
 use Rattle.cip_objects.specs.Tables.{Shape, AttributeShape, ObjectShape, Shapes}
 use Rattle.cip_objects.specs.Changes.{Tally, counted_in}
@@ -71,9 +72,10 @@ device_code =
 
 abbrev pub service_code : Coded ServiceConfig
 service_code =
-    code_by (ℕ × (ℕ × (ℕ × ℕ))) (coded× coded_ℕ (coded× coded_ℕ (coded× coded_ℕ coded_ℕ)))
-    (λ s. (s.number, (s.least, (s.most, s.reply))))
-    (λ p. record { number = p.0; least = p.1.0; most = p.1.1.0; reply = p.1.1.1 })
+    code_by (ℕ × (ℕ × (ℕ × (ℕ × ServiceKind))))
+    (coded× coded_ℕ (coded× coded_ℕ (coded× coded_ℕ (coded× coded_ℕ service_kind_code))))
+    (λ s. (s.number, (s.least, (s.most, (s.reply, s.kind)))))
+    (λ p. record { number = p.0; least = p.1.0; most = p.1.1.0; reply = p.1.1.1.0; kind = p.1.1.1.1 })
     (λ _. refl)
 
 abbrev pub attribute_code : Coded AttributeShape

@@ -1,7 +1,9 @@
--- How the kind of an attribute is stored.
+-- How the kinds of attributes and of services are stored.
 use Rattle.std.specs.Prelude.{◌≡◌, ℕ, ◌⊎◌, ◌==◌, if◌then◌else◌, Option, refl}
 use Rattle.std.proofs.Common.{inl, inr}
 use Rattle.std.specs.Coded.{Coded, code_by, coded×, coded⊎, coded_ℕ, coded_option}
+use Rattle.cip_application.specs.declared.config.ServiceKind.{ServiceKind}
+use Rattle.cip_application.specs.declared.config.ServiceKind.TheVariants as kinds
 use Rattle.cip_application.specs.declared.kind.AttributeKind.{AttributeKind}
 use Rattle.cip_application.specs.declared.kind.AttributeKind.TheVariants.{Fixed, ShortString}
 use Rattle.cip_application.specs.declared.number.NumberRange.{NumberRange}
@@ -70,3 +72,19 @@ same_kind (ShortString room) = refl
 abbrev pub kind_code : Coded AttributeKind
 kind_code =
     code_by ((ℕ × Option NumberRange) ⊎ ℕ) (coded⊎ (coded× coded_ℕ (coded_option range_code)) coded_ℕ) split join same_kind
+
+abbrev number_of_service_kind : ServiceKind → ℕ
+number_of_service_kind kinds.Asked = 0
+number_of_service_kind kinds.Queued = 1
+number_of_service_kind kinds.Result = 2
+
+abbrev service_kind_of_number : ℕ → ServiceKind
+service_kind_of_number n = if n == 0 then kinds.Asked else (if n == 1 then kinds.Queued else kinds.Result)
+
+pub same_service_kind : (k : ServiceKind) → service_kind_of_number (number_of_service_kind k) ≡ k
+same_service_kind kinds.Asked = refl
+same_service_kind kinds.Queued = refl
+same_service_kind kinds.Result = refl
+
+abbrev pub service_kind_code : Coded ServiceKind
+service_kind_code = code_by ℕ coded_ℕ number_of_service_kind service_kind_of_number same_service_kind

@@ -4,6 +4,8 @@ use Rattle.std.specs.Prelude.{◌≡◌, ℕ, ◌⊎◌, Bool, ◌==◌, ◌&&�
 use Rattle.std.specs.Prelude.{Option, Some, None, option_map, is_some, is_ok, Result, Ok, Err}
 use Rattle.std.specs.Option.{option_and_then}
 use Rattle.cip_application.specs.declared.config.ServiceConfig.{ServiceConfig}
+use Rattle.cip_application.specs.declared.config.ServiceKind.{ServiceKind}
+use Rattle.cip_application.specs.declared.config.ServiceKind.TheVariants as kinds
 use Rattle.cip_application.specs.declared.kind.AttributeKind.{AttributeKind}
 use Rattle.cip_application.specs.Configuration.{is_taken_class}
 use Rattle.cip_application.specs.Objects.{service_in}
@@ -24,8 +26,9 @@ use Rattle.cip_objects.specs.ObjectRef.{IsObjectIndex, object_in}
 use Rattle.cip_objects.specs.Router.{general_status}
 use Rattle.cip_objects.specs.Tables.{AttributeShape, ObjectShape, Shapes, object_at, attribute_at}
 
--- What the owner is asked: the object, the service, the attribute if the path names one, the service's data, and the
--- most bytes of the reply's data. The reply to a set has none.
+-- What the owner is asked: the object, the service, the attribute if the path names one, the service's data, the most
+-- bytes of the reply's data, and how the service is executed. The reply to a set has no data, and the owner is asked
+-- before it.
 pub record Asked : Type 0 where
   pub class : ℕ
   pub instance : ℕ
@@ -33,6 +36,7 @@ pub record Asked : Type 0 where
   pub attribute : Option ℕ
   pub content : List ℕ
   pub reply_limit : ℕ
+  pub kind : ServiceKind
 
 -- A request of the code, as one of the specification.
 abbrev pub asked_in : OwnRequest → Asked
@@ -43,6 +47,7 @@ asked_in q = record {
   attribute = q.attribute;
   content = q.data.now;
   reply_limit = q.reply_limit;
+  kind = q.kind;
 }
 
 -- The application object of this class with this instance number. None of them has a class of the adapter's own, and
@@ -86,9 +91,10 @@ check_service s content = do
   demand (nat_le s.least (length content)) NotEnoughData
   demand (nat_le (length content) s.most) TooMuchData
 
--- What is asked after these checks, by a request with this path and a reply whose data have at most this many bytes.
-abbrev pub asked_after : Result (Unit {0}) Refusal → Request → Path → ℕ → Result Asked Refusal
-asked_after checks q p reply_limit = do
+-- What is asked after these checks, by a request with this path, of a service of this kind and a reply whose data have
+-- at most this many bytes.
+abbrev pub asked_after : Result (Unit {0}) Refusal → Request → Path → ServiceKind → ℕ → Result Asked Refusal
+asked_after checks q p kind reply_limit = do
   checks
   Ok (record {
     class = p.class;
@@ -97,13 +103,14 @@ asked_after checks q p reply_limit = do
     attribute = p.attribute;
     content = q.data;
     reply_limit = reply_limit;
+    kind = kind;
   })
 
 abbrev pub ask_set : Request → Path → AttributeShape → Result Asked Refusal
-ask_set q p a = asked_after (check_set a.kind q.data) q p 0
+ask_set q p a = asked_after (check_set a.kind q.data) q p kinds.Asked 0
 
 abbrev pub ask_service : Request → Path → ServiceConfig → Result Asked Refusal
-ask_service q p s = asked_after (check_service s q.data) q p s.reply
+ask_service q p s = asked_after (check_service s q.data) q p s.kind s.reply
 
 -- What a request with this path asks. Set_Attribute_Single is 0x10.
 abbrev pub asked_of : Contents → Request → Path → Option (Result Asked Refusal)

@@ -3,6 +3,7 @@ use Rattle.std.specs.Prelude.{◌≡◌, ℕ, List, [], ◌∷◌, replicate, Op
 use Rattle.std.specs.Prelude.{option_map}
 use Rattle.std.proofs.Common.{ap}
 use Rattle.cip_application.specs.declared.config.ServiceConfig.{ServiceConfig}
+use Rattle.cip_application.specs.declared.config.ServiceKind.TheVariants as kinds
 use Rattle.cip_application.specs.declared.kind.AttributeKind.TheVariants.{Fixed, ShortString}
 use Rattle.cip_application.specs.declared.number.NumberRange.{NumberRange}
 use Rattle.cip_application.specs.declared.number.NumberType.TheVariants.{Uint}
@@ -22,16 +23,23 @@ speeds = record { number = Uint; least = 0; greatest = 3000 }
 abbrev pub speed : AttributeShape
 speed = record { number = 3; kind = Fixed 2 (Some speeds); settable = true; checked = true }
 
--- Two own services: 0x32 takes 4 bytes and answers up to 4, and 0x63 takes up to 480 bytes and answers up to 480.
+-- Own services: 0x32 takes 4 bytes and answers up to 4, and 0x63 takes up to 480 bytes and answers up to 480. 0x40 is
+-- queued, and 0x4e answers the results of what was queued.
 abbrev pub move : ServiceConfig
-move = record { number = 0x32; least = 4; most = 4; reply = 4 }
+move = record { number = 0x32; least = 4; most = 4; reply = 4; kind = kinds.Asked }
 
 abbrev pub load : ServiceConfig
-load = record { number = 0x63; least = 0; most = 480; reply = 480 }
+load = record { number = 0x63; least = 0; most = 480; reply = 480; kind = kinds.Asked }
+
+abbrev pub home : ServiceConfig
+home = record { number = 0x40; least = 0; most = 1; reply = 2; kind = kinds.Queued }
+
+abbrev pub get_result : ServiceConfig
+get_result = record { number = 0x4e; least = 4; most = 4; reply = 478; kind = kinds.Result }
 
 -- A service of the standard, which no configuration gives an object.
 abbrev pub standard : ServiceConfig
-standard = record { number = 0x31; least = 0; most = 0; reply = 0 }
+standard = record { number = 0x31; least = 0; most = 0; reply = 0; kind = kinds.Asked }
 
 abbrev pub conveyor : ObjectShape
 conveyor = record { class = 768; instance = 1; attributes = speed ∷ []; services = move ∷ load ∷ standard ∷ [] }
@@ -151,8 +159,41 @@ pub asked_to_move : ask_service (with_service 0x32 (1 ∷ 0 ∷ 0 ∷ 0 ∷ []))
       attribute = None;
       content = 1 ∷ 0 ∷ 0 ∷ 0 ∷ [];
       reply_limit = 4;
+      kind = kinds.Asked;
     })
 asked_to_move = refl
+
+pub queued_to_home : ask_service (with_service 0x40 (1 ∷ [])) (to_conveyor None) home ≡
+    Ok (record {
+      class = 768;
+      instance = 1;
+      service = 0x40;
+      attribute = None;
+      content = 1 ∷ [];
+      reply_limit = 2;
+      kind = kinds.Queued;
+    })
+queued_to_home = refl
+
+pub asked_for_a_result : ask_service (with_service 0x4e (7 ∷ 0 ∷ 0 ∷ 0 ∷ [])) (to_conveyor None) get_result ≡
+    Ok (record {
+      class = 768;
+      instance = 1;
+      service = 0x4e;
+      attribute = None;
+      content = 7 ∷ 0 ∷ 0 ∷ 0 ∷ [];
+      reply_limit = 478;
+      kind = kinds.Result;
+    })
+asked_for_a_result = refl
+
+pub result_of_a_short_ticket : ask_service (with_service 0x4e (7 ∷ 0 ∷ 0 ∷ [])) (to_conveyor None) get_result ≡
+    Err NotEnoughData
+result_of_a_short_ticket = refl
+
+pub result_of_a_long_ticket : ask_service (with_service 0x4e (7 ∷ 0 ∷ 0 ∷ 0 ∷ 0 ∷ [])) (to_conveyor None) get_result ≡
+    Err TooMuchData
+result_of_a_long_ticket = refl
 
 pub asked_to_set : ask_set (with_service 0x10 (0xb8 ∷ 0x0b ∷ [])) (to_conveyor (Some 3)) speed ≡
     Ok (record {
@@ -162,6 +203,7 @@ pub asked_to_set : ask_set (with_service 0x10 (0xb8 ∷ 0x0b ∷ [])) (to_convey
       attribute = Some 3;
       content = 0xb8 ∷ 0x0b ∷ [];
       reply_limit = 0;
+      kind = kinds.Asked;
     })
 unfolding numbers_of is_at_most
 asked_to_set = refl

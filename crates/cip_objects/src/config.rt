@@ -16,7 +16,7 @@ use thiserror::Error;
 const ASSEMBLY_LIMIT: usize = 16;
 
 /// The configuration of a device's objects.
-#[derive(Debug, Drop)]
+#[derive(Debug)]
 pub struct Config {
     /// The vendor ID, 16 bits.
     pub vendor: u16,
@@ -42,6 +42,26 @@ pub struct Config {
     pub assemblies: Vec<AssemblyConfig>,
     /// The application objects, at most 32.
     pub objects: Vec<ObjectConfig>,
+}
+
+// Written out, so that each exit of a function that owns one calls it, and has no drop of every part.
+impl Drop for Config {
+    fn drop(self) {
+        let Config {
+            vendor: _,
+            device_type: _,
+            product_code: _,
+            major: _,
+            minor: _,
+            serial: _,
+            name: _,
+            status: _,
+            state: _,
+            counter: _,
+            assemblies: _,
+            objects: _,
+        } = self;
+    }
 }
 
 /// The counter: whether the device has it, and its initial values.

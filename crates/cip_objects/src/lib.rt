@@ -40,7 +40,7 @@ mod service;
 mod status;
 mod value;
 
-pub use cip_application::AttributeName;
+pub use cip_application::{AttributeName, ServiceKind};
 pub use cip_bytes::protocol::{GeneralStatus, REPLY_LIMIT};
 pub use config::{AssemblyConfig, Config, ConfigFault, CounterConfig};
 pub use objects::Objects;

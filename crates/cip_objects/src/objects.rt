@@ -49,12 +49,24 @@ use std::marker::Model;
 /// objects.write_data(100, 0, &[0xaa, 0xbb]); // the device updates the data of assembly 100
 /// let data = objects.attribute(0x04, 100, 3); // what a peer reads
 /// ```
-#[derive(Debug, Drop)]
+#[derive(Debug)]
 pub struct Objects {
     identity: Identity,
     assemblies: BoxedSlice<Assembly>,
     counter: Counter,
     application: ApplicationObjects,
+}
+
+// Written out, so that each exit of a function that owns one calls it, and has no drop of every part.
+impl Drop for Objects {
+    fn drop(self) {
+        let Objects {
+            identity: _,
+            assemblies: _,
+            counter: _,
+            application: _,
+        } = self;
+    }
 }
 
 impl Model for Objects {

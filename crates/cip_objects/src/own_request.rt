@@ -10,7 +10,7 @@ ghost use Rattle.cip_objects.specs.OwnRequests.{asked_after, asked_of};
 
 use crate::objects::Objects;
 use crate::status::Refusal;
-use cip_application::{SERVICE_DATA_LIMIT, ServiceConfig, VALUE_LIMIT};
+use cip_application::{SERVICE_DATA_LIMIT, ServiceConfig, ServiceKind, VALUE_LIMIT};
 use cip_message::{Path, RequestView, read_path};
 
 /// The common service that sets an attribute (Volume 1, common services).
@@ -39,6 +39,8 @@ pub struct OwnRequest<'a> {
     pub data: &'a [u8],
     /// The most bytes of the reply's data, at most 480. A set has none.
     pub reply_limit: u16,
+    /// How the service is executed. The owner is asked before a set.
+    pub kind: ServiceKind,
 }
 
 impl Objects {
@@ -110,7 +112,7 @@ impl Objects {
         ensures small { IfSome result (λ r. IfOk r (λ q. q.reply_limit ≤ SERVICE_DATA_LIMIT)) }
     {
         let checks = self.check_checked(object_index, path.attribute?, request.data)?;
-        Some(asked_after(checks, request, path, 0))
+        Some(asked_after(checks, request, path, ServiceKind::Asked, 0))
     }
 
     /// What an own service of the application object at an index asks.
@@ -130,7 +132,7 @@ impl Objects {
     {
         let service = self.own_service(object_index, request.service)?;
         let checks = check_service(service, request.data);
-        Some(asked_after(checks, request, path, service.reply))
+        Some(asked_after(checks, request, path, service.kind, service.reply))
     }
 }
 
@@ -166,9 +168,10 @@ fn asked_after<'a>(
     checks: Result<(), Refusal>,
     request: RequestView<'a>,
     path: Path,
+    kind: ServiceKind,
     reply_limit: u16,
 ) -> Result<OwnRequest<'a>, Refusal>
-    ensures asked { map_ok asked_in result ≡ asked_after checks (view request.entry) path reply_limit }
+    ensures asked { map_ok asked_in result ≡ asked_after checks (view request.entry) path kind reply_limit }
     ensures same { IfOk result (λ q. q.data.now ≡ request.entry.data.now) }
     ensures limit { IfOk result (λ q. q.reply_limit ≡ reply_limit) }
 {
@@ -180,5 +183,6 @@ fn asked_after<'a>(
         attribute: path.attribute,
         data: request.data,
         reply_limit,
+        kind,
     })
 }

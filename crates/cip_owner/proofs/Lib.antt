@@ -1,2 +1,6 @@
+pub mod ListLemmas
+pub mod QueueLemmas
+pub mod TicketLemmas
+pub mod RunLemmas
 pub mod OwnedLemmas
 pub mod OwnerLemmas

@@ -1,18 +1,26 @@
 -- What the objects do with a request before the owner's reply is given.
-use Rattle.std.proofs.Common.{◌≡◌, ℕ, Bool, true, false, if◌then◌else◌, Option, Some, None, Result, List, slice_index, ap, sym, subst, refl, ◌∙◌, inl, inr, ◌⊎◌, arith}
+use Rattle.std.proofs.Common.{◌≡◌, ℕ, ◌+◌, Bool, true, false, if◌then◌else◌, nat_lt, Option, Some, None, option_map, Result, Ok, Err, List, [], slice_index, ap, sym, subst, refl, ◌∙◌, inl, inr, ◌⊎◌, arith}
 use Rattle.std.proofs.lemmas.Bool.Decides.{nat_tests}
 use Rattle.std.specs.Prelude.{is_some}
+use Rattle.cip_application.specs.declared.config.ServiceKind.{ServiceKind}
+use Rattle.cip_application.specs.declared.config.ServiceKind.TheVariants as kinds
+use Rattle.cip_bytes.specs.Numbers.{le}
 use Rattle.cip_objects.specs.declared.status.Refusal.{Refusal}
 use Rattle.cip_objects.specs.Contents.{Contents}
 use Rattle.cip_objects.specs.Execution.{exec}
 use Rattle.cip_objects.specs.OwnRequests.{Asked, own_request}
-use Rattle.cip_objects.specs.Router.{general_status}
+use Rattle.cip_objects.specs.Router.{general_status, REPLY_TOO_LARGE}
 use Rattle.cip_objects.proofs.OwnRequests.{own_is_refused}
 use Rattle.cip_objects.proofs.Refused.{refused}
 use Rattle.cip_owner.specs.Replies.{Reply}
 use Rattle.cip_owner.specs.Owned.{OwnedState, exec_owned, by_owner, own_executed, is_left, IsDone, IsTaken, is_fit, given}
-use Rattle.cip_owner.specs.Owned.{answered, after_reply, answer_with, refused_with, NOT_PREPARED}
+use Rattle.cip_owner.specs.Owned.{answered, after_reply, answer_with, refused_with, NOT_PREPARED, RESOURCE_UNAVAILABLE}
+use Rattle.cip_owner.specs.Owned.{ticket_by, queued, of_kind}
 use Rattle.cip_owner.specs.OwnedLaws.{exec_owned_plain}
+use Rattle.cip_owner.specs.Queue.{QueueState, takes, pushed, after_push}
+use Rattle.cip_owner.specs.QueueLaws.{queue_law}
+use Rattle.cip_owner.specs.QueueRuns.{after_steps, steps_of_kind, steps_of_own}
+use Rattle.cip_owner.proofs.QueueLemmas.{ticket_is, no_ticket, push_taken, push_refused}
 
 -- A request to the owner is executed by its own definition.
 pub exec_owned_own : (w : OwnedState) (max_size : ℕ) (text : List ℕ) (own : Result Asked Refusal)
@@ -131,17 +139,86 @@ other_executed w max_size text m first em ef e =
 -- What becomes of a prepared reply: it is given if it can be.
 by_fit : (w : OwnedState) (service : ℕ) (asked : Asked) (p : Reply) (fit : Bool) → is_fit asked p ≡ fit
     → given w service asked (Some p)
-    ≡ (if fit then answered (record { objects = after_reply w.objects asked p.status; prepared = None }) (answer_with service p.status p.content)
+    ≡ (if fit then answered (record w { objects = after_reply w.objects asked p.status; prepared = None }) (answer_with service p.status p.content)
     else refused_with (record w { prepared = None }) service NOT_PREPARED)
 by_fit w service asked p fit e =
-    ap (λ b. if b then answered (record { objects = after_reply w.objects asked p.status; prepared = None }) (answer_with service p.status p.content)
+    ap (λ b. if b then answered (record w { objects = after_reply w.objects asked p.status; prepared = None }) (answer_with service p.status p.content)
     else refused_with (record w { prepared = None }) service NOT_PREPARED) e
 
 pub given_fit : (w : OwnedState) (service : ℕ) (asked : Asked) (p : Reply) → w.prepared ≡ Some p → is_fit asked p ≡ true
     → given w service asked w.prepared
-    ≡ answered (record { objects = after_reply w.objects asked p.status; prepared = None }) (answer_with service p.status p.content)
+    ≡ answered (record w { objects = after_reply w.objects asked p.status; prepared = None }) (answer_with service p.status p.content)
 given_fit w service asked p e f = ap (given w service asked) e ∙ by_fit w service asked p true f
 
 pub given_unfit : (w : OwnedState) (service : ℕ) (asked : Asked) (p : Reply) → w.prepared ≡ Some p → is_fit asked p ≡ false
     → given w service asked w.prepared ≡ refused_with (record w { prepared = None }) service NOT_PREPARED
 given_unfit w service asked p e f = ap (given w service asked) e ∙ by_fit w service asked p false f
+
+-- A request that is put into the queue, if the queue takes it.
+queue_taken : (w : OwnedState) (service : ℕ) (asked : Asked) (q : QueueState) (taken : Bool) → w.queue ≡ Some q
+    → (if taken then answered (record w { queue = Some (pushed q asked) }) (answer_with service 0 (le 4 q.next))
+    else refused_with w service RESOURCE_UNAVAILABLE).after.queue
+    ≡ Some (if taken then pushed q asked else q)
+queue_taken w service asked q true e = refl
+queue_taken w service asked q false e = e
+
+queue_queued : (w : OwnedState) (service : ℕ) (asked : Asked) (queue : Option QueueState) → w.queue ≡ queue
+    → (queued w service asked queue).after.queue ≡ option_map (λ q. after_push q asked) queue
+queue_queued w service asked None e = e
+queue_queued w service asked (Some q) e = queue_taken w service asked q (takes q asked) e
+
+queue_given : (w : OwnedState) (service : ℕ) (asked : Asked) (prepared : Option Reply) → (given w service asked prepared).after.queue ≡ w.queue
+queue_given w service asked None = refl
+queue_given w service asked (Some p) = by (is_fit asked p)
+  where
+    by : (fit : Bool) → (if fit then answered (record w { objects = after_reply w.objects asked p.status; prepared = None }) (answer_with service p.status p.content)
+        else refused_with (record w { prepared = None }) service NOT_PREPARED).after.queue ≡ w.queue
+    by true = refl
+    by false = refl
+
+queue_asked : (w : OwnedState) (service : ℕ) (asked : Asked) (short : Bool)
+    → (if short then refused_with w service REPLY_TOO_LARGE else given w service asked w.prepared).after.queue ≡ w.queue
+queue_asked w service asked true = refl
+queue_asked w service asked false = queue_given w service asked w.prepared
+
+unchanged_queue : (queue : Option QueueState) → queue ≡ option_map (λ q. after_steps q []) queue
+unchanged_queue None = refl
+unchanged_queue (Some q) = refl
+
+queue_kind : (kind : ServiceKind) (w : OwnedState) (max_size service : ℕ) (asked : Asked)
+    → (of_kind kind w max_size service asked).after.queue ≡ option_map (λ q. after_steps q (steps_of_kind kind asked)) w.queue
+queue_kind kinds.Asked w max_size service asked =
+    queue_asked w service asked (nat_lt max_size (4 + asked.reply_limit)) ∙ unchanged_queue w.queue
+queue_kind kinds.Queued w max_size service asked = queue_queued w service asked w.queue refl
+queue_kind kinds.Result w max_size service asked = unchanged_queue w.queue
+
+queue_own : (w : OwnedState) (max_size : ℕ) (text : List ℕ) (own : Option (Result Asked Refusal))
+    → (by_owner w max_size text own).after.queue ≡ option_map (λ q. after_steps q (steps_of_own own)) w.queue
+queue_own w max_size text None = unchanged_queue w.queue
+queue_own w max_size text (Some (Err refusal)) = unchanged_queue w.queue
+queue_own w max_size text (Some (Ok asked)) = queue_kind asked.kind w max_size (slice_index text 0) asked
+
+pub queue : queue_law
+unfolding exec_owned
+queue w max_size text = queue_own w max_size text (own_request w.objects text)
+
+-- A request of a queued service, by the ticket that it would have.
+pub queued_some : (w : OwnedState) (service : ℕ) (asked : Asked) (queue : Option QueueState) (ticket : ℕ) → w.queue ≡ queue → ticket_by queue asked ≡ Some ticket
+    → queued w service asked queue
+    ≡ answered (record w { queue = option_map (λ q. after_push q asked) queue }) (answer_with service 0 (le 4 ticket))
+queued_some w service asked None ticket e f = absurd (cc)
+queued_some w service asked (Some q) ticket e f =
+    let is = ticket_is q asked ticket f in
+    ap (λ taken. if taken then answered (record w { queue = Some (pushed q asked) }) (answer_with service 0 (le 4 q.next)) else refused_with w service RESOURCE_UNAVAILABLE) is.0
+    ∙ ap (λ p. answered (record w { queue = Some p }) (answer_with service 0 (le 4 q.next))) (sym (push_taken q asked is.0))
+    ∙ ap (λ n. answered (record w { queue = Some (after_push q asked) }) (answer_with service 0 (le 4 n))) (sym is.1)
+
+pub queued_none : (w : OwnedState) (service : ℕ) (asked : Asked) (queue : Option QueueState) → w.queue ≡ queue → ticket_by queue asked ≡ None
+    → (queued w service asked queue ≡ refused_with w service RESOURCE_UNAVAILABLE)
+    × (option_map (λ q. after_push q asked) queue ≡ queue)
+queued_none w service asked None e f = (refl, refl)
+queued_none w service asked (Some q) e f =
+    let refused = no_ticket q asked f in (
+      ap (λ taken. if taken then answered (record w { queue = Some (pushed q asked) }) (answer_with service 0 (le 4 q.next)) else refused_with w service RESOURCE_UNAVAILABLE) refused,
+      ap (λ p. Some p) (push_refused q asked refused),
+    )

@@ -1,6 +1,9 @@
--- The objects, with a reply that the owner of the device prepared: what becomes of a request.
-use Rattle.std.specs.Prelude.{◌≡◌, ℕ, ◌+◌, ◌==◌, ◌&&◌, ◌||◌, Bool, true, false, not, nat_lt, nat_le, if◌then◌else◌, List, [], length, slice_index}
-use Rattle.std.specs.Prelude.{Option, Some, None, Result, Ok, Err}
+-- The objects, with a reply that the owner of the device prepared and the queue of commands: what becomes of a request.
+use Rattle.std.specs.Prelude.{◌≡◌, ℕ, ◌+◌, ◌==◌, ◌&&◌, ◌||◌, Bool, true, false, not, nat_lt, nat_le, if◌then◌else◌}
+use Rattle.std.specs.Prelude.{List, [], ◌∷◌, length, slice_index, Option, Some, None, Result, Ok, Err}
+use Rattle.cip_application.specs.declared.config.ServiceKind.{ServiceKind}
+use Rattle.cip_application.specs.declared.config.ServiceKind.TheVariants as kinds
+use Rattle.cip_bytes.specs.Numbers.{le}
 use Rattle.cip_bytes.specs.Protocol.{general_status_number}
 use Rattle.cip_message.specs.Reply.{reply, reply_of_fields, reply_service}
 use Rattle.cip_objects.specs.declared.status.Refusal.{Refusal}
@@ -10,9 +13,11 @@ use Rattle.cip_objects.specs.OwnRequests.{Asked, own_request, with_stored}
 use Rattle.cip_objects.specs.Router.{REPLY_TOO_LARGE}
 use Rattle.cip_objects.specs.Status.{refusal_status}
 use Rattle.cip_owner.specs.declared.owned.OwnedObjects.{OwnedObjects}
+use Rattle.cip_owner.specs.Queue.{QueueState, QueueResult, QueueOutcome, Pending, Done, Unknown}
+use Rattle.cip_owner.specs.Queue.{takes, next_ticket, pushed, result_of}
 use Rattle.cip_owner.specs.Replies.{Reply}
 
--- The objects, and the reply that is prepared.
+-- The objects, the reply that is prepared, and the queue of commands.
 abbrev pub OwnedState : Type 0
 OwnedState = OwnedObjects
 
@@ -20,12 +25,28 @@ OwnedState = OwnedObjects
 abbrev pub NOT_PREPARED : ℕ
 NOT_PREPARED = 0x10
 
+-- The queue does not take a command, or there is none: resource unavailable.
+abbrev pub RESOURCE_UNAVAILABLE : ℕ
+RESOURCE_UNAVAILABLE = 0x02
+
+-- An object has no command with a ticket: object does not exist.
+abbrev pub UNKNOWN_OBJECT : ℕ
+UNKNOWN_OBJECT = 0x16
+
+-- The owner is asked for services of this kind while the peer waits.
+abbrev pub is_asked : ServiceKind → Bool
+is_asked kinds.Asked = true
+is_asked kinds.Queued = false
+is_asked kinds.Result = false
+
 -- What the owner is asked by a request whose reply may have `max_size` bytes, if anything. There must be room for the
--- longest reply, as no reply of the owner may be too large.
+-- longest reply, as no reply of the owner may be too large. The owner is not asked for a service that is queued, nor
+-- for a result.
 abbrev pub asked_within : ℕ → Option (Result Asked Refusal) → Option Asked
 asked_within max_size None = None
 asked_within max_size (Some (Err refusal)) = None
-asked_within max_size (Some (Ok asked)) = if nat_lt max_size (4 + asked.reply_limit) then None else Some asked
+asked_within max_size (Some (Ok asked)) =
+    if not (is_asked asked.kind) || nat_lt max_size (4 + asked.reply_limit) then None else Some asked
 
 unfoldable pub asks : Contents → ℕ → List ℕ → Option Asked
 asks m max_size text = asked_within max_size (own_request m text)
@@ -67,26 +88,66 @@ abbrev pub given : OwnedState → ℕ → Asked → Option Reply → Executed
 given w service asked None = refused_with w service NOT_PREPARED
 given w service asked (Some reply) =
     if is_fit asked reply then
-    answered (record { objects = after_reply w.objects asked reply.status; prepared = None })
+    answered (record w { objects = after_reply w.objects asked reply.status; prepared = None })
     (answer_with service reply.status reply.content)
     else refused_with (record w { prepared = None }) service NOT_PREPARED
 
--- What becomes of a request to the owner: it is refused before the owner is asked, it leaves no room for the longest
--- reply, or it gets the prepared reply.
+-- A request that the owner is asked about leaves no room for the longest reply, or gets the prepared reply.
+abbrev pub asked_now : OwnedState → ℕ → ℕ → Asked → Executed
+asked_now w max_size service asked =
+    if nat_lt max_size (4 + asked.reply_limit) then refused_with w service REPLY_TOO_LARGE
+    else given w service asked w.prepared
+
+-- The ticket that a request would have in the queue. None if there is no queue, or if it does not take the request.
+abbrev pub ticket_by : Option QueueState → Asked → Option ℕ
+ticket_by None asked = None
+ticket_by (Some q) asked = next_ticket q asked
+
+-- A request that the queue takes is answered by its ticket. Any other is refused, and nothing changes.
+abbrev pub queued : OwnedState → ℕ → Asked → Option QueueState → Executed
+queued w service asked None = refused_with w service RESOURCE_UNAVAILABLE
+queued w service asked (Some q) =
+    if takes q asked then
+    answered (record w { queue = Some (pushed q asked) }) (answer_with service 0 (le 4 q.next))
+    else refused_with w service RESOURCE_UNAVAILABLE
+
+-- A result is answered by its state, 0, and then the owner's general status and data.
+abbrev pub done_answer : ℕ → ℕ → QueueResult → List ℕ
+done_answer max_size service r =
+    if nat_lt max_size (6 + length r.content) then answer_with service REPLY_TOO_LARGE []
+    else answer_with service 0 (0 ∷ r.status ∷ r.content)
+
+-- A command that waits is answered by its state, 1.
+abbrev pub outcome_answer : ℕ → ℕ → QueueOutcome → List ℕ
+outcome_answer max_size service Pending = answer_with service 0 (1 ∷ [])
+outcome_answer max_size service (Done r) = done_answer max_size service r
+outcome_answer max_size service Unknown = answer_with service UNKNOWN_OBJECT []
+
+-- The reply to Get_Result. It changes nothing.
+abbrev pub result_answer : ℕ → ℕ → Asked → Option QueueState → List ℕ
+result_answer max_size service asked None = answer_with service UNKNOWN_OBJECT []
+result_answer max_size service asked (Some q) = outcome_answer max_size service (result_of q asked)
+
+-- What becomes of a request of a service of this kind.
+abbrev pub of_kind : ServiceKind → OwnedState → ℕ → ℕ → Asked → Executed
+of_kind kinds.Asked w max_size service asked = asked_now w max_size service asked
+of_kind kinds.Queued w max_size service asked = queued w service asked w.queue
+of_kind kinds.Result w max_size service asked = answered w (result_answer max_size service asked w.queue)
+
+-- What becomes of a request to the owner: it is refused before the owner is asked, or executed by the kind of its
+-- service.
 abbrev pub own_executed : OwnedState → ℕ → ℕ → Result Asked Refusal → Executed
 own_executed w max_size service (Err refusal) =
     refused_with w service (general_status_number (refusal_status refusal))
-own_executed w max_size service (Ok asked) =
-    if nat_lt max_size (4 + asked.reply_limit) then refused_with w service REPLY_TOO_LARGE
-    else given w service asked w.prepared
+own_executed w max_size service (Ok asked) = of_kind asked.kind w max_size service asked
 
 abbrev pub by_owner : OwnedState → ℕ → List ℕ → Option (Result Asked Refusal) → Executed
 by_owner w max_size text None =
     answered (record w { objects = (exec w.objects max_size text).after }) (exec w.objects max_size text).answer
 by_owner w max_size text (Some own) = own_executed w max_size (slice_index text 0) own
 
--- Executes a request whose reply may have `max_size` bytes. A request to the owner gets the reply that is prepared;
--- every other request is executed by the objects.
+-- Executes a request whose reply may have `max_size` bytes. A request to the owner gets the reply that is prepared, is
+-- put into the queue, or gets the result of one that was; every other request is executed by the objects.
 unfoldable pub exec_owned : OwnedState → ℕ → List ℕ → Executed
 exec_owned w max_size text = by_owner w max_size text (own_request w.objects text)
 

@@ -1,23 +1,30 @@
 -- What holds of every execution by the objects and their owner.
-use Rattle.std.specs.Prelude.{◌≡◌, ℕ, ◌+◌, ◌≤◌, Bool, true, false, nat_lt, List, length}
+use Rattle.std.specs.Prelude.{◌≡◌, ℕ, ◌+◌, ◌≤◌, Bool, true, false, not, ◌||◌, nat_lt, List, [], ◌∷◌, length}
 use Rattle.std.specs.Prelude.{slice_index, Option, Some, None, Result, Ok, Err, refl, cond}
-use Rattle.std.proofs.Common.{ap, arith}
+use Rattle.std.proofs.Common.{ap, sym, ◌∙◌, arith}
 use Rattle.std.proofs.lemmas.Bool.Decides.{nat_tests}
+use Rattle.cip_application.specs.declared.config.ServiceKind.{ServiceKind}
+use Rattle.cip_application.specs.declared.config.ServiceKind.TheVariants as kinds
+use Rattle.cip_bytes.specs.Numbers.{le}
 use Rattle.cip_objects.specs.declared.status.Refusal.{Refusal}
+use Rattle.cip_objects.specs.Contents.{Contents}
 use Rattle.cip_objects.specs.Execution.{exec}
 use Rattle.cip_objects.specs.ExecutionLaws.{exec_too_large, exec_begins, exec_within}
 use Rattle.cip_objects.specs.OwnRequests.{Asked, own_request}
 use Rattle.cip_objects.specs.Router.{general_status, IsReplyTo, REPLY_TOO_LARGE}
+use Rattle.cip_owner.specs.Queue.{QueueState, QueueResult, QueueOutcome, Pending, Done, Unknown, takes, pushed}
+use Rattle.cip_owner.specs.Queue.{result_of}
 use Rattle.cip_owner.specs.Replies.{Reply}
 use Rattle.cip_owner.specs.Owned.{OwnedState, Executed, answered, exec_owned, by_owner, given, is_fit, after_reply}
-use Rattle.cip_owner.specs.Owned.{answer_with, refused_with, NOT_PREPARED}
+use Rattle.cip_owner.specs.Owned.{answer_with, refused_with, NOT_PREPARED, RESOURCE_UNAVAILABLE, is_asked, asks}
+use Rattle.cip_owner.specs.Owned.{asked_within, queued, outcome_answer, result_answer, of_kind}
 
 -- ---- a reply that is too large goes with an unchanged state
 
 abbrev given_by : (w : OwnedState) (service : ℕ) (asked : Asked) (r : Reply) (fit : Bool) → Executed
 given_by w service asked r fit =
     cond {A = Executed} fit
-    (answered (record { objects = after_reply w.objects asked r.status; prepared = None })
+    (answered (record w { objects = after_reply w.objects asked r.status; prepared = None })
     (answer_with service r.status r.content))
     (refused_with (record w { prepared = None }) service NOT_PREPARED)
 
@@ -42,6 +49,32 @@ too_large_asked : (w : OwnedState) (service : ℕ) (asked : Asked) (short : Bool
 too_large_asked w service asked true s = refl
 too_large_asked w service asked false s = too_large_given w service asked w.prepared s
 
+abbrev taken_by : OwnedState → ℕ → Asked → QueueState → Bool → Executed
+taken_by w service asked q taken =
+    cond {A = Executed} taken
+    (answered (record w { queue = Some (pushed q asked) }) (answer_with service 0 (le 4 q.next)))
+    (refused_with w service RESOURCE_UNAVAILABLE)
+
+too_large_taken : (w : OwnedState) (service : ℕ) (asked : Asked) (q : QueueState) (taken : Bool)
+    → general_status (taken_by w service asked q taken).answer ≡ REPLY_TOO_LARGE
+    → (taken_by w service asked q taken).after ≡ w
+too_large_taken w service asked q true s = absurd (omega (arith, s))
+too_large_taken w service asked q false s = refl
+
+too_large_queued : (w : OwnedState) (service : ℕ) (asked : Asked) (queue : Option QueueState)
+    → general_status (queued w service asked queue).answer ≡ REPLY_TOO_LARGE
+    → (queued w service asked queue).after ≡ w
+too_large_queued w service asked None s = refl
+too_large_queued w service asked (Some q) s = too_large_taken w service asked q (takes q asked) s
+
+too_large_kind : (kind : ServiceKind) (w : OwnedState) (max_size service : ℕ) (asked : Asked)
+    → general_status (of_kind kind w max_size service asked).answer ≡ REPLY_TOO_LARGE
+    → (of_kind kind w max_size service asked).after ≡ w
+too_large_kind kinds.Asked w max_size service asked s =
+    too_large_asked w service asked (nat_lt max_size (4 + asked.reply_limit)) s
+too_large_kind kinds.Queued w max_size service asked s = too_large_queued w service asked w.queue s
+too_large_kind kinds.Result w max_size service asked s = refl
+
 too_large_by : (w : OwnedState) (max_size : ℕ) (text : List ℕ) (own : Option (Result Asked Refusal))
     → general_status (by_owner w max_size text own).answer ≡ REPLY_TOO_LARGE
     → (by_owner w max_size text own).after ≡ w
@@ -49,7 +82,7 @@ too_large_by w max_size text None s =
     ap (λ m. record w { objects = m }) (exec_too_large w.objects max_size text s)
 too_large_by w max_size text (Some (Err refusal)) s = refl
 too_large_by w max_size text (Some (Ok asked)) s =
-    too_large_asked w (slice_index text 0) asked (nat_lt max_size (4 + asked.reply_limit)) s
+    too_large_kind asked.kind w max_size (slice_index text 0) asked s
 
 pub exec_owned_too_large : (w : OwnedState) (max_size : ℕ) (text : List ℕ)
     → general_status (exec_owned w max_size text).answer ≡ REPLY_TOO_LARGE → (exec_owned w max_size text).after ≡ w
@@ -73,11 +106,46 @@ begins_asked : (w : OwnedState) (text : List ℕ) (asked : Asked) (short : Bool)
 begins_asked w text asked true = record { head = omega arith; service = refl }
 begins_asked w text asked false = begins_given w text asked w.prepared
 
+begins_taken : (w : OwnedState) (text : List ℕ) (asked : Asked) (q : QueueState) (taken : Bool)
+    → IsReplyTo text (taken_by w (slice_index text 0) asked q taken).answer
+begins_taken w text asked q true = record { head = omega arith; service = refl }
+begins_taken w text asked q false = record { head = omega arith; service = refl }
+
+begins_queued : (w : OwnedState) (text : List ℕ) (asked : Asked) (queue : Option QueueState)
+    → IsReplyTo text (queued w (slice_index text 0) asked queue).answer
+begins_queued w text asked None = record { head = omega arith; service = refl }
+begins_queued w text asked (Some q) = begins_taken w text asked q (takes q asked)
+
+abbrev done_by : ℕ → QueueResult → Bool → List ℕ
+done_by service r short =
+    cond short (answer_with service REPLY_TOO_LARGE []) (answer_with service 0 (0 ∷ r.status ∷ r.content))
+
+begins_done : (text : List ℕ) (r : QueueResult) (short : Bool) → IsReplyTo text (done_by (slice_index text 0) r short)
+begins_done text r true = record { head = omega arith; service = refl }
+begins_done text r false = record { head = omega arith; service = refl }
+
+begins_outcome : (max_size : ℕ) (text : List ℕ) (outcome : QueueOutcome)
+    → IsReplyTo text (outcome_answer max_size (slice_index text 0) outcome)
+begins_outcome max_size text Pending = record { head = omega arith; service = refl }
+begins_outcome max_size text (Done r) = begins_done text r (nat_lt max_size (6 + length r.content))
+begins_outcome max_size text Unknown = record { head = omega arith; service = refl }
+
+begins_result : (max_size : ℕ) (text : List ℕ) (asked : Asked) (queue : Option QueueState)
+    → IsReplyTo text (result_answer max_size (slice_index text 0) asked queue)
+begins_result max_size text asked None = record { head = omega arith; service = refl }
+begins_result max_size text asked (Some q) = begins_outcome max_size text (result_of q asked)
+
+begins_kind : (kind : ServiceKind) (w : OwnedState) (max_size : ℕ) (text : List ℕ) (asked : Asked)
+    → IsReplyTo text (of_kind kind w max_size (slice_index text 0) asked).answer
+begins_kind kinds.Asked w max_size text asked = begins_asked w text asked (nat_lt max_size (4 + asked.reply_limit))
+begins_kind kinds.Queued w max_size text asked = begins_queued w text asked w.queue
+begins_kind kinds.Result w max_size text asked = begins_result max_size text asked w.queue
+
 begins_by : (w : OwnedState) (max_size : ℕ) (text : List ℕ) (own : Option (Result Asked Refusal))
     → IsReplyTo text (by_owner w max_size text own).answer
 begins_by w max_size text None = exec_begins w.objects max_size text
 begins_by w max_size text (Some (Err refusal)) = record { head = omega arith; service = refl }
-begins_by w max_size text (Some (Ok asked)) = begins_asked w text asked (nat_lt max_size (4 + asked.reply_limit))
+begins_by w max_size text (Some (Ok asked)) = begins_kind asked.kind w max_size text asked
 
 pub exec_owned_begins : (w : OwnedState) (max_size : ℕ) (text : List ℕ) → IsReplyTo text (exec_owned w max_size text).answer
 unfolding exec_owned
@@ -103,12 +171,46 @@ within_asked w max_size service asked true h e = omega (arith, h)
 within_asked w max_size service asked false h e =
     within_given w max_size service asked w.prepared h (grind (arith, nat_tests))
 
+within_taken : (w : OwnedState) (max_size service : ℕ) (asked : Asked) (q : QueueState) (taken : Bool) → 8 ≤ max_size
+    → length (taken_by w service asked q taken).answer ≤ max_size
+within_taken w max_size service asked q true h = omega (arith, h)
+within_taken w max_size service asked q false h = omega (arith, h)
+
+within_queued : (w : OwnedState) (max_size service : ℕ) (asked : Asked) (queue : Option QueueState) → 8 ≤ max_size
+    → length (queued w service asked queue).answer ≤ max_size
+within_queued w max_size service asked None h = omega (arith, h)
+within_queued w max_size service asked (Some q) h = within_taken w max_size service asked q (takes q asked) h
+
+within_done : (max_size service : ℕ) (r : QueueResult) (short : Bool) → 8 ≤ max_size
+    → nat_lt max_size (6 + length r.content) ≡ short → length (done_by service r short) ≤ max_size
+within_done max_size service r true h e = omega (arith, h)
+within_done max_size service r false h e = grind (arith, nat_tests)
+
+within_outcome : (max_size service : ℕ) (outcome : QueueOutcome) → 8 ≤ max_size
+    → length (outcome_answer max_size service outcome) ≤ max_size
+within_outcome max_size service Pending h = omega (arith, h)
+within_outcome max_size service (Done r) h =
+    within_done max_size service r (nat_lt max_size (6 + length r.content)) h refl
+within_outcome max_size service Unknown h = omega (arith, h)
+
+within_result : (max_size service : ℕ) (asked : Asked) (queue : Option QueueState) → 8 ≤ max_size
+    → length (result_answer max_size service asked queue) ≤ max_size
+within_result max_size service asked None h = omega (arith, h)
+within_result max_size service asked (Some q) h = within_outcome max_size service (result_of q asked) h
+
+within_kind : (kind : ServiceKind) (w : OwnedState) (max_size service : ℕ) (asked : Asked) → 8 ≤ max_size
+    → length (of_kind kind w max_size service asked).answer ≤ max_size
+within_kind kinds.Asked w max_size service asked h =
+    within_asked w max_size service asked (nat_lt max_size (4 + asked.reply_limit)) h refl
+within_kind kinds.Queued w max_size service asked h = within_queued w max_size service asked w.queue h
+within_kind kinds.Result w max_size service asked h = within_result max_size service asked w.queue h
+
 within_by : (w : OwnedState) (max_size : ℕ) (text : List ℕ) (own : Option (Result Asked Refusal)) → 8 ≤ max_size
     → length (by_owner w max_size text own).answer ≤ max_size
 within_by w max_size text None h = exec_within w.objects max_size text h
 within_by w max_size text (Some (Err refusal)) h = omega (arith, h)
 within_by w max_size text (Some (Ok asked)) h =
-    within_asked w max_size (slice_index text 0) asked (nat_lt max_size (4 + asked.reply_limit)) h refl
+    within_kind asked.kind w max_size (slice_index text 0) asked h
 
 pub exec_owned_within : (w : OwnedState) (max_size : ℕ) (text : List ℕ) → 8 ≤ max_size
     → length (exec_owned w max_size text).answer ≤ max_size
@@ -123,3 +225,31 @@ pub exec_owned_plain : (w : OwnedState) (max_size : ℕ) (text : List ℕ) → o
     ≡ answered (record w { objects = (exec w.objects max_size text).after }) (exec w.objects max_size text).answer
 unfolding exec_owned
 exec_owned_plain w max_size text e = ap (by_owner w max_size text) e
+
+-- ---- requests that the owner is asked about
+
+same_asked : (q asked : Asked) → ◌≡◌ {A = Option Asked} (Some q) (Some asked) → q ≡ asked
+same_asked q asked e = cc
+
+asks_kind : (q asked : Asked) (kind : ServiceKind) (short : Bool) → q.kind ≡ kind
+    → ◌≡◌ {A = Option Asked} (cond (not (is_asked kind) || short) None (Some q)) (Some asked)
+    → (q ≡ asked) × (asked.kind ≡ kinds.Asked)
+asks_kind q asked kinds.Asked true k e = absurd (cc)
+asks_kind q asked kinds.Asked false k e =
+    (same_asked q asked e, ap (λ x. x.kind) (sym (same_asked q asked e)) ∙ k)
+asks_kind q asked kinds.Queued short k e = absurd (cc)
+asks_kind q asked kinds.Result short k e = absurd (cc)
+
+asks_by : (max_size : ℕ) (own : Option (Result Asked Refusal)) (asked : Asked) → asked_within max_size own ≡ Some asked
+    → (own ≡ Some (Ok asked)) × (asked.kind ≡ kinds.Asked)
+asks_by max_size None asked e = absurd (cc)
+asks_by max_size (Some (Err refusal)) asked e = absurd (cc)
+asks_by max_size (Some (Ok q)) asked e =
+    let is = asks_kind q asked q.kind (nat_lt max_size (4 + q.reply_limit)) refl e in
+    (ap (λ x. Some (Ok x)) is.0, is.1)
+
+-- The owner is asked only about a request to it, of a service that is neither queued nor asks for a result.
+pub asks_own : (m : Contents) (max_size : ℕ) (text : List ℕ) (asked : Asked) → asks m max_size text ≡ Some asked
+    → (own_request m text ≡ Some (Ok asked)) × (asked.kind ≡ kinds.Asked)
+unfolding asks
+asks_own m max_size text asked e = asks_by max_size (own_request m text) asked e

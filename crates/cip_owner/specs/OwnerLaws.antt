@@ -15,7 +15,7 @@ given_law =
     (w : OwnedState) (max_size : ℕ) (text : List ℕ) (asked : Asked) (reply : Reply)
     → asks w.objects max_size text ≡ Some asked → is_fit asked reply ≡ true
     → exec_owned (with_prepared w (Some reply)) max_size text
-    ≡ answered (record { objects = after_reply w.objects asked reply.status; prepared = None })
+    ≡ answered (record w { objects = after_reply w.objects asked reply.status; prepared = None })
     (answer_with (slice_index text 0) reply.status reply.content)
 
 -- Any other request leaves what is prepared.

@@ -1,54 +1,99 @@
-//! The objects, with a reply that the owner of the device prepared.
+//! The objects, with a reply that the owner of the device prepared, and the queue of commands that wait for the owner.
 ghost use Rattle.std.specs.Prelude.{◌≡◌, ◌≤◌, [], length, None, is_some, IfSome, MatchOption};
 ghost use Rattle.std.specs.Option.{option_map};
 ghost use Rattle.cip_objects.specs.OwnRequests.{own_request, asked_in};
 ghost use Rattle.cip_objects.specs.Router.{general_status};
-ghost use Rattle.cip_owner.specs.Owned.{exec_owned, asks, answer_with, given, after_reply, is_left};
-ghost use Rattle.cip_owner.specs.Owned.{IsDone, IsTaken};
+ghost use Rattle.cip_owner.specs.Owned.{exec_owned, asks, is_asked, answer_with, given, asked_now, queued, ticket_by};
+ghost use Rattle.cip_owner.specs.Owned.{of_kind, result_answer, done_answer, after_reply, is_left, IsDone, IsTaken};
+ghost use Rattle.cip_owner.specs.Queue.{after_push};
+ghost use Rattle.cip_owner.specs.QueueViews.{result_in};
 
 use crate::owner::{OWNER_REPLY_LIMIT, OwnerReply};
+use crate::queue::{CommandResult, Outcome, Queue};
+use cip_application::QUEUED_REPLY_LIMIT;
+use cip_bytes::append;
 use cip_message::reply_service;
-use cip_objects::{GeneralStatus, Objects, OwnRequest, REPLY_LIMIT, ReplyBuf, Router};
+use cip_objects::{GeneralStatus, Objects, OwnRequest, REPLY_LIMIT, ReplyBuf, Router, ServiceKind};
 
 /// The service Set_Attribute_Single (Volume 1, common services).
 const SET_ATTRIBUTE_SINGLE: u8 = 0x10;
 
+/// The request was executed: success (Volume 1, general status codes).
+const SUCCESS: u8 = 0x00;
+
 /// No reply is prepared: device state conflict (Volume 1, general status codes).
 const NOT_PREPARED: u8 = 0x10;
+
+/// The queue does not take a command: resource unavailable (Volume 1, general status codes).
+const RESOURCE_UNAVAILABLE: u8 = 0x02;
+
+/// The object has no command with this ticket: object does not exist (Volume 1, general status codes).
+const UNKNOWN_OBJECT: u8 = 0x16;
+
+/// The state byte of a queued command that the owner finished, as in the command ledger.
+const DONE: u8 = 0;
+
+/// The state byte of a queued command that waits.
+const PENDING: u8 = 1;
 
 /// The bytes of a reply before its data.
 const HEAD_SIZE: usize = 4;
 
-/// The objects of a device, and the reply of its owner that is prepared, if one is.
+/// The bytes of the data of Get_Result's reply before the owner's: the state byte and the owner's general status.
+const RESULT_FRONT: usize = 2;
+
+/// The objects of a device, the reply of its owner that is prepared, if one is, and the queue of commands, if the
+/// device has one.
 ///
 /// ```
-/// let mut device = OwnedObjects::new(objects);
+/// let mut device = OwnedObjects::with_queue(objects, Some(Queue::new(alloc, 16)?));
 /// if let Some(asked) = device.asks(request, 504) {
 ///     device.prepared = owner.answer(&asked);
 /// }
 /// device.execute(request, 504, &mut reply); // the owner's reply, if it was asked
 /// ```
-#[derive(Drop)]
 pub struct OwnedObjects {
     /// The objects.
     pub objects: Objects,
     /// The reply that the next request to the owner takes.
     pub prepared: Option<OwnerReply>,
+    /// The queue of commands. Without one, queued services are answered "resource unavailable" (0x02).
+    pub queue: Option<Queue>,
+}
+
+// Written out, so that each exit of a function that owns one calls it, and has no drop of every part.
+impl Drop for OwnedObjects {
+    fn drop(self) {
+        let OwnedObjects {
+            objects: _,
+            prepared: _,
+            queue: _,
+        } = self;
+    }
 }
 
 impl OwnedObjects {
-    /// The objects, with no reply prepared.
+    /// The objects, with no reply prepared and without a queue.
     pub fn new(objects: Objects) -> OwnedObjects
-        ensures { result ≡ record { objects = objects; prepared = None } }
+        ensures { result ≡ record { objects = objects; prepared = None; queue = None } }
+    {
+        OwnedObjects::with_queue(objects, None)
+    }
+
+    /// The objects, with no reply prepared, and this queue.
+    pub fn with_queue(objects: Objects, queue: Option<Queue>) -> OwnedObjects
+        ensures { result ≡ record { objects = objects; prepared = None; queue = queue } }
     {
         OwnedObjects {
             objects,
             prepared: None,
+            queue,
         }
     }
 
     /// What the owner is asked by a request whose reply may have `max_size` bytes. `None` if the request is not to the
-    /// owner, is refused before the owner is asked, or leaves no room for the longest reply.
+    /// owner, is queued or asks for a result, is refused before the owner is asked, or leaves no room for the longest
+    /// reply.
     #[tactic(auto, unfolding(crate::specs::Owned::asks))]
     pub fn asks<'a>(&self, request: &'a [u8], max_size: usize) -> Option<OwnRequest<'a>>
         ensures asked { option_map asked_in result ≡ asks self.now.objects max_size request.now }
@@ -57,7 +102,7 @@ impl OwnedObjects {
         let Some(Ok(own)) = self.objects.own_request(request) else {
             return None;
         };
-        if max_size < HEAD_SIZE + usize::from(own.reply_limit) {
+        if !is_asked(own.kind) || max_size < HEAD_SIZE + usize::from(own.reply_limit) {
             return None;
         }
         Some(own)
@@ -88,17 +133,56 @@ impl OwnedObjects {
         match self.objects.own_request(request) {
             None => return false,
             Some(Err(refusal)) => answer(request[0], refusal.status().number(), &[], reply),
-            Some(Ok(own)) if max_size < HEAD_SIZE + usize::from(own.reply_limit) => {
-                answer(
-                    request[0],
-                    GeneralStatus::ReplyDataTooLarge.number(),
-                    &[],
-                    reply,
-                );
-            }
-            Some(Ok(own)) => self.give_prepared(own, request[0], reply),
+            Some(Ok(own)) => self.execute_by_kind(own, request[0], max_size, reply),
         }
         true
+    }
+
+    /// Executes a request to the owner, by the kind of its service.
+    fn execute_by_kind(
+        &mut self,
+        own: OwnRequest<'_>,
+        service: u8,
+        max_size: usize,
+        reply: &mut ReplyBuf,
+    )
+        ensures state { self.new ≡ (of_kind own.entry.kind self.old max_size service (asked_in own.entry)).after }
+        ensures reply { reply.new.items
+            ≡ (of_kind own.entry.kind self.old max_size service (asked_in own.entry)).answer }
+    {
+        match own.kind {
+            ServiceKind::Asked => self.ask(own, service, max_size, reply),
+            ServiceKind::Queued => self.enqueue(own, service, reply),
+            ServiceKind::Result => answer_result(&self.queue, own, service, max_size, reply),
+        }
+    }
+
+    /// Puts a request into the queue, and answers its ticket.
+    fn enqueue(&mut self, own: OwnRequest<'_>, service: u8, reply: &mut ReplyBuf)
+        ensures state { self.new ≡ (queued self.old service (asked_in own.entry) self.old.queue).after }
+        ensures reply { reply.new.items ≡ (queued self.old service (asked_in own.entry) self.old.queue).answer }
+    {
+        match push(&mut self.queue, own) {
+            Some(ticket) => answer(service, SUCCESS, &u32::to_le_bytes(ticket), reply),
+            None => answer(service, RESOURCE_UNAVAILABLE, &[], reply),
+        }
+    }
+
+    /// Asks the owner: the request gets the reply that is prepared, if there is room for the longest reply.
+    fn ask(&mut self, own: OwnRequest<'_>, service: u8, max_size: usize, reply: &mut ReplyBuf)
+        ensures state { self.new ≡ (asked_now self.old max_size service (asked_in own.entry)).after }
+        ensures reply { reply.new.items ≡ (asked_now self.old max_size service (asked_in own.entry)).answer }
+    {
+        if max_size < HEAD_SIZE + usize::from(own.reply_limit) {
+            answer(
+                service,
+                GeneralStatus::ReplyDataTooLarge.number(),
+                &[],
+                reply,
+            );
+            return;
+        }
+        self.give_prepared(own, service, reply);
     }
 
     /// Gives a request to the owner the reply that is prepared. A set that the owner accepts is stored.
@@ -172,6 +256,66 @@ fn may_be_to_owner(reply: &[u8]) -> bool
     let status = reply[2];
     status == GeneralStatus::ServiceNotSupported.number()
         || status == GeneralStatus::AttributeNotSettable.number()
+}
+
+/// Whether the owner is asked for services of this kind while the peer waits.
+fn is_asked(kind: ServiceKind) -> bool
+    ensures { result ≡ is_asked kind }
+{
+    match kind {
+        ServiceKind::Asked => true,
+        ServiceKind::Queued | ServiceKind::Result => false,
+    }
+}
+
+/// Puts a request into the queue, if there is one and it takes the request, and returns the ticket.
+fn push(queue: &mut Option<Queue>, own: OwnRequest<'_>) -> Option<u32>
+    ensures ticket { result ≡ ticket_by queue.old (asked_in own.entry) }
+    ensures state { queue.new ≡ option_map (λ q. after_push q (asked_in own.entry)) queue.old }
+{
+    match queue {
+        Some(queue) => queue.push(own),
+        None => None,
+    }
+}
+
+/// Get_Result: answers the result of a command that was put into the queue.
+fn answer_result(
+    queue: &Option<Queue>,
+    own: OwnRequest<'_>,
+    service: u8,
+    max_size: usize,
+    reply: &mut ReplyBuf,
+)
+    ensures { reply.new.items ≡ result_answer max_size service (asked_in own.entry) queue.now }
+{
+    let Some(queue) = queue else {
+        answer(service, UNKNOWN_OBJECT, &[], reply);
+        return;
+    };
+    match queue.result_of(own) {
+        Outcome::Pending => answer(service, SUCCESS, &[PENDING], reply),
+        Outcome::Done(finished) => answer_done(finished, service, max_size, reply),
+        Outcome::Unknown => answer(service, UNKNOWN_OBJECT, &[], reply),
+    }
+}
+
+/// Answers the result of a command that the owner finished, if it fits.
+fn answer_done(finished: CommandResult<'_>, service: u8, max_size: usize, reply: &mut ReplyBuf)
+    requires { length finished.data.now ≤ QUEUED_REPLY_LIMIT }
+    ensures { reply.new.items ≡ done_answer max_size service (result_in finished.entry) }
+{
+    if max_size < HEAD_SIZE + RESULT_FRONT + finished.data.len() {
+        answer(
+            service,
+            GeneralStatus::ReplyDataTooLarge.number(),
+            &[],
+            reply,
+        );
+        return;
+    }
+    answer(service, SUCCESS, &[DONE, finished.status], reply);
+    append(reply, finished.data);
 }
 
 /// Writes a reply to a request with this service.

@@ -14,5 +14,5 @@ pub objects_fail : {T U : Type 0} (text : List ℕ) (described : Configuration) 
     → r ≡ Err check → IsErr returned × IsErrAnd returned (λ f. f ≡ fault_of_objects check) → IfErr returned (IsFaultOf text)
 objects_fail text described r check (Ok x) read allowed is gives = tt
 objects_fail text described r check (Err fault) read allowed is gives =
-    let none : check ≡ Memory = subst (λ s. IfErr s (λ f. f ≡ Memory)) is (allowed read.taken) in
+    let none : check ≡ Memory = subst (λ s. IfErr s (λ f. f ≡ Memory)) is (allowed read.listed.taken) in
     rw (gives.1, none) tt

@@ -1,8 +1,9 @@
 -- The adapter of a configuration.
 use Rattle.std.specs.Prelude.{◌≡◌, ℕ, List, Option, None, Some, option_map}
-use Rattle.cip_ledger.specs.Device.{device_of}
+use Rattle.cip_ledger.specs.Device.{Device, queued_device}
 use Rattle.cip_ledger.specs.Ledger.{LedgerState, empty_ledger}
 use Rattle.cip_objects.specs.Configuration.{contents_of_config}
+use Rattle.cip_owner.specs.Queue.{QueueState, empty_queue}
 use Rattle.enip_adapter.specs.declared.adapter.Limits.{Limits}
 use Rattle.enip_adapter.specs.declared.shared.Listen.{Listen}
 use Rattle.enip_adapter.specs.Adapter.{new_adapter, shared_adapter}
@@ -13,6 +14,7 @@ use Rattle.enip_access.specs.Access.{share_or}
 use Rattle.enip_access.specs.declared.access.Access.{Access}
 use Rattle.enip_config.specs.declared.configuration.Configuration.{Configuration}
 use Rattle.enip_config.specs.declared.ledger.LedgerConfig.{LedgerConfig}
+use Rattle.enip_config.specs.Commands.{queue_limit}
 use Rattle.enip_config.specs.Documents.{IsDescribed}
 
 -- the address and port that ListIdentity reports
@@ -45,25 +47,31 @@ with_life life ledger = record ledger { life = life }
 abbrev pub in_life : ℕ → Option LedgerConfig → Option LedgerConfig
 in_life life ledger = option_map (with_life life) ledger
 
+-- an empty queue, if a service is queued
+abbrev pub queue_from : Option ℕ → Option QueueState
+queue_from limit = option_map empty_queue limit
+
+-- the device, with this ledger
+abbrev pub device_from : Option LedgerConfig → Configuration → Device
+device_from ledger c = queued_device (ledger_from ledger) (contents_of_config c.objects) (queue_from (queue_limit c))
+
 -- a new adapter, as a text describes it
 abbrev pub IsAdapterOf : List ℕ → AdapterState → Type 0
 IsAdapterOf text adapter =
     (c : Configuration) × (IsDescribed text c
-    × (adapter ≡ shared_adapter (device_of (ledger_from c.ledger) (contents_of_config c.objects)) (listen_of c) (limits_of c)
-    (shares_from c.access)))
+    × (adapter ≡ shared_adapter (device_from c.ledger c) (listen_of c) (limits_of c) (shares_from c.access)))
 
 -- the same, without the shares of the table `access`
 abbrev pub IsUnsharedAdapterOf : List ℕ → AdapterState → Type 0
 IsUnsharedAdapterOf text adapter =
     (c : Configuration) × (IsDescribed text c
-    × (adapter ≡ new_adapter (device_of (ledger_from c.ledger) (contents_of_config c.objects)) (listen_of c) (limits_of c)))
+    × (adapter ≡ new_adapter (device_from c.ledger c) (listen_of c) (limits_of c)))
 
 -- the same, in a life of this number
 abbrev pub IsAdapterInLife : ℕ → List ℕ → AdapterState → Type 0
 IsAdapterInLife life text adapter =
     (c : Configuration) × (IsDescribed text c × (adapter
-    ≡ shared_adapter (device_of (ledger_from (in_life life c.ledger)) (contents_of_config c.objects)) (listen_of c) (limits_of c)
-    (shares_from c.access)))
+    ≡ shared_adapter (device_from (in_life life c.ledger) c) (listen_of c) (limits_of c) (shares_from c.access)))
 
 -- the text is a configuration that the objects accept
 abbrev pub IsAccepted : List ℕ → Type 0

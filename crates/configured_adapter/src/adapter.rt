@@ -2,14 +2,17 @@
 //! Text: docs/PROGRAM.md, "The configuration".
 
 ghost use Rattle.std.specs.Prelude.{◌≡◌, ◌≤◌, IfOk, IfErr, IfSome};
-ghost use Rattle.cip_ledger.specs.Device.{device_of};
+ghost use Rattle.cip_ledger.specs.Device.{queued_device};
 ghost use Rattle.enip_adapter.specs.Adapter.{shared_adapter};
-ghost use Rattle.configured_adapter.specs.Configured.{IsAccepted, IsAdapterInLife, IsAdapterOf, IsUnsharedAdapterOf, in_life, ledger_from, limits_of, listen_of, shares_from};
+ghost use Rattle.configured_adapter.specs.Configured.{IsAccepted, IsAdapterInLife, IsAdapterOf, IsUnsharedAdapterOf, in_life, ledger_from};
+ghost use Rattle.configured_adapter.specs.Configured.{queue_from, limits_of, listen_of, shares_from};
+ghost use Rattle.enip_config.specs.Commands.{queue_limit};
 ghost use Rattle.enip_config.specs.Access.{HasShares};
-ghost use Rattle.enip_config.specs.Documents.{IsFaultOf, IsInRange, AreSharesInRange};
+ghost use Rattle.enip_config.specs.Documents.{IsFaultOf, IsInRange, IsQueueInRange, AreSharesInRange};
 
 use cip_ledger::Ledger;
 use cip_objects::Objects;
+use cip_owner::Queue;
 use enip_access::Access;
 use enip_adapter::{Adapter, Limits, Listen, Shares};
 use enip_config::{Configuration, LedgerConfig, LoadFault};
@@ -82,7 +85,8 @@ fn in_life(life: u64, ledger: Option<LedgerConfig>) -> Option<LedgerConfig>
     }
 }
 
-/// Makes the adapter of a configuration, over its objects, with a ledger before them if there is one, and these shares.
+/// Makes the adapter of a configuration, over its objects, with a ledger before them if there is one, with a queue if a
+/// service is queued, and with these shares.
 fn adapter_of(
     alloc: Global,
     objects: Objects,
@@ -91,13 +95,15 @@ fn adapter_of(
     shares: Shares,
 ) -> Result<Adapter, AllocError>
     requires numbers { IsInRange configuration.now }
+    requires queue { IsQueueInRange configuration.now }
     requires peers_from { 1 ≤ shares.peers }
     requires peers_to { shares.peers ≤ 16 }
     requires connections_from { 1 ≤ shares.connections }
     requires connections_to { shares.connections ≤ 64 }
     requires ledger_from { IfSome ledger (λ l. 1 ≤ l.originators) }
     requires ledger_to { IfSome ledger (λ l. l.originators ≤ 64) }
-    ensures { IfOk result (λ adapter. adapter ≡ shared_adapter (device_of (ledger_from ledger) objects)
+    ensures { IfOk result (λ adapter. adapter
+        ≡ shared_adapter (queued_device (ledger_from ledger) objects (queue_from (queue_limit configuration.now)))
         (listen_of configuration.now) (limits_of configuration.now) shares) }
 {
     let listen = Listen {
@@ -111,7 +117,8 @@ fn adapter_of(
         first_id: configuration.first_id,
     };
     let ledger = ledger_from(alloc, ledger)?;
-    Adapter::shared(alloc, objects, ledger, listen, limits, shares)
+    let queue = queue_from(alloc, configuration.queue_limit())?;
+    Adapter::queued(alloc, objects, ledger, queue, listen, limits, shares)
 }
 
 /// How many peers and connections one address may have at a time, by the table `access` of a configuration. Without the
@@ -147,5 +154,16 @@ fn ledger_from(alloc: Global, ledger: Option<LedgerConfig>) -> Result<Option<Led
     match ledger {
         None => Ok(None),
         Some(ledger) => Ok(Some(Ledger::new(alloc, ledger.originators, ledger.life)?)),
+    }
+}
+
+/// An empty queue, if a service is queued.
+fn queue_from(alloc: Global, limit: Option<u16>) -> Result<Option<Queue>, AllocError>
+    requires { IfSome limit (λ n. n ≤ 256) }
+    ensures { IfOk result (λ made. made ≡ queue_from limit) }
+{
+    match limit {
+        None => Ok(None),
+        Some(limit) => Ok(Some(Queue::new(alloc, limit)?)),
     }
 }

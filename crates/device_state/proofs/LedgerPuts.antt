@@ -1,5 +1,5 @@
 -- The ledger that is put back.
-use Rattle.std.proofs.Common.{◌≡◌, ℕ, suc, ◌+◌, ◌^◌, ◌<◌, ◌≤◌, ◌≡◌, eqb, nat_lt, false, cond, List, [], ◌∷◌, ◌++◌, length, append_assoc, Option, Some, None, sym, ap, ◌∙◌, arith}
+use Rattle.std.proofs.Common.{◌≡◌, ℕ, suc, ◌+◌, ◌^◌, ◌<◌, ◌≤◌, ◌≡◌, eqb, nat_lt, false, cond, ◌&&◌, is_some, unwrap_or, List, [], ◌∷◌, ◌++◌, length, append_assoc, Option, Some, None, sym, ap, ◌∙◌, arith}
 use Rattle.std.proofs.lemmas.Bool.Decides.{nat_tests}
 use Rattle.std.proofs.lemmas.List.{append-nil, length-append}
 use Rattle.byteorder.specs.Numbers.{little_number-reads_back}
@@ -33,27 +33,39 @@ life_put m slots old life h =
 long : (n : ℕ) → nat_lt (13 + n) 13 ≡ false
 long n = grind (arith, nat_tests)
 
-abbrev slot_of : ℕ → ℕ → Option (List ℕ) → SlotState
-slot_of originator number reply = record { originator = originator; number = number; reply = reply }
+abbrev slot_of : ℕ → ℕ → Option (List ℕ) → Option ℕ → SlotState
+slot_of originator number reply ticket = record { originator = originator; number = number; reply = reply; ticket = ticket }
 
-slot_back_by : (o n : ℕ) (reply : Option (List ℕ)) → o < 2 ^ 64 → n < 2 ^ 32 → slot_in (slot_bytes (slot_of o n reply)) ≡ Some (slot_of o n reply)
-slot_back_by o n None wide narrow =
-    let b = slot_bytes (slot_of o n None) in
+ticket_back : (ticket : ℕ) → ticket < 2 ^ 32 → number_at 0 4 (le 4 ticket) ≡ ticket
+ticket_back ticket h = ap (number_at 0 4) (sym (append-nil (le 4 ticket))) ∙ little_number-reads_back 4 ticket [] h
+
+slot_back_by : (o n : ℕ) (reply : Option (List ℕ)) (ticket : Option ℕ) → o < 2 ^ 64 → n < 2 ^ 32 → unwrap_or ticket 0 < 2 ^ 32 → is_some reply && is_some ticket ≡ false → slot_in (slot_bytes (slot_of o n reply ticket)) ≡ Some (slot_of o n reply ticket)
+slot_back_by o n None None wide narrow below one =
+    let b = slot_bytes (slot_of o n None None) in
     let a : number_at 0 8 b ≡ o = little_number-reads_back 8 o (le 4 n ++ 2 ∷ []) wide in
     let c : number_at 8 4 b ≡ n = little_number-reads_back 4 n (2 ∷ []) narrow in
-    ap (λ k. Some (slot_of k (number_at 8 4 b) None)) a ∙ ap (λ k. Some (slot_of o k None)) c
-slot_back_by o n (Some reply) wide narrow =
-    let b = slot_bytes (slot_of o n (Some reply)) in
+    ap (λ k. Some (slot_of k (number_at 8 4 b) None None)) a ∙ ap (λ k. Some (slot_of o k None None)) c
+slot_back_by o n None (Some ticket) wide narrow below one =
+    let b = slot_bytes (slot_of o n None (Some ticket)) in
+    let a : number_at 0 8 b ≡ o = little_number-reads_back 8 o (le 4 n ++ 1 ∷ le 4 ticket) wide in
+    let c : number_at 8 4 b ≡ n = little_number-reads_back 4 n (1 ∷ le 4 ticket) narrow in
+    let t = number_at 0 4 (le 4 ticket) in
+    ap (λ k. Some (slot_of k (number_at 8 4 b) None (Some t))) a
+    ∙ ap (λ k. Some (slot_of o k None (Some t))) c
+    ∙ ap (λ k. Some (slot_of o n None (Some k))) (ticket_back ticket below)
+slot_back_by o n (Some reply) (Some ticket) wide narrow below one = absurd (cc)
+slot_back_by o n (Some reply) None wide narrow below one =
+    let b = slot_bytes (slot_of o n (Some reply) None) in
     let size : length b ≡ 13 + length reply = omega (arith, length-append (le 8 o) (le 4 n ++ 0 ∷ reply), length-append (le 4 n) (0 ∷ reply)) in
     let a : number_at 0 8 b ≡ o = little_number-reads_back 8 o (le 4 n ++ 0 ∷ reply) wide in
     let c : number_at 8 4 b ≡ n = little_number-reads_back 4 n (0 ∷ reply) narrow in
-    let whole : Option SlotState = Some (slot_of (number_at 0 8 b) (number_at 8 4 b) (Some reply)) in
+    let whole : Option SlotState = Some (slot_of (number_at 0 8 b) (number_at 8 4 b) (Some reply) None) in
     ap (λ t. cond t None whole) (ap (λ k. nat_lt k 13) size ∙ long (length reply))
-    ∙ ap (λ k. Some (slot_of k (number_at 8 4 b) (Some reply))) a
-    ∙ ap (λ k. Some (slot_of o k (Some reply))) c
+    ∙ ap (λ k. Some (slot_of k (number_at 8 4 b) (Some reply) None)) a
+    ∙ ap (λ k. Some (slot_of o k (Some reply) None)) c
 
 pub slot_back : (slot : SlotState) → IsSlot slot → slot_in (slot_bytes slot) ≡ Some slot
-slot_back slot is = slot_back_by slot.originator slot.number slot.reply is.originator is.number
+slot_back slot is = slot_back_by slot.originator slot.number slot.reply slot.ticket is.originator is.number is.ticket is.one
 
 not_first : (n : ℕ) → 1 ≤ n → eqb n 0 ≡ false
 not_first n h = grind (arith, nat_tests)

@@ -3,3 +3,4 @@ pub mod KeyLemmas
 pub mod Puts
 pub mod LedgerPuts
 pub mod StateLemmas
+pub mod QueueBack

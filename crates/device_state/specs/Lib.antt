@@ -1,4 +1,5 @@
 pub mod Keys
 pub mod Saved
 pub mod Restored
+pub mod QueueEntries
 pub mod Laws

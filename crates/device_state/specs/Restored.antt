@@ -1,5 +1,5 @@
 -- A device that starts from entries.
-use Rattle.std.specs.Prelude.{ℕ, ◌==◌, nat_lt, Bool, not, ◌&&◌, ◌||◌, is_some, if◌then◌else◌, slice_index}
+use Rattle.std.specs.Prelude.{ℕ, ◌==◌, nat_lt, Bool, not, ◌&&◌, is_some, if◌then◌else◌, slice_index}
 use Rattle.std.specs.Prelude.{List, [], ◌∷◌, length, drop, Option, Some, None, option_map, bytes_eq}
 use Rattle.cip_application.specs.declared.object.AttributeName.{AttributeName}
 use Rattle.cip_bytes.specs.Numbers.{number_at}
@@ -36,21 +36,34 @@ identity_outcome m name content =
 
 -- ---- the ledger
 
--- The reply that a state and the bytes behind it spell: that of a command that is done, or none of one that is in doubt.
-abbrev pub reply_in : ℕ → List ℕ → Option (Option (List ℕ))
-reply_in state reply =
-    if state == 0 then Some (Some reply)
-    else (if (state == 2) && (length reply == 0) then Some None else None)
+-- What is kept of a command: its reply if it is done, its ticket if it is pending, and neither if it is in doubt.
+pub record KeptState : Type 0 where
+  pub reply : Option (List ℕ)
+  pub ticket : Option ℕ
 
-abbrev pub slot_with : List ℕ → Option (List ℕ) → SlotState
-slot_with content reply =
-    record { originator = number_at 0 8 content; number = number_at 8 4 content; reply = reply }
+abbrev pub kept_state : Option (List ℕ) → Option ℕ → KeptState
+kept_state reply ticket = record { reply = reply; ticket = ticket }
+
+-- What a state and the bytes behind it spell. None if there is no such state, or if these are not its bytes.
+abbrev pub state_in : ℕ → List ℕ → Option KeptState
+state_in state content =
+    if state == 0 then Some (kept_state (Some content) None)
+    else (if (state == 1) && (length content == 4) then Some (kept_state None (Some (number_at 0 4 content)))
+    else (if (state == 2) && (length content == 0) then Some (kept_state None None) else None))
+
+abbrev pub slot_with : List ℕ → KeptState → SlotState
+slot_with content kept = record {
+  originator = number_at 0 8 content;
+  number = number_at 8 4 content;
+  reply = kept.reply;
+  ticket = kept.ticket;
+}
 
 -- The slot that these bytes spell. None if they are too short, or have another state.
 abbrev pub slot_in : List ℕ → Option SlotState
 slot_in content =
     if nat_lt (length content) 13 then None
-    else option_map (slot_with content) (reply_in (slice_index content 12) (drop 13 content))
+    else option_map (slot_with content) (state_in (slice_index content 12) (drop 13 content))
 
 abbrev pub if_restored : LedgerState → Option LedgerState → Done LedgerState
 if_restored ledger None = done ledger Unfit

@@ -35,14 +35,19 @@ identity_entry m = entry_of (key_of IDENTITY 1 0) (identity_bytes m)
 abbrev pub life_entry : ℕ → Entry
 life_entry life = entry_of (key_of LEDGER 0 0) (le 8 life)
 
--- The state of a command, and its reply: 0 if the command is done, 2 if it is in doubt.
-abbrev pub state_bytes : Option (List ℕ) → List ℕ
-state_bytes None = 2 ∷ []
-state_bytes (Some reply) = 0 ∷ reply
+-- The state of a command without a reply: 1 and its ticket if it is pending, 2 if it is in doubt.
+abbrev pub unreplied_bytes : Option ℕ → List ℕ
+unreplied_bytes None = 2 ∷ []
+unreplied_bytes (Some ticket) = 1 ∷ le 4 ticket
 
--- A slot: the originator, the number of its last command, the state of the command and the reply.
+-- The state of a command, and what is kept of it: 0 and its reply if it is done.
+abbrev pub state_bytes : Option (List ℕ) → Option ℕ → List ℕ
+state_bytes None ticket = unreplied_bytes ticket
+state_bytes (Some reply) ticket = 0 ∷ reply
+
+-- A slot: the originator, the number of its last command, the state of the command, and its reply or its ticket.
 abbrev pub slot_bytes : SlotState → List ℕ
-slot_bytes slot = le 8 slot.originator ++ (le 4 slot.number ++ state_bytes slot.reply)
+slot_bytes slot = le 8 slot.originator ++ (le 4 slot.number ++ state_bytes slot.reply slot.ticket)
 
 -- The slots, numbered from 1 in the order in which they were taken.
 abbrev pub slot_entries : ℕ → List SlotState → List Entry

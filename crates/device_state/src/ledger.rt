@@ -14,11 +14,17 @@ use cip_objects::{AttributeName, ReplyBuf};
 /// The state of a command that is done.
 const DONE: u8 = 0;
 
+/// The state of a command that is pending.
+const PENDING: u8 = 1;
+
 /// The state of a command that is in doubt.
 const IN_DOUBT: u8 = 2;
 
-/// The bytes of a slot before the reply: the originator, the number and the state.
+/// The bytes of a slot before the reply or the ticket: the originator, the number and the state.
 const SLOT_HEAD: usize = 13;
+
+/// The bytes of a ticket.
+const TICKET_SIZE: usize = 4;
 
 /// Writes a slot to `bytes`, in place of its old content.
 fn write_slot(kept: KeptCommand<'_>, bytes: &mut ReplyBuf)
@@ -28,12 +34,16 @@ fn write_slot(kept: KeptCommand<'_>, bytes: &mut ReplyBuf)
     bytes.clear();
     append(bytes, &kept.originator.to_le_bytes());
     append_u32(bytes, kept.number);
-    match kept.reply {
-        Some(reply) => {
+    match (kept.reply, kept.ticket) {
+        (Some(reply), _) => {
             append_u8(bytes, DONE);
             append(bytes, reply);
         }
-        None => append_u8(bytes, IN_DOUBT),
+        (None, Some(ticket)) => {
+            append_u8(bytes, PENDING);
+            append_u32(bytes, ticket);
+        }
+        (None, None) => append_u8(bytes, IN_DOUBT),
     }
 }
 
@@ -86,14 +96,21 @@ fn restore_slot(ledger: &mut Ledger, bytes: &[u8]) -> Outcome
     if bytes.len() < SLOT_HEAD {
         return Outcome::Unfit;
     }
-    let originator = LittleEndian::read_u64(bytes);
-    let number = LittleEndian::read_u32(&bytes[8..]);
-    let reply = match bytes[12] {
-        DONE => Some(&bytes[SLOT_HEAD..]),
-        IN_DOUBT if bytes.len() == SLOT_HEAD => None,
+    let (reply, ticket) = match bytes[12] {
+        DONE => (Some(&bytes[SLOT_HEAD..]), None),
+        PENDING if bytes.len() == SLOT_HEAD + TICKET_SIZE => {
+            (None, Some(LittleEndian::read_u32(&bytes[SLOT_HEAD..])))
+        }
+        IN_DOUBT if bytes.len() == SLOT_HEAD => (None, None),
         _ => return Outcome::Unfit,
     };
-    if ledger.restore(originator, number, reply) {
+    let kept = KeptCommand {
+        originator: LittleEndian::read_u64(bytes),
+        number: LittleEndian::read_u32(&bytes[8..]),
+        reply,
+        ticket,
+    };
+    if ledger.restore(kept) {
         Outcome::Used
     } else {
         Outcome::Unfit

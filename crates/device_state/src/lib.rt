@@ -1,11 +1,14 @@
 //! The state of a device as entries, each a key and bytes, and a device that starts from them.
 //!
 //! What is saved is all that can change while a device runs and matters after a restart: the data of the assemblies, the
-//! counter, the attributes of the application objects, and the command ledger with the number of the device's life.
-//! Sessions and connections are not saved. [`saved_entry`] gives one entry after another, and [`restore`] puts one back.
-//! `saved` in `specs/Saved.antt` defines the entries, and `restored` in `specs/Restored.antt` the device after them.
-//! [`laws`] states that a device of the same configuration that starts from what was saved goes on with the same values
-//! and the same ledger.
+//! counter, the attributes of the application objects, the command ledger with the number of the device's life, and the
+//! queue of commands with its results. Sessions and connections are not saved. [`saved_entry`] gives one entry after
+//! another, and [`restore`] puts one back. `saved` in `specs/Saved.antt` defines the entries, and `restored` in
+//! `specs/Restored.antt` the device after them. [`laws`] states that a device of the same configuration that starts from
+//! what was saved goes on with the same values and the same ledger.
+//!
+//! The queue has [`QUEUE_ENTRIES`] entries of its own, each with a number: [`write_queue_entry`] writes one, and
+//! [`restore_queue_entry`] puts one back. `specs/QueueEntries.antt` defines both.
 //!
 //! A key has 48 bits: the class, the instance and the attribute. The entries come in the order of the configuration, so
 //! a saved form that wants rising keys sorts them. They are the whole state, and replace those that were saved before:
@@ -31,9 +34,11 @@ mod identity;
 mod key;
 pub mod laws;
 mod ledger;
+mod queue;
 mod restoring;
 mod saving;
 
 pub use identity::{identity_key, is_same_device};
+pub use queue::{QUEUE_ENTRIES, restore_queue_entry, write_queue_entry};
 pub use restoring::{Outcome, restore};
 pub use saving::saved_entry;

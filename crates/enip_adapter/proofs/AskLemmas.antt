@@ -1,7 +1,7 @@
 -- What a piece asks the owner, by what of it reaches the objects and by the slot of its peer.
 use Rattle.std.proofs.Common.{◌≡◌, ℕ, List, [], ◌∷◌, ◌++◌, map, Bool, true, false, cond, length, Option, Some, None, get_or, append-nil, refl, sym, ap, ◌∙◌}
 use Rattle.std.specs.List.{flat_map}
-use Rattle.cip_ledger.specs.Device.{Device}
+use Rattle.cip_ledger.specs.Device.{Device, owned_standing}
 use Rattle.cip_ledger.specs.Reaching.{listed}
 use Rattle.cip_ledger.specs.Runs.{Request, reached}
 use Rattle.cip_objects.specs.OwnRequests.{Asked}
@@ -32,12 +32,12 @@ use Rattle.enip_adapter.proofs.LookupLemmas.{first-None, slice_get-past}
 abbrev by_reached : Device → List Request → List Asked
 by_reached device requests = flat_map (asks_by_reached device.router.objects) (map Requested requests) ++ []
 
-pub nothing_reached : (device : Device) (request : Request) → [] ≡ reached objects_after objects_answer device (request ∷ [])
+pub nothing_reached : (device : Device) (request : Request) → [] ≡ reached objects_after objects_answer owned_standing device (request ∷ [])
     → [] ≡ asks_by_requests device (request ∷ [])
 nothing_reached device request e = ap (by_reached device) e
 
 pub one_reached : (device : Device) (request : Request) (limit : ℕ) (text : List ℕ)
-    → (limit, text) ∷ [] ≡ reached objects_after objects_answer device (request ∷ [])
+    → (limit, text) ∷ [] ≡ reached objects_after objects_answer owned_standing device (request ∷ [])
     → listed (asks device.router.objects limit text) ≡ asks_by_requests device (request ∷ [])
 one_reached device request limit text e =
     sym (append-nil (listed (asks device.router.objects limit text) ++ [])

@@ -1,7 +1,7 @@
 -- Laws of what the owner is asked: each follows from the at most one request of a feed that reaches the objects.
 use Rattle.std.proofs.Common.{◌≡◌, ◌≢◌, ◌≤◌, ℕ, List, [], ◌∷◌, ◌++◌, map, Bool, true, false, cond, not, ltb, eqb, length, Option, Some, None, Result, Ok, Err, append-nil, arith, refl, sym, ap, subst, ◌∙◌}
 use Rattle.std.proofs.lemmas.List.{append_assoc}
-use Rattle.std.specs.Prelude.{find, slice_index}
+use Rattle.std.specs.Prelude.{find, slice_index, option_map}
 use Rattle.std.specs.List.{flat_map}
 use Rattle.cip_bytes.specs.Protocol.{command_of}
 use Rattle.cip_bytes.specs.declared.protocol.Command.{Command}
@@ -9,14 +9,20 @@ use Rattle.cip_bytes.specs.declared.protocol.Command.TheVariants.{SendRRData, Se
 use Rattle.cip_bytes.specs.declared.protocol.TheConstants.{UNCONNECTED_LIMIT}
 use Rattle.cip_class3.specs.Item.{sequence_count_of, message_of}
 use Rattle.cip_class3.specs.TargetRule.{TargetState, has_accepted_size, is_held, max_reply_size}
-use Rattle.cip_ledger.specs.Device.{Device, exec_device}
+use Rattle.cip_ledger.specs.declared.target.Standing.{Standing}
+use Rattle.cip_ledger.specs.declared.target.Standing.TheVariants as standings
+use Rattle.cip_ledger.specs.Device.{Device, owned_standing, exec_device}
 use Rattle.cip_ledger.specs.Laws.{HasNoDoubles, UntilFreed}
+use Rattle.cip_ledger.specs.Ledger.{LedgerState}
 use Rattle.cip_ledger.specs.Reaching.{listed}
-use Rattle.cip_ledger.specs.Requests.{Command as LedgerCommand, is_barred}
+use Rattle.cip_ledger.specs.Requests.{LedgerRequest, Command as LedgerCommand, ledger_request, is_barred}
 use Rattle.cip_ledger.specs.Runs.{Request, reached, reached_by, embedded_in, Executed, Freed}
 use Rattle.cip_ledger.specs.Runs.{Event as LedgerEvent}
-use Rattle.cip_ledger.specs.Services.{Replies, Executes as ExecutesCommand, Frees, KEPT_LIMIT, reply_to, success, DONE}
-use Rattle.cip_ledger.specs.Turn.{Fate, Passed, Served as ServedByLedger, fate, turn_by}
+use Rattle.cip_ledger.specs.Services.{Action, Replies, Executes as ExecutesCommand, Queues, Frees, KEPT_LIMIT, reply_to, success, DONE, action_of}
+use Rattle.cip_ledger.specs.Standings.{by_standing, at_router}
+use Rattle.cip_ledger.specs.Turn.{Fate, Passed, Served as ServedByLedger, fate, fate_of, turn_by}
+use Rattle.cip_ledger.proofs.Devices.{asked-final}
+use Rattle.cip_ledger.proofs.ReachingLemmas.{kept_within}
 use Rattle.cip_manager.specs.declared.connection.Connection.{Connection}
 use Rattle.cip_manager.specs.Connection.{is_named}
 use Rattle.cip_objects.specs.Contents.{Contents}
@@ -50,11 +56,12 @@ use Rattle.enip_adapter.proofs.DeviceLemmas.{objects-end, events-end, commands-o
 use Rattle.enip_adapter.proofs.ListLemmas.{both}
 use Rattle.enip_adapter.proofs.PeerLemmas.{at_state}
 use Rattle.enip_adapter.proofs.WrittenLemmas.{own-alike}
-use Rattle.enip_adapter.proofs.SettleLemmas.{Reaches, written-reaches}
+use Rattle.enip_adapter.proofs.SettleLemmas.{through_by_action, through_by, through, written-through}
+use Rattle.enip_adapter.proofs.StandingLemmas.{Stands, fate-stands, fate-alike}
 
 -- ---- at most one
 
-data AtMostOne {X : Type 0} : List X → Type 0 where
+pub data AtMostOne {X : Type 0} : List X → Type 0 where
   Zero : AtMostOne []
   One : (x : X) → AtMostOne (x ∷ [])
 
@@ -175,21 +182,25 @@ feed-steps a now peer piece =
 few-embedded : (command : LedgerCommand) → AtMostOne (embedded_in objects_after objects_answer command)
 few-embedded command = both AtMostOne (is_barred command.request) _ _ Zero (One _)
 
-few-fate : (f : Fate) (request : Request) → AtMostOne (reached_by objects_after objects_answer f request ++ [])
+pub few-fate : (f : Fate) (request : Request) → AtMostOne (reached_by objects_after objects_answer f request ++ [])
 few-fate Passed request = One request
 few-fate (ServedByLedger service (Replies reply)) request = Zero
 few-fate (ServedByLedger service (ExecutesCommand command)) request =
+    subst AtMostOne (sym (append-nil (embedded_in objects_after objects_answer command))) (few-embedded command)
+few-fate (ServedByLedger service (Queues command ticket)) request =
     subst AtMostOne (sym (append-nil (embedded_in objects_after objects_answer command))) (few-embedded command)
 few-fate (ServedByLedger service (Frees originator)) request = Zero
 
 -- Of at most one request.
 abbrev pub reached_of : Device → List Request → List Request
 reached_of device [] = []
-reached_of device (request ∷ requests) = reached objects_after objects_answer device (request ∷ [])
+reached_of device (request ∷ requests) =
+    reached objects_after objects_answer owned_standing device (request ∷ [])
 
 few-reached : (device : Device) (requests : List Request) → AtMostOne (reached_of device requests)
 few-reached device [] = Zero
-few-reached device (request ∷ requests) = few-fate (fate device.ledger request.0 request.1) request
+few-reached device (request ∷ requests) =
+    few-fate (fate owned_standing device.ledger device.router request.0 request.1) request
 
 abbrev pub feed_reached : AdapterState → ℕ → ℕ → List ℕ → List Request
 feed_reached a now peer piece = reached_of a.state.shared.objects (feed_requests a now peer piece)
@@ -207,7 +218,7 @@ asks-requests : (device : Device) (requests : List Request) → AtMostOne reques
 asks-requests device [] Zero = refl
 asks-requests device (request ∷ []) (One _) =
     append-nil (asks_by_step device (Requested request))
-    ∙ same-asks device.router.objects (reached objects_after objects_answer device (request ∷ []))
+    ∙ same-asks device.router.objects (reached objects_after objects_answer owned_standing device (request ∷ []))
 asks-requests device (request ∷ (other ∷ requests)) few = elim few [ ]
 
 -- A feed asks what its request asks that reaches the objects.
@@ -259,12 +270,87 @@ one-asked a now peer piece =
 
 -- ---- what is asked does not depend on what is prepared or written
 
+-- A command that the queue refuses asks nothing. So what is asked follows from what the ledger alone lets through.
+module _ (w : OwnedState) where
+  abbrev asks_by : Fate → Request → List Asked
+  asks_by f request = asks_of w.objects (reached_by objects_after objects_answer f request ++ [])
+
+  embedded-asks : (barred : Bool) (text : List ℕ) → asks_of w.objects (cond barred [] ((KEPT_LIMIT, text) ∷ []) ++ [])
+      ≡ asks_of w.objects (listed (option_map kept_within (cond barred None (Some text))))
+  embedded-asks true text = refl
+  embedded-asks false text = refl
+
+  refused-asks : (text : List ℕ) (o : Option Asked) → asks w.objects KEPT_LIMIT text ≡ o
+      → owned_standing w text ≡ standings.Refused → listed o ≡ []
+  refused-asks text None e is = refl
+  refused-asks text (Some asked) e is =
+      let both : standings.Final ≡ standings.Refused = sym (asked-final w KEPT_LIMIT text asked e) ∙ is in absurd (cc)
+
+  standing-asks : (service : ℕ) (command : LedgerCommand) (request : Request) (s : Standing)
+      → is_barred command.request ≡ false → owned_standing w command.request ≡ s
+      → asks_by (ServedByLedger service (by_standing s command)) request
+      ≡ asks_of w.objects (through_by_action (ExecutesCommand command))
+  standing-asks service command request standings.Final free is =
+      embedded-asks (is_barred command.request) command.request
+  standing-asks service command request (standings.Pending ticket) free is =
+      embedded-asks (is_barred command.request) command.request
+  standing-asks service command request standings.Refused free is =
+      sym (ap (λ b. asks_of w.objects (listed (option_map kept_within (cond b None (Some command.request))))) free
+      ∙ (append-nil (listed (asks w.objects KEPT_LIMIT command.request))
+      ∙ refused-asks command.request (asks w.objects KEPT_LIMIT command.request) refl is))
+
+  command-asks : (service : ℕ) (command : LedgerCommand) (request : Request) (barred : Bool)
+      → is_barred command.request ≡ barred
+      → asks_by (ServedByLedger service
+      (by_standing (cond barred standings.Final (owned_standing w command.request)) command)) request
+      ≡ asks_of w.objects (through_by_action (ExecutesCommand command))
+  command-asks service command request true e = embedded-asks (is_barred command.request) command.request
+  command-asks service command request false e =
+      standing-asks service command request (owned_standing w command.request) e refl
+
+  action-asks : (service : ℕ) (request : Request) (action : Action)
+      → asks_by (ServedByLedger service (at_router owned_standing w action)) request
+      ≡ asks_of w.objects (through_by_action action)
+  action-asks service request (Replies reply) = refl
+  action-asks service request (ExecutesCommand command) =
+      command-asks service command request (is_barred command.request) refl
+  action-asks service request (Queues command ticket) =
+      command-asks service command request (is_barred command.request) refl
+  action-asks service request (Frees originator) = refl
+
+  fate-asks : (ledger : Option LedgerState) (request : Request)
+      → asks_by (fate owned_standing ledger w request.0 request.1) request ≡ asks_of w.objects (through ledger request)
+  fate-asks None request = refl
+  fate-asks (Some ledger) request = by_asked (ledger_request request.1)
+    where
+      by_asked : (asked : Option LedgerRequest)
+          → asks_by (fate_of owned_standing ledger w request.0 asked) request
+          ≡ asks_of w.objects (through_by ledger request asked)
+      by_asked None = refl
+      by_asked (Some asked) = action-asks asked.service request (action_of ledger request.0 asked)
+
+abbrev through_of : Option LedgerState → List Request → List Request
+through_of ledger [] = []
+through_of ledger (request ∷ requests) = through ledger request
+
+reached-asks : (device : Device) (requests : List Request)
+    → asks_of device.router.objects (reached_of device requests)
+    ≡ asks_of device.router.objects (through_of device.ledger requests)
+reached-asks device [] = refl
+reached-asks device (request ∷ requests) = fate-asks device.router device.ledger request
+
+through-alike : (write : OwnWrite) (device : Device) (requests : List Request)
+    → through_of (device_written write device).ledger requests ≡ through_of device.ledger requests
+through-alike write device [] = refl
+through-alike write device (request ∷ requests) = written-through write device request
+
 reached-alike : (device other : Device) (requests : List Request)
-    → ((request : Request) → Reaches request other.ledger device.ledger)
+    → ((request : Request) → fate owned_standing other.ledger other.router request.0 request.1
+    ≡ fate owned_standing device.ledger device.router request.0 request.1)
     → reached_of other requests ≡ reached_of device requests
 reached-alike device other [] e = refl
 reached-alike device other (request ∷ requests) e =
-    ap (λ requests. requests ++ []) (e request)
+    ap (λ f. reached_by objects_after objects_answer f request ++ []) (e request)
 
 asks-within : (write : OwnWrite) (owned : OwnedState) (limit : ℕ) (text : List ℕ) → HadValue owned.objects write
     → asks (objects_written write owned).objects limit text ≡ asks owned.objects limit text
@@ -283,11 +369,13 @@ pub asked-alike : (a : AdapterState) (write : OwnWrite) (now peer : ℕ) (piece 
     → HadValue (owned_in a).objects write
     → asks_of_call (after_call a (Writes write)) (Feeds now peer piece) ≡ asks_of_call a (Feeds now peer piece)
 asked-alike a write now peer piece had =
+    let device : Device = a.state.shared.objects in
+    let requests : List Request = feed_requests a now peer piece in
     feed-asks (after_call a (Writes write)) now peer piece
-    ∙ (ap (asks_of (objects_written write (owned_in a)).objects)
-    (reached-alike a.state.shared.objects (device_written write a.state.shared.objects) (feed_requests a now peer piece)
-    (λ request. written-reaches write a.state.shared.objects.ledger request))
-    ∙ (asks-alike write (owned_in a) (feed_reached a now peer piece) had ∙ sym (feed-asks a now peer piece)))
+    ∙ (reached-asks (device_written write device) requests
+    ∙ (ap (asks_of (objects_written write (owned_in a)).objects) (through-alike write device requests)
+    ∙ (asks-alike write (owned_in a) (through_of device.ledger requests) had
+    ∙ (sym (reached-asks device requests) ∙ sym (feed-asks a now peer piece)))))
 
 -- ---- a repeat
 
@@ -326,15 +414,15 @@ repeat-asks a now peer piece r =
 
 -- ---- a reply at the objects
 
-abbrev with_given : Contents → Reply → OwnedState
-with_given m reply = record { objects = m; prepared = Some reply }
+abbrev with_given : OwnedState → Reply → OwnedState
+with_given w reply = record w { prepared = Some reply }
 
-given-exec : (m : Contents) (limit : ℕ) (text : List ℕ) (asked : Asked) (reply : Reply)
-    → asks m limit text ≡ Some asked → is_fit asked reply ≡ true
-    → (exec_owned (with_given m reply) limit text).after
-    ≡ record { objects = after_reply m asked reply.status; prepared = None }
-given-exec m limit text asked reply e fit =
-    ap (λ done. done.after) (given (record { objects = m; prepared = None }) limit text asked reply e fit)
+given-exec : (w : OwnedState) (limit : ℕ) (text : List ℕ) (asked : Asked) (reply : Reply)
+    → asks w.objects limit text ≡ Some asked → is_fit asked reply ≡ true
+    → (exec_owned (with_given w reply) limit text).after
+    ≡ record w { objects = after_reply w.objects asked reply.status; prepared = None }
+given-exec w limit text asked reply e fit =
+    ap (λ done. done.after) (given w limit text asked reply e fit)
 
 none-exec : (w : OwnedState) (limit : ℕ) (text : List ℕ) (o : Option Asked) → asks w.objects limit text ≡ o
     → w.prepared ≡ None → (exec_owned w limit text).after.prepared ≡ None
@@ -358,40 +446,53 @@ something : (o : Option Asked) (asked : Asked) → listed o ++ [] ≡ asked ∷ 
 something None asked e = absurd (cc)
 something (Some x) asked e = let same : x ≡ asked = cc in ap (λ y. Some y) same
 
-given-answer : (m : Contents) (limit : ℕ) (text : List ℕ) (asked : Asked) (reply : Reply)
-    → listed (asks m limit text) ++ [] ≡ asked ∷ [] → is_fit asked reply ≡ true
-    → objects_answer (with_given m reply) limit text ≡ answer_with (slice_index text 0) reply.status reply.content
-given-answer m limit text asked reply e fit =
+given-answer : (w : OwnedState) (limit : ℕ) (text : List ℕ) (asked : Asked) (reply : Reply)
+    → listed (asks w.objects limit text) ++ [] ≡ asked ∷ [] → is_fit asked reply ≡ true
+    → objects_answer (with_given w reply) limit text ≡ answer_with (slice_index text 0) reply.status reply.content
+given-answer w limit text asked reply e fit =
     ap (λ done. done.answer)
-    (given (record { objects = m; prepared = None }) limit text asked reply (something (asks m limit text) asked e) fit)
+    (given w limit text asked reply (something (asks w.objects limit text) asked e) fit)
 
 abbrev with_reply_at : Device → Reply → Device
 with_reply_at device reply = device_written (Prepares (Some reply)) device
 
 fate-answer : (device : Device) (f : Fate) (limit : ℕ) (text : List ℕ) (asked : Asked) (reply : Reply)
+    → Stands device.router f
     → asks_of device.router.objects (reached_by objects_after objects_answer f (limit, text) ++ []) ≡ asked ∷ []
     → is_fit asked reply ≡ true
-    → (turn_by objects_after objects_answer f device.ledger (with_given device.router.objects reply) limit text).answer
+    → (turn_by objects_after objects_answer f device.ledger (with_given device.router reply) limit text).answer
     ≡ answer_by f text reply
-fate-answer device Passed limit text asked reply e fit =
-    given-answer device.router.objects limit text asked reply e fit
-fate-answer device (ServedByLedger service (Replies kept)) limit text asked reply e fit = absurd (cc)
-fate-answer device (ServedByLedger service (ExecutesCommand command)) limit text asked reply e fit =
+fate-answer device Passed limit text asked reply stands e fit =
+    given-answer device.router limit text asked reply e fit
+fate-answer device (ServedByLedger service (Replies kept)) limit text asked reply stands e fit = absurd (cc)
+fate-answer device (ServedByLedger service (ExecutesCommand command)) limit text asked reply stands e fit =
     let both : (is_barred command.request ≡ false)
     × (listed (asks device.router.objects KEPT_LIMIT command.request) ++ [] ≡ asked ∷ [])
     = embedded-asked device.router.objects command.request (is_barred command.request) asked e in
     ap (λ answer. reply_to service (success (DONE ∷ answer)))
     (second-of (is_barred command.request) _ _ both.0
-    ∙ given-answer device.router.objects KEPT_LIMIT command.request asked reply both.1 fit)
-fate-answer device (ServedByLedger service (Frees originator)) limit text asked reply e fit = absurd (cc)
+    ∙ given-answer device.router KEPT_LIMIT command.request asked reply both.1 fit)
+fate-answer device (ServedByLedger service (Queues command ticket)) limit text asked reply stands e fit =
+    let both : (is_barred command.request ≡ false)
+    × (listed (asks device.router.objects KEPT_LIMIT command.request) ++ [] ≡ asked ∷ [])
+    = embedded-asked device.router.objects command.request (is_barred command.request) asked e in
+    let final : owned_standing device.router command.request ≡ standings.Final
+    = asked-final device.router KEPT_LIMIT command.request asked
+    (something (asks device.router.objects KEPT_LIMIT command.request) asked both.1) in
+    let two : standings.Final ≡ standings.Pending ticket = sym final ∙ stands in absurd (cc)
+fate-answer device (ServedByLedger service (Frees originator)) limit text asked reply stands e fit = absurd (cc)
 
 pub answered : (device : Device) (request : Request) (asked : Asked) (reply : Reply)
     → asks_by_step device (Requested request) ≡ asked ∷ [] → is_fit asked reply ≡ true
     → (exec_device (device_written (Prepares (Some reply)) device) request.0 request.1).answer
-    ≡ answer_by (fate device.ledger request.0 request.1) request.1 reply
+    ≡ answer_by (fate owned_standing device.ledger device.router request.0 request.1) request.1 reply
 answered device request asked reply e fit =
-    fate-answer device (fate device.ledger request.0 request.1) request.0 request.1 asked reply
-    (sym (same-asks device.router.objects (reached objects_after objects_answer device (request ∷ []))) ∙ e) fit
+    ap (λ f. (turn_by objects_after objects_answer f device.ledger (with_given device.router reply) request.0 request.1).answer)
+    (fate-alike device.router (with_given device.router reply) (λ text. refl) device.ledger request)
+    ∙ fate-answer device (fate owned_standing device.ledger device.router request.0 request.1) request.0 request.1 asked reply
+    (fate-stands device.router device.ledger request)
+    (sym (same-asks device.router.objects (reached objects_after objects_answer owned_standing device (request ∷ [])))
+    ∙ e) fit
 
 -- ---- a reply in a feed
 
@@ -399,25 +500,26 @@ nothing : (o : Option Asked) → listed o ++ [] ≡ [] → o ≡ None
 nothing None e = refl
 nothing (Some x) e = absurd (cc)
 
-given-few : (m : Contents) (requests : List Request) (asked : Asked) (reply : Reply) → AtMostOne requests
-    → asks_of m requests ≡ asked ∷ [] → is_fit asked reply ≡ true
-    → objects_after_steps (with_given m reply) (map Requested requests)
-    ≡ record { objects = after_reply m asked reply.status; prepared = None }
-given-few m [] asked reply Zero e fit = absurd (cc)
-given-few m (request ∷ []) asked reply (One _) e fit =
-    given-exec m request.0 request.1 asked reply (something (asks m request.0 request.1) asked e) fit
-given-few m (request ∷ (other ∷ requests)) asked reply few e fit = elim few [ ]
+given-few : (w : OwnedState) (requests : List Request) (asked : Asked) (reply : Reply) → AtMostOne requests
+    → asks_of w.objects requests ≡ asked ∷ [] → is_fit asked reply ≡ true
+    → objects_after_steps (with_given w reply) (map Requested requests)
+    ≡ record w { objects = after_reply w.objects asked reply.status; prepared = None }
+given-few w [] asked reply Zero e fit = absurd (cc)
+given-few w (request ∷ []) asked reply (One _) e fit =
+    given-exec w request.0 request.1 asked reply (something (asks w.objects request.0 request.1) asked e) fit
+given-few w (request ∷ (other ∷ requests)) asked reply few e fit = elim few [ ]
 
 pub given-feed : (a : AdapterState) (now peer : ℕ) (piece : List ℕ) (asked : Asked) (reply : Reply)
     → asks_of_call a (Feeds now peer piece) ≡ asked ∷ [] → is_fit asked reply ≡ true
     → owned_in (after_call (with_reply a (Some reply)) (Feeds now peer piece))
-    ≡ record { objects = after_reply (owned_in a).objects asked reply.status; prepared = None }
+    ≡ record (owned_in a) { objects = after_reply (owned_in a).objects asked reply.status; prepared = None }
 given-feed a now peer piece asked reply e fit =
     feed-objects (with_reply a (Some reply)) now peer piece
-    ∙ (ap (λ requests. objects_after_steps (with_given (owned_in a).objects reply) (map Requested requests))
+    ∙ (ap (λ requests. objects_after_steps (with_given (owned_in a) reply) (map Requested requests))
     (reached-alike a.state.shared.objects (with_reply a (Some reply)).state.shared.objects
-    (feed_requests a now peer piece) (λ request. refl))
-    ∙ given-few (owned_in a).objects (feed_reached a now peer piece) asked reply (few-feed a now peer piece)
+    (feed_requests a now peer piece)
+    (λ request. fate-alike (owned_in a) (with_given (owned_in a) reply) (λ text. refl) a.state.shared.objects.ledger request))
+    ∙ given-few (owned_in a) (feed_reached a now peer piece) asked reply (few-feed a now peer piece)
     (sym (feed-asks a now peer piece) ∙ e) fit)
 
 unasked-few : (w : OwnedState) (requests : List Request) → AtMostOne requests → asks_of w.objects requests ≡ []

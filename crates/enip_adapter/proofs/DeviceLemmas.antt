@@ -8,17 +8,17 @@ use Rattle.cip_bytes.specs.declared.protocol.Command.{Command}
 use Rattle.cip_bytes.specs.declared.protocol.Command.TheVariants.{SendRRData, SendUnitData}
 use Rattle.cip_class3.specs.Item.{sequence_count_of, message_of}
 use Rattle.cip_class3.specs.TargetRule.{TargetStep, has_accepted_size, is_held}
-use Rattle.cip_ledger.specs.Device.{Device, Executed, exec_device, run}
+use Rattle.cip_ledger.specs.Device.{Device, Executed, owned_standing, exec_device, run}
 use Rattle.cip_ledger.specs.Requests.{Command as LedgerCommand}
 use Rattle.cip_ledger.specs.Runs.{Request, slot_in, events_by, journal, reached, router_after}
 use Rattle.cip_ledger.specs.Runs.Event.{Executed as ExecutedCommand, Freed}
 use Rattle.cip_ledger.specs.Runs.{Event as LedgerEvent}
 use Rattle.cip_ledger.specs.Laws.{HasNoDoubles, Rises, UntilFreed, IsNotFreed}
-use Rattle.cip_ledger.specs.Services.{Replies, Executes as ExecutesCommand, Frees}
+use Rattle.cip_ledger.specs.Services.{Replies, Executes as ExecutesCommand, Queues, Frees, DONE, PENDING}
 use Rattle.cip_ledger.specs.Turn.{Fate, Passed, Served as ServedByLedger, fate, embedded_reply}
 use Rattle.cip_ledger.proofs.Answered.{rises-apart}
 use Rattle.cip_ledger.proofs.Fates.{Means, fate-means}
-use Rattle.cip_ledger.proofs.Settled.{Settled, next_by, settled-run, settled-command, journal-above, router-reached}
+use Rattle.cip_ledger.proofs.Settled.{Settled, next_by, settled-run, settled-command, settled-queued, journal-above, router-reached}
 use Rattle.cip_owner.specs.Owned.{OwnedState}
 use Rattle.cip_manager.specs.declared.connection.Connection.{Connection}
 use Rattle.cip_manager.specs.Connection.{is_named}
@@ -266,8 +266,8 @@ objects-two objects (step ∷ first) second = objects-two (objects_after_step ob
 pub step-reached : (device : Device) (step : DeviceStep)
     → (device_after_step device step).router ≡ objects_after_steps device.router (reached_by_step device step)
 step-reached device (Requested request) =
-    router-reached objects_after objects_answer (request ∷ []) device
-    ∙ sym (objects-requests device.router (reached objects_after objects_answer device (request ∷ [])))
+    router-reached objects_after objects_answer owned_standing (request ∷ []) device
+    ∙ sym (objects-requests device.router (reached objects_after objects_answer owned_standing device (request ∷ [])))
 step-reached device (WrittenBy write) = refl
 
 steps-reached : (steps : List DeviceStep) (device : Device)
@@ -299,19 +299,19 @@ above-append originator IsSo (ExecutedCommand command reply ∷ events) later is
 above-append originator IsSo (Freed freed ∷ events) later is more = λ other.
     above-append originator IsSo events later (is other) (λ kept. more (other, kept))
 
-above-steps : (steps : List DeviceStep) (device : Device) (originator number : ℕ) (reply : Option (List ℕ))
-    → Settled number reply (slot_in originator device.ledger)
+above-steps : (steps : List DeviceStep) (device : Device) (originator number : ℕ) (content : List ℕ)
+    → Settled number content (slot_in originator device.ledger)
     → UntilFreed originator (λ command. number < command.number) (journal_by_steps device steps)
-above-steps [] device originator number reply settled = tt
-above-steps (Requested request ∷ steps) device originator number reply settled =
+above-steps [] device originator number content settled = tt
+above-steps (Requested request ∷ steps) device originator number content settled =
     above-append originator (λ command. number < command.number)
-    (journal objects_after objects_answer device (request ∷ []))
+    (journal objects_after objects_answer owned_standing device (request ∷ []))
     (journal_by_steps (device_after_step device (Requested request)) steps)
-    (journal-above objects_after objects_answer (request ∷ []) device originator number reply settled)
-    (λ kept. above-steps steps (device_after_step device (Requested request)) originator number reply
-    (settled-run objects_after objects_answer (request ∷ []) device originator number reply settled kept))
-above-steps (WrittenBy write ∷ steps) device originator number reply settled =
-    let after = written-settled write device.ledger originator number reply settled in
+    (journal-above objects_after objects_answer owned_standing (request ∷ []) device originator number content settled)
+    (λ kept. above-steps steps (device_after_step device (Requested request)) originator number content
+    (settled-run objects_after objects_answer owned_standing (request ∷ []) device originator number content settled kept))
+above-steps (WrittenBy write ∷ steps) device originator number content settled =
+    let after = written-settled write device originator number content settled in
     above-steps steps (device_written write device) originator number after.0 after.1
 
 rises-by : (f : Fate) (device : Device) (request : Request) (steps : List DeviceStep) → Means device.ledger request f
@@ -323,8 +323,14 @@ rises-by (ServedByLedger service (Replies given)) device request steps means lat
 rises-by (ServedByLedger service (ExecutesCommand command)) device request steps means later = (
   above-steps steps (next_by objects_after objects_answer (ServedByLedger service (ExecutesCommand command)) device request)
       command.originator command.number
-      (Some (embedded_reply objects_after objects_answer device.router command.request))
+      (DONE ∷ embedded_reply objects_after objects_answer device.router command.request)
       (settled-command objects_after objects_answer device request service command means),
+  later,
+)
+rises-by (ServedByLedger service (Queues command ticket)) device request steps means later = (
+  above-steps steps (next_by objects_after objects_answer (ServedByLedger service (Queues command ticket)) device request)
+      command.originator command.number (PENDING ∷ [])
+      (settled-queued objects_after objects_answer device request service command ticket means),
   later,
 )
 rises-by (ServedByLedger service (Frees freed)) device request steps means later = later
@@ -332,7 +338,8 @@ rises-by (ServedByLedger service (Frees freed)) device request steps means later
 steps-rise : (steps : List DeviceStep) (device : Device) → Rises (journal_by_steps device steps)
 steps-rise [] device = tt
 steps-rise (Requested request ∷ steps) device =
-    rises-by (fate device.ledger request.0 request.1) device request steps (fate-means device.ledger request)
+    rises-by (fate owned_standing device.ledger device.router request.0 request.1) device request steps
+    (fate-means owned_standing device.ledger device.router request)
     (steps-rise steps (device_after_step device (Requested request)))
 steps-rise (WrittenBy write ∷ steps) device = steps-rise steps (device_written write device)
 

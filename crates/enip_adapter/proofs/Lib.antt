@@ -29,6 +29,11 @@ pub mod ExecutingLemmas
 pub mod OwnerLemmas
 pub mod AskedLemmas
 pub mod WrittenLemmas
+pub mod StandingLemmas
+pub mod QueueLemmas
+pub mod PendingLemmas
+pub mod FinishLemmas
+pub mod LedgerStepLemmas
 pub mod SettleLemmas
 pub mod RouteLemmas
 pub mod RightsLemmas

@@ -7,11 +7,11 @@ use Rattle.std.specs.Option.{ok_or, option_map}
 use Rattle.cip_application.specs.Configuration.{is_taken_class}
 use Rattle.cip_bytes.specs.Reading.{◌>>=◌}
 use Rattle.cip_bytes.specs.declared.protocol.TheConstants.{IDENTITY, ASSEMBLY, CONNECTION_MANAGER}
-use Rattle.cip_ledger.specs.Device.{Device, exec_device}
+use Rattle.cip_ledger.specs.Device.{Device, owned_standing, exec_device}
 use Rattle.cip_ledger.specs.Reaching.{listed}
 use Rattle.cip_ledger.specs.Requests.{LedgerRequest, Command, ledger_request}
 use Rattle.cip_ledger.specs.Runs.{Request as LimitedRequest, command_by, command_given, command_in_data, forgotten_by, forgotten, forgotten_in_data, reached_by}
-use Rattle.cip_ledger.specs.Services.{Replies, Executes, Frees}
+use Rattle.cip_ledger.specs.Services.{Replies, Executes, Queues, Frees}
 use Rattle.cip_ledger.specs.Turn.{Fate, Passed, Served, fate, turn_by}
 use Rattle.cip_ledger.proofs.Fates.{Means, fate-means}
 use Rattle.cip_ledger.proofs.Forms.{service_first}
@@ -271,13 +271,16 @@ by-fate device request Passed means r =
 by-fate device request (Served service (Replies reply)) means r = refl
 by-fate device request (Served service (Executes command)) means r =
     absurd (not-executed request means.asked command r means.asked_is means.means.given_is)
+by-fate device request (Served service (Queues command ticket)) means r =
+    absurd (not-executed request means.asked command r means.asked_is means.means.given_is)
 by-fate device request (Served service (Frees originator)) means r =
     absurd (not-freed request means.asked _ r means.asked_is means.means.named_is)
 
 pub unchanged : (device : Device) (max_size : ℕ) (request : List ℕ) → is_change request ≡ false
     → (exec_device device max_size request).after ≡ device
 unchanged device max_size request e =
-    by-fate device (max_size, request) (fate device.ledger max_size request) (fate-means device.ledger (max_size, request))
+    by-fate device (max_size, request) (fate owned_standing device.ledger device.router max_size request)
+    (fate-means owned_standing device.ledger device.router (max_size, request))
     (reads request e)
 
 -- ---- what is asked
@@ -296,10 +299,12 @@ asked-by-fate device request Passed means r =
 asked-by-fate device request (Served service (Replies reply)) means r = refl
 asked-by-fate device request (Served service (Executes command)) means r =
     absurd (not-executed request means.asked command r means.asked_is means.means.given_is)
+asked-by-fate device request (Served service (Queues command ticket)) means r =
+    absurd (not-executed request means.asked command r means.asked_is means.means.given_is)
 asked-by-fate device request (Served service (Frees originator)) means r = refl
 
 pub nothing-asked : (device : Device) (max_size : ℕ) (request : List ℕ) → is_change request ≡ false
     → asks_by_step device (Requested (max_size, request)) ≡ []
 nothing-asked device max_size request e =
-    asked-by-fate device (max_size, request) (fate device.ledger max_size request)
-    (fate-means device.ledger (max_size, request)) (reads request e)
+    asked-by-fate device (max_size, request) (fate owned_standing device.ledger device.router max_size request)
+    (fate-means owned_standing device.ledger device.router (max_size, request)) (reads request e)

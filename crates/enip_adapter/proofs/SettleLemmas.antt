@@ -1,27 +1,135 @@
--- Settling a command lets the same requests reach the objects as before, and keeps numbers settled.
-use Rattle.std.proofs.Common.{◌≡◌, ℕ, ◌==◌, nat_lt, not, Bool, true, false, if◌then◌else◌, Option, Some, None, List, [], ◌∷◌, length, suc, refl, ap, sym, ◌∙◌}
-use Rattle.std.proofs.lemmas.Bool.{eqb-true, eqb-false, and_parts}
+-- Settling a command and finishing a queued one let the same requests through as before, and keep numbers settled.
+use Rattle.std.proofs.Common.{◌≡◌, ℕ, ◌==◌, nat_lt, not, Bool, true, false, if◌then◌else◌, Option, Some, None, unwrap_or, List, [], ◌∷◌, length, suc, refl, ap, sym, ◌∙◌}
+use Rattle.std.specs.Prelude.{map, option_map}
+use Rattle.std.proofs.lemmas.Bool.{and_parts}
+use Rattle.std.proofs.lemmas.List.{length-map}
 use Rattle.cip_bytes.specs.Numbers.{number_at}
 use Rattle.cip_ledger.specs.declared.service.TheConstants as services
-use Rattle.cip_ledger.specs.Doubt.{is_doubtful, is_in_doubt_at, is_in_doubt, is_kept_reply, can_settle, with_last, settled}
+use Rattle.cip_ledger.specs.Device.{Device, FinishedCommand, finished_command, finished_of, finished_text, with_finished, finished_in}
+use Rattle.cip_ledger.specs.Doubt.{is_in_doubt_at, is_in_doubt, is_kept_reply, can_settle, with_last, settled}
 use Rattle.cip_ledger.specs.Ledger.{LedgerState, SlotState, slot_of, with_slot}
+use Rattle.cip_ledger.specs.Pending.{completed_slot, with_completed, completed}
+use Rattle.cip_ledger.specs.Reaching.{listed, embedded_by}
 use Rattle.cip_ledger.specs.Requests.{LedgerRequest, Command, command_of, ledger_request}
-use Rattle.cip_ledger.specs.Runs.{Request, slot_in, reached_by}
-use Rattle.cip_ledger.specs.Services.{Action, Frees, refuses, size_fault, unless, do_by_slot, do_once, forget, forget_in, action_of}
-use Rattle.cip_ledger.specs.Turn.{Served, fate, fate_of}
-use Rattle.cip_ledger.proofs.Doubts.{settled-stays}
+use Rattle.cip_ledger.specs.Runs.{Request, slot_in}
+use Rattle.cip_ledger.specs.Services.{Action, Frees, refuses, size_fault, unless, do_by_slot, do_command, forget, forget_in, action_of}
+use Rattle.cip_ledger.proofs.Doubts.{settled-numbers, settled-stays}
+use Rattle.cip_ledger.proofs.Pendings.{completed-numbers, completed-stays}
+use Rattle.cip_ledger.proofs.ReachingLemmas.{kept_within}
 use Rattle.cip_ledger.proofs.Settled.{Settled}
-use Rattle.cip_ledger.proofs.SlotLemmas.{slot_of-with_slot, slot_of-with_other}
-use Rattle.enip_adapter.specs.DeviceRuns.{objects_after, objects_answer}
-use Rattle.enip_adapter.specs.OwnWrites.{OwnWrite, WritesData, WritesAttribute, SetsStatus, SetsState, Prepares, Settles, ledger_written}
+use Rattle.cip_owner.specs.Owned.{OwnedState}
+use Rattle.cip_owner.specs.Queue.{QueueState, QueuedCommand, command_of as waiting_command, finished_by, finished}
+use Rattle.cip_owner.specs.Replies.{Reply}
+use Rattle.enip_adapter.specs.OwnWrites.{OwnWrite, WritesData, WritesAttribute, SetsStatus, SetsState, Prepares, Settles, Finishes, objects_written, ledger_written, device_written}
 
--- ---- the slot of a command that can be settled
+-- ---- what the ledger alone lets through
+
+-- By an action of the ledger, if the router takes every command.
+abbrev pub through_by_action : Action → List Request
+through_by_action action = listed (option_map kept_within (embedded_by action))
+
+abbrev pub through_by : LedgerState → Request → Option LedgerRequest → List Request
+through_by ledger request None = request ∷ []
+through_by ledger request (Some asked) = through_by_action (action_of ledger request.0 asked)
+
+abbrev pub through : Option LedgerState → Request → List Request
+through None request = request ∷ []
+through (Some ledger) request = through_by ledger request (ledger_request request.1)
+
+through_if : (is : Bool) (a b c d : Action) → through_by_action a ≡ through_by_action c
+    → through_by_action b ≡ through_by_action d
+    → through_by_action (if is then a else b) ≡ through_by_action (if is then c else d)
+through_if true a b c d one other = one
+through_if false a b c d one other = other
+
+same_if : (is other : Bool) (a b : Action) → is ≡ other
+    → through_by_action (if is then a else b) ≡ through_by_action (if other then a else b)
+same_if is other a b e = ap (λ c. through_by_action (if c then a else b)) e
+
+-- Forget lets nothing through.
+forget-through : (ledger : LedgerState) (bytes : List ℕ) → through_by_action (forget ledger bytes) ≡ []
+forget-through ledger bytes =
+    elim (size_fault 12 bytes) as (λ fault. through_by_action (unless fault refuses
+    (forget_in (number_at 0 8 bytes) (number_at 8 4 bytes) (slot_of (number_at 0 8 bytes) ledger.taken))) ≡ []) [
+      | None ↦ by_slot (number_at 0 8 bytes) (number_at 8 4 bytes) (slot_of (number_at 0 8 bytes) ledger.taken)
+      | Some status ↦ refl
+    ]
+  where
+    by_number : (originator : ℕ) (same : Bool) (refused : Action) → through_by_action refused ≡ []
+        → through_by_action (if same then Frees originator else refused) ≡ []
+    by_number originator true refused is = refl
+    by_number originator false refused is = is
+
+    by_slot : (originator number : ℕ) (found : Option SlotState)
+        → through_by_action (forget_in originator number found) ≡ []
+    by_slot originator number None = refl
+    by_slot originator number (Some slot) = by_number originator (slot.number == number) _ refl
+
+-- ---- ledgers with the same life, as many free slots, and the same numbers
+
+abbrev number_of : Option SlotState → Option ℕ
+number_of found = option_map (λ (slot : SlotState). slot.number) found
+
+abbrev has_slot : LedgerState → Bool
+has_slot ledger = nat_lt (length ledger.taken) ledger.slots
+
+record HaveSameNumbers (new old : LedgerState) : Type 0 where
+  life : new.life ≡ old.life
+  free : has_slot new ≡ has_slot old
+  numbers : (any : ℕ) → number_of (slot_of any new.taken) ≡ number_of (slot_of any old.taken)
+
+module _ (new ledger : LedgerState) (same : HaveSameNumbers new ledger) (max_size : ℕ) where
+  found-through : (command : Command) (one other : Option SlotState) → number_of one ≡ number_of other
+      → through_by_action (do_by_slot new max_size command one)
+      ≡ through_by_action (do_by_slot ledger max_size command other)
+  found-through command None None e =
+      same_if (has_slot new) (has_slot ledger) _ _ same.free
+  found-through command None (Some other) e = absurd (cc)
+  found-through command (Some one) None e = absurd (cc)
+  found-through command (Some one) (Some other) e =
+      let is : one.number ≡ other.number = ap (λ o. unwrap_or o one.number) e in
+      rw is (through_if (nat_lt command.number other.number) _ _ _ _ refl
+      (through_if (command.number == other.number) _ _ _ _ refl refl))
+
+  life-through : (command : Command)
+      → through_by_action (do_command new max_size command) ≡ through_by_action (do_command ledger max_size command)
+  life-through command =
+      rw same.life (through_if (not (command.life == ledger.life)) _ _ _ _ refl
+      (found-through command (slot_of command.originator new.taken) (slot_of command.originator ledger.taken)
+      (same.numbers command.originator)))
+
+  action-through : (asked : LedgerRequest)
+      → through_by_action (action_of new max_size asked) ≡ through_by_action (action_of ledger max_size asked)
+  action-through asked =
+      through_if (asked.instance == 0) _ _ _ _ refl
+      (through_if (asked.instance == 1) _ _ _ _
+      (through_if (asked.service == services.DO_ONCE) _ _ _ _
+      (through_if (nat_lt (length asked.data) 22) _ _ _ _ refl (life-through (command_of asked.data)))
+      (through_if (asked.service == services.GET_LAST) _ _ _ _ refl
+      (through_if (asked.service == services.FORGET) _ _ _ _
+      (forget-through new asked.data ∙ sym (forget-through ledger asked.data))
+      (through_if (asked.service == 0x0e) _ _ _ _ refl
+      (through_if (asked.service == 0x03) _ _ _ _ refl refl)))))
+      refl)
+
+-- The same of a request is let through.
+abbrev pub LetsThrough : Request → Option LedgerState → Option LedgerState → Type 0
+LetsThrough request new old = through new request ≡ through old request
+
+alike-through : (new ledger : LedgerState) (request : Request) → HaveSameNumbers new ledger
+    → LetsThrough request (Some new) (Some ledger)
+alike-through new ledger request same = by_asked (ledger_request request.1)
+  where
+    by_asked : (asked : Option LedgerRequest) → through_by new request asked ≡ through_by ledger request asked
+    by_asked None = refl
+    by_asked (Some asked) = action-through new ledger same request.0 asked
+
+-- ---- settling
 
 own-slot : (number : ℕ) (found : Option SlotState) → is_in_doubt_at number found ≡ true
-    → (slot : SlotState) × (found ≡ Some slot) × (slot.number ≡ number)
+    → (slot : SlotState) × (found ≡ Some slot)
 own-slot number None is = absurd (cc)
-own-slot number (Some slot) is =
-    (slot, refl, eqb-true slot.number number (and_parts (slot.number == number) (is_doubtful slot) is).0)
+own-slot number (Some slot) is = (slot, refl)
 
 length-with_slot : (taken : List SlotState) (slot found : SlotState) → slot_of slot.originator taken ≡ Some found
     → length (with_slot slot taken) ≡ length taken
@@ -35,137 +143,146 @@ length-with_slot (first ∷ taken) slot found is =
     go true later e = refl
     go false later e = ap suc (later e)
 
--- ---- what reaches the objects
-
-module _ (service : ℕ) (request : Request) where
-  abbrev reach : Action → List Request
-  reach action = reached_by objects_after objects_answer (Served service action) request
-
-  reach_if : (is : Bool) (a b c d : Action) → reach a ≡ reach c → reach b ≡ reach d
-      → reach (if is then a else b) ≡ reach (if is then c else d)
-  reach_if true a b c d one other = one
-  reach_if false a b c d one other = other
-
-  -- Forget lets nothing through
-  forget-reaches : (ledger : LedgerState) (bytes : List ℕ) → reach (forget ledger bytes) ≡ []
-  forget-reaches ledger bytes =
-      elim (size_fault 12 bytes) as (λ fault. reach (unless fault refuses
-      (forget_in (number_at 0 8 bytes) (number_at 8 4 bytes) (slot_of (number_at 0 8 bytes) ledger.taken))) ≡ []) [
-        | None ↦ by_slot (number_at 0 8 bytes) (number_at 8 4 bytes) (slot_of (number_at 0 8 bytes) ledger.taken)
-        | Some status ↦ refl
-      ]
-    where
-      by_number : (originator : ℕ) (same : Bool) (refused : Action) → reach refused ≡ []
-          → reach (if same then Frees originator else refused) ≡ []
-      by_number originator true refused is = refl
-      by_number originator false refused is = is
-
-      by_slot : (originator number : ℕ) (found : Option SlotState) → reach (forget_in originator number found) ≡ []
-      by_slot originator number None = refl
-      by_slot originator number (Some slot) = by_number originator (slot.number == number) _ refl
-
-  module _ (ledger : LedgerState) (max_size by given : ℕ) (reply : List ℕ) (old : SlotState)
-      (had : slot_of by ledger.taken ≡ Some old) (number_is : old.number ≡ given) where
-    abbrev new : LedgerState
-    new = with_last by given (Some reply) ledger
-
-    abbrev slot : SlotState
-    slot = record { originator = by; number = given; reply = Some reply }
-
-    some-reaches : (command : Command) (one other : SlotState) → one.number ≡ other.number
-        → reach (do_by_slot new max_size command (Some one)) ≡ reach (do_by_slot ledger max_size command (Some other))
-    some-reaches command one other same =
-        rw same (reach_if (nat_lt command.number other.number) _ _ _ _ refl
-        (reach_if (command.number == other.number) _ _ _ _ refl refl))
-
-    found-reaches : (command : Command) (found : Option SlotState)
-        → reach (do_by_slot new max_size command found) ≡ reach (do_by_slot ledger max_size command found)
-    found-reaches command None = rw (length-with_slot ledger.taken slot old had) refl
-    found-reaches command (Some one) = some-reaches command one one refl
-
-    slot-reaches : (command : Command)
-        → reach (do_by_slot new max_size command (slot_of command.originator new.taken))
-        ≡ reach (do_by_slot ledger max_size command (slot_of command.originator ledger.taken))
-    slot-reaches command = go (by == command.originator) refl
-      where
-        go : (own : Bool) → (by == command.originator) ≡ own
-            → reach (do_by_slot new max_size command (slot_of command.originator new.taken))
-            ≡ reach (do_by_slot ledger max_size command (slot_of command.originator ledger.taken))
-        go true is =
-            let same = eqb-true by command.originator is in
-            ap (λ found. reach (do_by_slot new max_size command found))
-            (ap (λ o. slot_of o new.taken) (sym same) ∙ slot_of-with_slot ledger.taken slot)
-            ∙ some-reaches command slot old (sym number_is)
-            ∙ ap (λ found. reach (do_by_slot ledger max_size command found))
-            (sym had ∙ ap (λ o. slot_of o ledger.taken) same)
-        go false is =
-            ap (λ found. reach (do_by_slot new max_size command found))
-            (slot_of-with_other ledger.taken slot command.originator (eqb-false by command.originator is))
-            ∙ found-reaches command (slot_of command.originator ledger.taken)
-
-    once-reaches : (bytes : List ℕ) → reach (do_once new max_size bytes) ≡ reach (do_once ledger max_size bytes)
-    once-reaches bytes =
-        let command = command_of bytes in
-        reach_if (nat_lt (length bytes) 22) _ _ _ _ refl
-        (reach_if (not (command.life == ledger.life)) _ _ _ _ refl (slot-reaches command))
-
-    action-reaches : (asked : LedgerRequest) → reach (action_of new max_size asked) ≡ reach (action_of ledger max_size asked)
-    action-reaches asked =
-        reach_if (asked.instance == 0) _ _ _ _ refl
-        (reach_if (asked.instance == 1) _ _ _ _
-        (reach_if (asked.service == services.DO_ONCE) _ _ _ _ (once-reaches asked.data)
-        (reach_if (asked.service == services.GET_LAST) _ _ _ _ refl
-        (reach_if (asked.service == services.FORGET) _ _ _ _
-        (forget-reaches new asked.data ∙ sym (forget-reaches ledger asked.data))
-        (reach_if (asked.service == 0x0e) _ _ _ _ refl
-        (reach_if (asked.service == 0x03) _ _ _ _ refl refl)))))
-        refl)
-
--- The same of a request reaches the objects.
-abbrev pub Reaches : Request → Option LedgerState → Option LedgerState → Type 0
-Reaches request new old =
-    reached_by objects_after objects_answer (fate new request.0 request.1) request
-    ≡ reached_by objects_after objects_answer (fate old request.0 request.1) request
-
-settled-reaches : (ledger : LedgerState) (by given : ℕ) (reply : List ℕ) (request : Request)
-    → Reaches request (Some (settled ledger by given reply)) (Some ledger)
-settled-reaches ledger by given reply request = go (can_settle ledger by given reply) refl
+settled-same : (ledger : LedgerState) (by given : ℕ) (reply : List ℕ)
+    → HaveSameNumbers (settled ledger by given reply) ledger
+settled-same ledger by given reply = record {
+  life = life (can_settle ledger by given reply);
+  free = free (can_settle ledger by given reply) refl;
+  numbers = settled-numbers ledger by given reply;
+}
   where
-    by_asked : (old : SlotState) → slot_of by ledger.taken ≡ Some old → old.number ≡ given → (asked : Option LedgerRequest)
-        → reached_by objects_after objects_answer (fate_of (with_last by given (Some reply) ledger) request.0 asked) request
-        ≡ reached_by objects_after objects_answer (fate_of ledger request.0 asked) request
-    by_asked old had is None = refl
-    by_asked old had is (Some asked) =
-        action-reaches asked.service request ledger request.0 by given reply old had is asked
+    life : (can : Bool) → (if can then with_last by given (Some reply) ledger else ledger).life ≡ ledger.life
+    life true = refl
+    life false = refl
 
-    go : (can : Bool) → can_settle ledger by given reply ≡ can
-        → Reaches request (Some (if can then with_last by given (Some reply) ledger else ledger)) (Some ledger)
-    go false e = refl
-    go true e =
+    free : (can : Bool) → can_settle ledger by given reply ≡ can
+        → has_slot (if can then with_last by given (Some reply) ledger else ledger) ≡ has_slot ledger
+    free false e = refl
+    free true e =
         let own = own-slot given (slot_of by ledger.taken)
         (and_parts (is_kept_reply reply) (is_in_doubt ledger by given) e).1 in
-        by_asked own.0 own.1 own.2 (ledger_request request.1)
+        let slot : SlotState = record { originator = by; number = given; reply = Some reply; ticket = None } in
+        ap (λ n. nat_lt n ledger.slots) (length-with_slot ledger.taken slot own.0 own.1)
 
-pub written-reaches : (write : OwnWrite) (ledger : Option LedgerState) (request : Request)
-    → Reaches request (ledger_written write ledger) ledger
-written-reaches (WritesData instance offset bytes) ledger request = refl
-written-reaches (WritesAttribute class instance attribute offset bytes) ledger request = refl
-written-reaches (SetsStatus status) ledger request = refl
-written-reaches (SetsState state) ledger request = refl
-written-reaches (Prepares reply) ledger request = refl
-written-reaches (Settles by given reply) None request = refl
-written-reaches (Settles by given reply) (Some ledger) request = settled-reaches ledger by given reply request
+-- ---- completing
+
+completed-same : (ledger : LedgerState) (ticket : ℕ) (reply : List ℕ)
+    → HaveSameNumbers (completed ledger ticket reply) ledger
+completed-same ledger ticket reply = record {
+  life = life (is_kept_reply reply);
+  free = free (is_kept_reply reply);
+  numbers = completed-numbers ledger ticket reply;
+}
+  where
+    life : (kept : Bool) → (if kept then with_completed ticket reply ledger else ledger).life ≡ ledger.life
+    life true = refl
+    life false = refl
+
+    free : (kept : Bool) → has_slot (if kept then with_completed ticket reply ledger else ledger) ≡ has_slot ledger
+    free true = ap (λ n. nat_lt n ledger.slots) (length-map ledger.taken (completed_slot ticket reply))
+    free false = refl
+
+-- The ledger after the owner finished a command, or could not: as it was, or with this reply to the ticket.
+pub data IsFinished (ticket : ℕ) (old : Option LedgerState) : Option LedgerState → Type 0 where
+  Unchanged : IsFinished ticket old old
+  Completed : (reply : List ℕ) → IsFinished ticket old (option_map (λ ledger. completed ledger ticket reply) old)
+
+pub finished-ledger : (ticket : ℕ) (reply : Reply) (device : Device)
+    → IsFinished ticket device.ledger (ledger_written (Finishes ticket reply) device)
+finished-ledger ticket reply device = by_done (finished_of ticket reply device.router.queue)
+  where
+    by_done : (done : Option FinishedCommand)
+        → IsFinished ticket device.ledger (unwrap_or (option_map (with_finished ticket reply device) done) device).ledger
+    by_done None = Unchanged
+    by_done (Some done) = Completed (finished_text done.service reply)
+
+-- The objects and the queue after it.
+abbrev with_queue : OwnedState → Option QueueState → OwnedState
+with_queue owned queue = record owned { queue = queue }
+
+-- The objects of the device, or of one that a finish leaves.
+abbrev router_of : ℕ → Reply → Device → Option FinishedCommand → OwnedState
+router_of ticket reply device done = (unwrap_or (option_map (with_finished ticket reply device) done) device).router
+
+pub finished-router : (ticket : ℕ) (reply : Reply) (device : Device)
+    → (unwrap_or (finished_in ticket reply device) device).router
+    ≡ objects_written (Finishes ticket reply) device.router
+finished-router ticket reply device = by_queue device.router.queue refl
+  where
+    by_after : (queue : QueueState) (service : ℕ) (after : Option QueueState) → device.router.queue ≡ Some queue
+        → router_of ticket reply device (option_map (λ q. record { service = service; queue = q }) after)
+        ≡ with_queue device.router (Some (unwrap_or after queue))
+    by_after queue service None e = ap (with_queue device.router) e
+    by_after queue service (Some after) e = refl
+
+    by_command : (queue : QueueState) (found : Option QueuedCommand) → device.router.queue ≡ Some queue
+        → router_of ticket reply device (finished_command queue ticket reply found)
+        ≡ with_queue device.router (Some (unwrap_or (finished_by queue ticket reply found) queue))
+    by_command queue None e = ap (with_queue device.router) e
+    by_command queue (Some command) e =
+        by_after queue command.service (finished_by queue ticket reply (Some command)) e
+
+    by_queue : (queue : Option QueueState) → device.router.queue ≡ queue
+        → router_of ticket reply device (finished_of ticket reply queue)
+        ≡ with_queue device.router (option_map (λ q. unwrap_or (finished q ticket reply) q) queue)
+    by_queue None e = ap (with_queue device.router) e
+    by_queue (Some queue) e = by_command queue (waiting_command ticket queue.waiting) e
+
+pub finished_written : (ticket : ℕ) (reply : Reply) (device : Device)
+    → unwrap_or (finished_in ticket reply device) device ≡ device_written (Finishes ticket reply) device
+finished_written ticket reply device =
+    ap (λ router. let d : Device = record {
+      ledger = (unwrap_or (finished_in ticket reply device) device).ledger;
+      router = router;
+    } in d) (finished-router ticket reply device)
+
+-- ---- the device's own writes
+
+pub written-through : (write : OwnWrite) (device : Device) (request : Request)
+    → LetsThrough request (ledger_written write device) device.ledger
+written-through (WritesData instance offset bytes) device request = refl
+written-through (WritesAttribute class instance attribute offset bytes) device request = refl
+written-through (SetsStatus status) device request = refl
+written-through (SetsState state) device request = refl
+written-through (Prepares reply) device request = refl
+written-through (Settles by given reply) device request = by_ledger device.ledger
+  where
+    by_ledger : (ledger : Option LedgerState)
+        → LetsThrough request (option_map (λ ledger. settled ledger by given reply) ledger) ledger
+    by_ledger None = refl
+    by_ledger (Some ledger) = alike-through (settled ledger by given reply) ledger request (settled-same ledger by given reply)
+written-through (Finishes ticket reply) device request = go device.ledger _ (finished-ledger ticket reply device)
+  where
+    go : (old new : Option LedgerState) → IsFinished ticket old new → LetsThrough request new old
+    go old new Unchanged = refl
+    go None new (Completed text) = refl
+    go (Some ledger) new (Completed text) =
+        alike-through (completed ledger ticket text) ledger request (completed-same ledger ticket text)
 
 -- ---- numbers stay settled
 
-pub written-settled : (write : OwnWrite) (ledger : Option LedgerState) (originator number : ℕ) (kept : Option (List ℕ))
-    → Settled number kept (slot_in originator ledger)
-    → (other : Option (List ℕ)) × Settled number other (slot_in originator (ledger_written write ledger))
-written-settled (WritesData instance offset bytes) ledger originator number kept is = (kept, is)
-written-settled (WritesAttribute class instance attribute offset bytes) ledger originator number kept is = (kept, is)
-written-settled (SetsStatus status) ledger originator number kept is = (kept, is)
-written-settled (SetsState state) ledger originator number kept is = (kept, is)
-written-settled (Prepares reply) ledger originator number kept is = (kept, is)
-written-settled (Settles by given reply) None originator number kept is = absurd is
-written-settled (Settles by given reply) (Some ledger) originator number kept is =
-    settled-stays ledger by given reply originator number kept is
+abbrev StaysSettled : ℕ → ℕ → Option LedgerState → Type 0
+StaysSettled originator number ledger = (other : List ℕ) × Settled number other (slot_in originator ledger)
+
+pub written-settled : (write : OwnWrite) (device : Device) (originator number : ℕ) (kept : List ℕ)
+    → Settled number kept (slot_in originator device.ledger)
+    → (other : List ℕ) × Settled number other (slot_in originator (ledger_written write device))
+written-settled (WritesData instance offset bytes) device originator number kept is = (kept, is)
+written-settled (WritesAttribute class instance attribute offset bytes) device originator number kept is = (kept, is)
+written-settled (SetsStatus status) device originator number kept is = (kept, is)
+written-settled (SetsState state) device originator number kept is = (kept, is)
+written-settled (Prepares reply) device originator number kept is = (kept, is)
+written-settled (Settles by given reply) device originator number kept is = by_ledger device.ledger is
+  where
+    by_ledger : (ledger : Option LedgerState) → Settled number kept (slot_in originator ledger)
+        → StaysSettled originator number (option_map (λ ledger. settled ledger by given reply) ledger)
+    by_ledger None is = absurd is
+    by_ledger (Some ledger) is = settled-stays ledger by given reply originator number kept is
+written-settled (Finishes ticket reply) device originator number kept is =
+    go device.ledger _ (finished-ledger ticket reply device) is
+  where
+    go : (old new : Option LedgerState) → IsFinished ticket old new → Settled number kept (slot_in originator old)
+        → StaysSettled originator number new
+    go old new Unchanged is = (kept, is)
+    go None new (Completed text) is = absurd is
+    go (Some ledger) new (Completed text) is = completed-stays ledger ticket text originator number kept is

@@ -71,6 +71,7 @@ asked_with content head = record {
   attribute = head.attribute;
   content = content;
   reply_limit = head.reply_limit;
+  kind = head.kind;
 }
 
 -- By what is seen of a piece: the session of its peer, and the whole frame that it completes.

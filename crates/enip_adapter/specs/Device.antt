@@ -1,11 +1,17 @@
 -- What the device itself does with its adapter, apart from its peers' frames.
 use Rattle.std.specs.Prelude.{Option}
+use Rattle.cip_ledger.specs.Device.{Device}
 use Rattle.cip_ledger.specs.Ledger.{LedgerState}
 use Rattle.cip_objects.specs.Contents.{Contents}
 use Rattle.cip_owner.specs.Owned.{OwnedState}
 use Rattle.cip_owner.specs.Replies.{Reply}
 use Rattle.enip_adapter.specs.Calls.{AdapterState}
 use Rattle.enip_adapter.specs.OwnWrites.{with_contents}
+
+-- The adapter with another device, and all else unchanged.
+abbrev pub with_device : AdapterState → Device → AdapterState
+with_device a device =
+    record a { state = record a.state { shared = record a.state.shared { objects = device } } }
 
 -- The adapter with another router behind the ledger, and all else unchanged, the ledger too.
 abbrev pub with_router : AdapterState → OwnedState → AdapterState

@@ -8,7 +8,7 @@ use Rattle.cip_bytes.specs.declared.protocol.Command.TheVariants.{SendRRData, Se
 use Rattle.cip_bytes.specs.declared.protocol.TheConstants.{UNCONNECTED_LIMIT}
 use Rattle.cip_class3.specs.Item.{sequence_count_of, message_of}
 use Rattle.cip_class3.specs.TargetRule.{TargetState, has_accepted_size, is_held, max_reply_size}
-use Rattle.cip_ledger.specs.Device.{Device, exec_device, run}
+use Rattle.cip_ledger.specs.Device.{Device, owned_standing, exec_device, run}
 use Rattle.cip_ledger.specs.Laws.{HasNoDoubles, Rises}
 use Rattle.cip_ledger.specs.Runs.{Request, journal, reached}
 use Rattle.cip_ledger.specs.Runs.{Event as LedgerEvent}
@@ -101,7 +101,7 @@ device_requests s (event ∷ events) = requests_by_event s event ++ device_reque
 abbrev pub requests_of_calls : AdapterState → List Call → List Request
 requests_of_calls a calls = device_requests a.state (events_of_calls a calls)
 
--- ---- the objects and the prepared reply, without the ledger
+-- ---- the objects, the prepared reply and the queue, without the ledger
 
 abbrev pub objects_after : OwnedState → ℕ → List ℕ → OwnedState
 objects_after owned max_size request = (exec_owned owned max_size request).after
@@ -142,7 +142,7 @@ abbrev pub device_after : Device → List DeviceStep → Device
 device_after device [] = device
 device_after device (step ∷ steps) = device_after (device_after_step device step) steps
 
--- The objects and the prepared reply alone after these steps.
+-- The objects, the prepared reply and the queue alone after these steps.
 abbrev pub objects_after_step : OwnedState → DeviceStep → OwnedState
 objects_after_step owned (Requested request) = objects_after owned request.0 request.1
 objects_after_step owned (WrittenBy write) = objects_written write owned
@@ -153,7 +153,7 @@ objects_after_steps owned (step ∷ steps) = objects_after_steps (objects_after_
 
 -- What reaches the objects: of each request what the ledger lets through, and each write.
 abbrev pub reached_by_step : Device → DeviceStep → List DeviceStep
-reached_by_step device (Requested request) = map Requested (reached objects_after objects_answer device (request ∷ []))
+reached_by_step device (Requested request) = map Requested (reached objects_after objects_answer owned_standing device (request ∷ []))
 reached_by_step device (WrittenBy write) = WrittenBy write ∷ []
 
 abbrev pub reached_by_steps : Device → List DeviceStep → List DeviceStep
@@ -163,7 +163,7 @@ reached_by_steps device (step ∷ steps) =
 
 -- The commands that the ledger executes, and the slots that it frees. A write does neither.
 abbrev pub journal_by_step : Device → DeviceStep → List LedgerEvent
-journal_by_step device (Requested request) = journal objects_after objects_answer device (request ∷ [])
+journal_by_step device (Requested request) = journal objects_after objects_answer owned_standing device (request ∷ [])
 journal_by_step device (WrittenBy write) = []
 
 abbrev pub journal_by_steps : Device → List DeviceStep → List LedgerEvent
@@ -187,8 +187,8 @@ abbrev pub run_law : Type 0
 run_law = (a : AdapterState) (calls : List Call) → AllByRecursion IsNoWrite calls →
     (after_calls a calls).state.shared.objects ≡ (run a.state.shared.objects (requests_of_calls a calls)).after
 
--- The objects and the prepared reply are as if they alone had executed what reached them: each request that is not to
--- the ledger, the embedded request of each command once, and each write of the device.
+-- The objects, the prepared reply and the queue are as if they alone had executed what reached them: each request that is
+-- not to the ledger, the embedded request of each command once, and each write of the device.
 abbrev pub objects_law : Type 0
 objects_law = (a : AdapterState) (calls : List Call) → (after_calls a calls).state.shared.objects.router
     ≡ objects_after_steps a.state.shared.objects.router

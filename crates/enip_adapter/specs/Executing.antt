@@ -1,6 +1,7 @@
--- The command of the ledger that a piece would execute: that of the frame which it completes.
+-- The command of the ledger that a piece would execute, unless it is queued: that of the frame which it completes.
 use Rattle.std.specs.Prelude.{ℕ, if◌then◌else◌, Option, Some, None, List, [], ◌∷◌, map}
 use Rattle.cip_ledger.specs.declared.doubt.DoubtfulCommand.{DoubtfulCommand}
+use Rattle.cip_ledger.specs.Device.{owned_standing}
 use Rattle.cip_ledger.specs.Executing.{command_of}
 use Rattle.cip_ledger.specs.Runs.{Request}
 use Rattle.enip_wire.specs.declared.reader.FrameView.{FrameView}
@@ -18,7 +19,8 @@ use Rattle.enip_adapter.specs.Turn.{session_of}
 -- At most one request of a frame reaches the device.
 abbrev pub executing_requests : Shared → List Request → Option DoubtfulCommand
 executing_requests shared [] = None
-executing_requests shared (request ∷ more) = command_of shared.objects.ledger request
+executing_requests shared (request ∷ more) =
+    command_of owned_standing shared.objects.ledger shared.objects.router request
 
 abbrev pub executing_frame : Shared → Session → Frame → Option DoubtfulCommand
 executing_frame shared session f = executing_requests shared (requests_in_frame shared session f)

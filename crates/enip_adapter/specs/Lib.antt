@@ -29,6 +29,8 @@ pub mod DeviceRuns
 pub mod Asks
 pub mod Executing
 pub mod OwnerLaws
+pub mod QueueLaws
+pub mod LedgerSteps
 pub mod RightsLaws
 pub mod ShareLaws
 pub mod RightsRows

@@ -1,17 +1,20 @@
 -- What the device itself writes, apart from the frames of its peers: values of its objects, the next reply of its owner,
--- and the reply to a command in doubt.
+-- the reply to a command in doubt, and the reply to a queued command.
 use Rattle.std.specs.Prelude.{ℕ, ◌==◌, ◌&&◌, Bool, false, if◌then◌else◌, List, Option, Some, None, option_map, unwrap_or}
 use Rattle.cip_bytes.specs.declared.protocol.TheConstants.{ASSEMBLY}
-use Rattle.cip_ledger.specs.Device.{Device}
+use Rattle.cip_ledger.specs.Device.{Device, finished_in}
 use Rattle.cip_ledger.specs.Doubt.{can_settle, settled}
 use Rattle.cip_ledger.specs.Ledger.{LedgerState}
 use Rattle.cip_objects.specs.Contents.{Contents}
 use Rattle.cip_objects.specs.DeviceWrites.{device_write, object_write, with_device_status, with_device_state}
 use Rattle.cip_owner.specs.Owned.{OwnedState}
+use Rattle.cip_owner.specs.QueueRuns as queue_runs
+use Rattle.cip_owner.specs.QueueRuns.{after_step}
 use Rattle.cip_owner.specs.Replies.{Reply}
 
 -- Bytes of an assembly's data or of an attribute, from an offset on; the device's status, or its state; the reply that
--- the next request to the owner takes; or the reply with which an originator's command in doubt is settled.
+-- the next request to the owner takes; the reply with which an originator's command in doubt is settled; or the owner's
+-- reply with which the queued command of a ticket is finished.
 pub data OwnWrite : Type 0 where
   WritesData : (instance offset : ℕ) → (bytes : List ℕ) → OwnWrite
   WritesAttribute : (class instance attribute offset : ℕ) → (bytes : List ℕ) → OwnWrite
@@ -19,6 +22,7 @@ pub data OwnWrite : Type 0 where
   SetsState : (state : ℕ) → OwnWrite
   Prepares : (reply : Option Reply) → OwnWrite
   Settles : (originator number : ℕ) → (reply : List ℕ) → OwnWrite
+  Finishes : (ticket : ℕ) → (reply : Reply) → OwnWrite
 
 -- The objects after the device wrote bytes into an attribute, from an offset on. The attribute is the data of an
 -- assembly or an attribute of an application object. None if it is neither, or if its value cannot hold the bytes.
@@ -27,11 +31,12 @@ attribute_write objects class instance attribute offset bytes =
     if (class == ASSEMBLY) && (attribute == 3) then device_write objects instance offset bytes
     else object_write objects class instance attribute offset bytes
 
--- With other objects. The reply that is prepared stays.
+-- With other objects. The reply that is prepared stays, and so does the queue.
 abbrev pub with_contents : OwnedState → Contents → OwnedState
 with_contents owned objects = record owned { objects = objects }
 
--- The objects and the prepared reply after it. Bytes that are refused change nothing.
+-- The objects, the prepared reply and the queue after it. Bytes that are refused change nothing, and neither does a reply
+-- to a command that does not wait, or that cannot be given to it.
 abbrev pub objects_written : OwnWrite → OwnedState → OwnedState
 objects_written (WritesData instance offset bytes) owned =
     with_contents owned (unwrap_or (device_write owned.objects instance offset bytes) owned.objects)
@@ -42,16 +47,19 @@ objects_written (SetsStatus status) owned = with_contents owned (with_device_sta
 objects_written (SetsState state) owned = with_contents owned (with_device_state owned.objects state)
 objects_written (Prepares reply) owned = record owned { prepared = reply }
 objects_written (Settles originator number reply) owned = owned
+objects_written (Finishes ticket reply) owned =
+    record owned { queue = option_map (λ queue. after_step queue (queue_runs.Finishes ticket reply)) owned.queue }
 
--- The ledger after it, if there is one. Only settling a command changes it.
-abbrev pub ledger_written : OwnWrite → Option LedgerState → Option LedgerState
-ledger_written (WritesData instance offset bytes) ledger = ledger
-ledger_written (WritesAttribute class instance attribute offset bytes) ledger = ledger
-ledger_written (SetsStatus status) ledger = ledger
-ledger_written (SetsState state) ledger = ledger
-ledger_written (Prepares reply) ledger = ledger
-ledger_written (Settles originator number reply) ledger =
-    option_map (λ ledger. settled ledger originator number reply) ledger
+-- The ledger after it, if there is one. Only settling a command changes it, and finishing a queued one that it executed.
+abbrev pub ledger_written : OwnWrite → Device → Option LedgerState
+ledger_written (WritesData instance offset bytes) device = device.ledger
+ledger_written (WritesAttribute class instance attribute offset bytes) device = device.ledger
+ledger_written (SetsStatus status) device = device.ledger
+ledger_written (SetsState state) device = device.ledger
+ledger_written (Prepares reply) device = device.ledger
+ledger_written (Settles originator number reply) device =
+    option_map (λ ledger. settled ledger originator number reply) device.ledger
+ledger_written (Finishes ticket reply) device = (unwrap_or (finished_in ticket reply device) device).ledger
 
 -- Whether a command of the ledger, if there is one, can be settled with this reply.
 abbrev pub can_settle_in : Option LedgerState → ℕ → ℕ → List ℕ → Bool
@@ -61,6 +69,6 @@ can_settle_in (Some ledger) originator number reply = can_settle ledger originat
 -- The device after it.
 abbrev pub device_written : OwnWrite → Device → Device
 device_written write device = record {
-  ledger = ledger_written write device.ledger;
+  ledger = ledger_written write device;
   router = objects_written write device.router;
 }

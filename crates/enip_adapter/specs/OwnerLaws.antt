@@ -5,7 +5,7 @@ use Rattle.cip_bytes.specs.Protocol.{command_of}
 use Rattle.cip_bytes.specs.declared.protocol.Command.TheVariants.{SendUnitData}
 use Rattle.cip_class3.specs.Item.{sequence_count_of}
 use Rattle.cip_class3.specs.TargetRule.{is_held}
-use Rattle.cip_ledger.specs.Device.{Device, exec_device}
+use Rattle.cip_ledger.specs.Device.{Device, owned_standing, exec_device}
 use Rattle.cip_ledger.specs.Laws.{HasNoDoubles}
 use Rattle.cip_ledger.specs.Runs.{Request, Event, Executed, Freed}
 use Rattle.cip_ledger.specs.Services.{Executes, reply_to, success, DONE}
@@ -35,7 +35,7 @@ use Rattle.enip_adapter.specs.Turn.{at_moment, session_of}
 abbrev pub one_asked_law : Type 0
 one_asked_law = (a : AdapterState) (now peer : ℕ) (piece : List ℕ) → length (asks_of_call a (Feeds now peer piece)) ≤ 1
 
--- The objects, and what is prepared.
+-- The objects, what is prepared, and the queue.
 abbrev pub owned_in : AdapterState → OwnedState
 owned_in a = a.state.shared.objects.router
 
@@ -74,12 +74,12 @@ repeat_law = (a : AdapterState) (now peer : ℕ) (piece : List ℕ) → IsRepeat
 -- ---- what becomes of a reply
 
 -- A feed that asks takes a prepared reply that fits what is asked: then nothing is prepared. A set that the owner
--- accepts is stored, and no other object changes.
+-- accepts is stored, and no other object changes, nor does the queue.
 abbrev pub given_law : Type 0
 given_law = (a : AdapterState) (now peer : ℕ) (piece : List ℕ) (asked : Asked) (reply : Reply) →
     asks_of_call a (Feeds now peer piece) ≡ asked ∷ [] → is_fit asked reply ≡ true →
     owned_in (after_call (with_reply a (Some reply)) (Feeds now peer piece))
-    ≡ record { objects = after_reply (owned_in a).objects asked reply.status; prepared = None }
+    ≡ record (owned_in a) { objects = after_reply (owned_in a).objects asked reply.status; prepared = None }
 
 -- A feed that asks nothing leaves what is prepared.
 abbrev pub unasked_law : Type 0
@@ -97,7 +97,7 @@ abbrev pub answered_law : Type 0
 answered_law = (device : Device) (request : Request) (asked : Asked) (reply : Reply) →
     asks_by_step device (Requested request) ≡ asked ∷ [] → is_fit asked reply ≡ true →
     (exec_device (device_written (Prepares (Some reply)) device) request.0 request.1).answer
-    ≡ answer_by (fate device.ledger request.0 request.1) request.1 reply
+    ≡ answer_by (fate owned_standing device.ledger device.router request.0 request.1) request.1 reply
 
 -- ---- with nobody to ask
 

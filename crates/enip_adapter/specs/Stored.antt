@@ -10,6 +10,7 @@ use Rattle.cip_manager.specs.declared.connection.Connection.{Connection}
 use Rattle.cip_manager.specs.declared.connection.Triad.{Triad}
 use Rattle.cip_manager.specs.Manager.{ManagerState}
 use Rattle.cip_owner.specs.Owned.{OwnedState}
+use Rattle.cip_owner.specs.Queue.{QueuedCommand, QueueResult, QueueState}
 use Rattle.cip_owner.specs.Replies.{Reply}
 use Rattle.enip_adapter.specs.declared.peer.Rights.{Rights}
 use Rattle.enip_adapter.specs.declared.peer.Rights.TheVariants.{Read, Write}
@@ -109,13 +110,15 @@ listen_code =
     code_by (List ℕ × ℕ) (coded× (coded_list coded_ℕ) coded_ℕ) (λ l. (l.address, l.port))
     (λ p. record { address = p.0; port = p.1 }) (λ _. refl)
 
-abbrev pub slot_from : ℕ × (ℕ × Option (List ℕ)) → SlotState
-slot_from (originator, (number, reply)) = record { originator = originator; number = number; reply = reply }
+abbrev pub slot_from : ℕ × (ℕ × (Option (List ℕ) × Option ℕ)) → SlotState
+slot_from (originator, (number, (reply, ticket))) =
+    record { originator = originator; number = number; reply = reply; ticket = ticket }
 
 abbrev pub slot_code : Coded SlotState
 slot_code =
-    code_by (ℕ × (ℕ × Option (List ℕ))) (coded× coded_ℕ (coded× coded_ℕ (coded_option (coded_list coded_ℕ))))
-    (λ s. (s.originator, (s.number, s.reply)))
+    code_by (ℕ × (ℕ × (Option (List ℕ) × Option ℕ)))
+    (coded× coded_ℕ (coded× coded_ℕ (coded× (coded_option (coded_list coded_ℕ)) (coded_option coded_ℕ))))
+    (λ s. (s.originator, (s.number, (s.reply, s.ticket))))
     slot_from (λ _. refl)
 
 abbrev pub ledger_from : ℕ × (ℕ × List SlotState) → LedgerState
@@ -132,10 +135,54 @@ reply_code =
     code_by (ℕ × List ℕ) (coded× coded_ℕ (coded_list coded_ℕ)) (λ r. (r.status, r.content))
     (λ p. record { status = p.0; content = p.1 }) (λ _. refl)
 
+abbrev pub command_from : ℕ × (ℕ × (ℕ × (ℕ × (List ℕ × ℕ)))) → QueuedCommand
+command_from (ticket, (class, (instance, (service, (content, reply_limit))))) = record {
+  ticket = ticket;
+  class = class;
+  instance = instance;
+  service = service;
+  content = content;
+  reply_limit = reply_limit;
+}
+
+abbrev pub command_code : Coded QueuedCommand
+command_code =
+    code_by (ℕ × (ℕ × (ℕ × (ℕ × (List ℕ × ℕ)))))
+    (coded× coded_ℕ (coded× coded_ℕ (coded× coded_ℕ (coded× coded_ℕ (coded× (coded_list coded_ℕ) coded_ℕ)))))
+    (λ c. (c.ticket, (c.class, (c.instance, (c.service, (c.content, c.reply_limit))))))
+    command_from (λ _. refl)
+
+abbrev pub result_from : ℕ × (ℕ × (ℕ × (ℕ × List ℕ))) → QueueResult
+result_from (ticket, (class, (instance, (status, content)))) =
+    record { ticket = ticket; class = class; instance = instance; status = status; content = content }
+
+abbrev pub result_code : Coded QueueResult
+result_code =
+    code_by (ℕ × (ℕ × (ℕ × (ℕ × List ℕ))))
+    (coded× coded_ℕ (coded× coded_ℕ (coded× coded_ℕ (coded× coded_ℕ (coded_list coded_ℕ)))))
+    (λ r. (r.ticket, (r.class, (r.instance, (r.status, r.content)))))
+    result_from (λ _. refl)
+
+abbrev pub queue_from : ℕ × (ℕ × (List QueuedCommand × List QueueResult)) → QueueState
+queue_from (limit, (next, (waiting, results))) =
+    record { limit = limit; next = next; waiting = waiting; results = results }
+
+abbrev pub queue_code : Coded QueueState
+queue_code =
+    code_by (ℕ × (ℕ × (List QueuedCommand × List QueueResult)))
+    (coded× coded_ℕ (coded× coded_ℕ (coded× (coded_list command_code) (coded_list result_code))))
+    (λ q. (q.limit, (q.next, (q.waiting, q.results))))
+    queue_from (λ _. refl)
+
+abbrev pub owned_from : Contents × (Option Reply × Option QueueState) → OwnedState
+owned_from (objects, (prepared, queue)) = record { objects = objects; prepared = prepared; queue = queue }
+
 abbrev pub owned_code : Coded OwnedState
 owned_code =
-    code_by (Contents × Option Reply) (coded× contents_code (coded_option reply_code)) (λ o. (o.objects, o.prepared))
-    (λ p. record { objects = p.0; prepared = p.1 }) (λ _. refl)
+    code_by (Contents × (Option Reply × Option QueueState))
+    (coded× contents_code (coded× (coded_option reply_code) (coded_option queue_code)))
+    (λ o. (o.objects, (o.prepared, o.queue)))
+    owned_from (λ _. refl)
 
 abbrev pub served_code : Coded Device
 served_code =

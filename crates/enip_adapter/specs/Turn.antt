@@ -121,7 +121,7 @@ at_moment shared now = record shared {
   manager = without_overdue shared.manager (max shared.moment now);
 }
 
--- The device's own write changes its objects, or settles a command of its ledger, and nothing else.
+-- The device's own write changes its objects, settles a command of its ledger or finishes a queued one, and nothing else.
 abbrev pub shared_written : Shared → OwnWrite → Shared
 shared_written shared write = record shared { objects = device_written write shared.objects }
 

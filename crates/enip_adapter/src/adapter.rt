@@ -2,7 +2,7 @@
 //! Text: docs/PROTOCOL.md, "A peer".
 
 ghost use Rattle.std.specs.Prelude.{◌≡◌, ◌<◌, ◌≤◌, ◌-◌, length, slice_index_or, false, not, nat_lt};
-ghost use Rattle.std.specs.Prelude.{IfOk, OnErr, IfSome, Some, None, is_some, is_none, unwrap_or};
+ghost use Rattle.std.specs.Prelude.{OnErr, IfSome, None, is_some, is_none};
 ghost use Rattle.std.specs.Borrow.{sem};
 ghost use Rattle.std.specs.Io.BufRead.{Rests};
 ghost use Rattle.std.specs.Option.{option_map};
@@ -11,32 +11,27 @@ ghost use Rattle.cip_manager.specs.declared.connection.Connection.{Connection};
 ghost use Rattle.cip_manager.specs.Connection.{earliest_deadline, has_id};
 ghost use Rattle.cip_manager.specs.ConnectionInfo.{connection_info};
 ghost use Rattle.enip_adapter.specs.Turn.{session_of, sent};
-ghost use Rattle.cip_ledger.specs.Device.{device_of};
-ghost use Rattle.cip_ledger.specs.Doubt.{settled};
 ghost use Rattle.cip_objects.specs.Changes.{changes_of, changes_at};
-ghost use Rattle.cip_objects.specs.DeviceWrites.{device_write, with_device_status, with_device_state};
 ghost use Rattle.cip_objects.specs.ObjectMap.{key};
 ghost use Rattle.enip_adapter.specs.Adapter.{full_number, feed_output};
 ghost use Rattle.enip_adapter.specs.Groups.{has_share};
-ghost use Rattle.enip_adapter.specs.Device.{with_objects, with_prepared, with_ledger};
-ghost use Rattle.enip_adapter.specs.OwnWrites.{OwnWrite, attribute_write, can_settle_in};
 ghost use Rattle.enip_adapter.specs.Replies.{written};
 ghost use Rattle.enip_adapter.specs.Discovery.{discovered};
 
 mod asking;
+mod making;
+mod own_writes;
 
 use crate::commands::DiscoveryBuffer;
 use crate::no_reply_reason::NoReplyReason;
 use crate::peer::{Peer, Rights, Session};
 use crate::peer_slots::PeerSlots;
 use crate::reply::{AnswerFrame, LONGEST_ANSWER, Reaction, Reply};
-use crate::shared::{Listen, Shared};
-use cip_bytes::protocol::ASSEMBLY;
-use cip_ledger::{Ledger, LedgerRouter};
-use cip_manager::{ConnectionInfo, Manager, Steps};
+use crate::shared::Shared;
+use cip_ledger::Ledger;
+use cip_manager::{ConnectionInfo, Steps};
 use cip_objects::{Objects, ReplyBuf};
-use cip_owner::{OwnedObjects, OwnerReply};
-use std::alloc::{AllocError, Global};
+use cip_owner::{OwnerReply, Queue};
 use std::marker::Model;
 use thiserror::Error;
 
@@ -131,7 +126,6 @@ pub struct Fed<'a> {
 /// }
 /// adapter.end(peer);
 /// ```
-#[derive(Drop)]
 pub struct Adapter {
     // The next session handle: 2^32 once the last one was assigned.
     next_handle: u64,
@@ -141,6 +135,19 @@ pub struct Adapter {
     // call is never used.
     reply: ReplyBuf,
     answer: AnswerFrame,
+}
+
+// Written out, so that each exit of a function that owns one calls it, and has no drop of every part.
+impl Drop for Adapter {
+    fn drop(self) {
+        let Adapter {
+            next_handle: _,
+            shared: _,
+            places: _,
+            reply: _,
+            answer: _,
+        } = self;
+    }
 }
 
 impl Model for Adapter {
@@ -160,144 +167,11 @@ impl Model for Adapter {
 }
 
 impl Adapter {
-    ghost use Rattle.enip_adapter.specs.Adapter.{new_adapter, shared_adapter, begin_output};
+    ghost use Rattle.enip_adapter.specs.Adapter.{begin_output};
     ghost use Rattle.enip_adapter.specs.declared.peer.Rights.TheVariants.{Write};
     ghost use Rattle.enip_adapter.specs.Calls.{Call, call_meaning, call_answer, after_call};
     ghost use Rattle.enip_adapter.specs.Serving.{is_peer_served};
     ghost use Rattle.enip_adapter.specs.contracts.adapter.Adapter.{the_row};
-
-    /// Makes an adapter with no peer and no connection, and without a command ledger. It allocates all of its memory
-    /// here.
-    ///
-    /// # Errors
-    ///
-    /// `AllocError` if memory is refused.
-    pub fn new(
-        alloc: Global,
-        objects: Objects,
-        listen: Listen,
-        limits: Limits,
-    ) -> Result<Adapter, AllocError>
-        requires peers_from { 1 ≤ limits.peers }
-        requires peers_to { limits.peers ≤ 16 }
-        requires connections_from { 1 ≤ limits.connections }
-        requires connections_to { limits.connections ≤ 64 }
-        requires handle { 1 ≤ limits.first_handle }
-        requires id { 1 ≤ limits.first_id }
-        ensures { IfOk result (λ a. a ≡ new_adapter (device_of None objects) listen limits) }
-    {
-        let device = LedgerRouter {
-            ledger: None,
-            router: OwnedObjects::new(objects),
-        };
-        Adapter::of_device(alloc, device, listen, limits, Shares::NONE)
-    }
-
-    /// Makes an adapter as `new` does, with a command ledger before its objects: a command that is sent again is
-    /// executed once, even over another connection.
-    ///
-    /// # Errors
-    ///
-    /// `AllocError` if memory is refused.
-    pub fn with_ledger(
-        alloc: Global,
-        objects: Objects,
-        ledger: Ledger,
-        listen: Listen,
-        limits: Limits,
-    ) -> Result<Adapter, AllocError>
-        requires peers_from { 1 ≤ limits.peers }
-        requires peers_to { limits.peers ≤ 16 }
-        requires connections_from { 1 ≤ limits.connections }
-        requires connections_to { limits.connections ≤ 64 }
-        requires handle { 1 ≤ limits.first_handle }
-        requires id { 1 ≤ limits.first_id }
-        ensures { IfOk result (λ a. a ≡ new_adapter (device_of (Some ledger) objects) listen limits) }
-    {
-        let device = LedgerRouter {
-            ledger: Some(ledger),
-            router: OwnedObjects::new(objects),
-        };
-        Adapter::of_device(alloc, device, listen, limits, Shares::NONE)
-    }
-
-    /// Makes an adapter as `new` and `with_ledger` do, in which one group of peers may hold no more than its share. See
-    /// `begin_as` for what a group is.
-    ///
-    /// ```
-    /// let shares = Shares { peers: 4, connections: 8 };
-    /// let mut adapter = Adapter::shared(alloc, objects, None, listen, limits, shares)?;
-    /// ```
-    ///
-    /// # Errors
-    ///
-    /// `AllocError` if memory is refused.
-    pub fn shared(
-        alloc: Global,
-        objects: Objects,
-        ledger: Option<Ledger>,
-        listen: Listen,
-        limits: Limits,
-        shares: Shares,
-    ) -> Result<Adapter, AllocError>
-        requires peers_from { 1 ≤ limits.peers }
-        requires peers_to { limits.peers ≤ 16 }
-        requires connections_from { 1 ≤ limits.connections }
-        requires connections_to { limits.connections ≤ 64 }
-        requires handle { 1 ≤ limits.first_handle }
-        requires id { 1 ≤ limits.first_id }
-        requires share_from { 1 ≤ shares.peers }
-        requires share_to { shares.peers ≤ 16 }
-        requires connection_share_from { 1 ≤ shares.connections }
-        requires connection_share_to { shares.connections ≤ 64 }
-        ensures { IfOk result (λ a. a ≡ shared_adapter (device_of ledger objects) listen limits shares) }
-    {
-        let device = LedgerRouter {
-            ledger,
-            router: OwnedObjects::new(objects),
-        };
-        Adapter::of_device(alloc, device, listen, limits, shares)
-    }
-
-    /// Makes an adapter of the objects, with the ledger before them if there is one.
-    fn of_device(
-        alloc: Global,
-        device: LedgerRouter<OwnedObjects>,
-        listen: Listen,
-        limits: Limits,
-        shares: Shares,
-    ) -> Result<Adapter, AllocError>
-        requires peers_from { 1 ≤ limits.peers }
-        requires peers_to { limits.peers ≤ 16 }
-        requires connections_from { 1 ≤ limits.connections }
-        requires connections_to { limits.connections ≤ 64 }
-        requires handle { 1 ≤ limits.first_handle }
-        requires id { 1 ≤ limits.first_id }
-        ensures { IfOk result (λ a. a ≡ shared_adapter device listen limits shares) }
-    {
-        let places = PeerSlots::new(alloc, limits.peers)?;
-        let key = device.router.objects.device();
-        let manager = Manager::with_share(
-            alloc,
-            limits.connections,
-            shares.connections,
-            limits.first_id,
-            key,
-        )?;
-        Ok(Adapter {
-            next_handle: u64::from(limits.first_handle),
-            shared: Shared {
-                listen,
-                share: shares.peers,
-                moment: 0,
-                manager,
-                objects: device,
-            },
-            places,
-            reply: ReplyBuf::new(),
-            answer: AnswerFrame::new(),
-        })
-    }
 
     /// Begins a peer that may do everything and is in no group, and assigns it the next session handle.
     ///
@@ -432,109 +306,12 @@ impl Adapter {
         self.shared.objects.ledger.as_ref()
     }
 
-    /// Writes bytes into the data of an assembly, from `offset` on, on behalf of the device itself. Whether peers may
-    /// set the assembly does not matter.
-    ///
-    /// Returns `false`, and changes nothing, if there is no such assembly or the bytes go past the end of its data. The
-    /// write is not counted in `changes`, and nothing else of the adapter changes.
-    pub fn write_data(&mut self, instance: u32, offset: usize, bytes: &[u8]) -> bool
-        ensures written { self.new ≡ with_objects self.old (unwrap_or
-            (device_write self.old.state.shared.objects.router.objects instance offset bytes.now)
-            self.old.state.shared.objects.router.objects) }
-        ensures told { result
-            ≡ is_some (device_write self.old.state.shared.objects.router.objects instance offset bytes.now) }
-        ensures call { self.new ≡ after_call self.old (Call.Writes (OwnWrite.WritesData instance offset bytes.now)) }
+    /// The queue of commands: those that wait, in the order of their tickets, and the last 256 results. `None` if the
+    /// adapter has none.
+    pub fn queue(&self) -> Option<&Queue>
+        ensures { option_map (λ queue. queue.now) result ≡ self.now.state.shared.objects.router.queue }
     {
-        self.shared
-            .objects
-            .router
-            .objects
-            .write_data(instance, offset, bytes)
-    }
-
-    /// Writes bytes into an attribute, from `offset` on, on behalf of the device itself: the data of an assembly (class
-    /// 0x04, attribute 3) or an attribute of an application object. Whether peers may set it does not matter.
-    ///
-    /// Returns `false`, and changes nothing, if it is neither or its value cannot hold the bytes: they must end within
-    /// it, and a SHORT_STRING is written as a whole. The write is not counted in `attribute_changes`, and nothing else
-    /// of the adapter changes.
-    ///
-    /// ```
-    /// adapter.write_attribute(0x64, 1, 3, 0, &[0x10, 0x27]); // the INT at attribute 3 is 10,000 now
-    /// ```
-    pub fn write_attribute(
-        &mut self,
-        class: u16,
-        instance: u32,
-        attribute: u16,
-        offset: usize,
-        bytes: &[u8],
-    ) -> bool
-        ensures written { self.new ≡ with_objects self.old (unwrap_or
-            (attribute_write self.old.state.shared.objects.router.objects class instance attribute offset bytes.now)
-            self.old.state.shared.objects.router.objects) }
-        ensures told { result ≡ is_some
-            (attribute_write self.old.state.shared.objects.router.objects class instance attribute offset bytes.now) }
-        ensures call { self.new ≡ after_call self.old
-            (Call.Writes (OwnWrite.WritesAttribute class instance attribute offset bytes.now)) }
-    {
-        let objects = &mut self.shared.objects.router.objects;
-        if class == ASSEMBLY && attribute == 3 {
-            return objects.write_data(instance, offset, bytes);
-        }
-        objects.write_attribute(class, instance, attribute, offset, bytes)
-    }
-
-    /// Sets the device's status, a WORD: attribute 5 of the Identity object, which ListIdentity shows too. Nothing else
-    /// changes.
-    pub fn set_device_status(&mut self, status: u16)
-        ensures written { self.new
-            ≡ with_objects self.old (with_device_status self.old.state.shared.objects.router.objects status) }
-        ensures call { self.new ≡ after_call self.old (Call.Writes (OwnWrite.SetsStatus status)) }
-    {
-        self.shared.objects.router.objects.set_device_status(status);
-    }
-
-    /// Sets the device's state, a USINT: attribute 8 of the Identity object, which ListIdentity shows too. Nothing else
-    /// changes.
-    pub fn set_device_state(&mut self, state: u8)
-        ensures written { self.new
-            ≡ with_objects self.old (with_device_state self.old.state.shared.objects.router.objects state) }
-        ensures call { self.new ≡ after_call self.old (Call.Writes (OwnWrite.SetsState state)) }
-    {
-        self.shared.objects.router.objects.set_device_state(state);
-    }
-
-    /// Sets the reply that the next request to the owner takes, or `None`. Nothing else changes.
-    ///
-    /// A program that serves peers calls `feed_prepared` instead, which withdraws a reply that is not taken.
-    pub fn prepare(&mut self, reply: Option<OwnerReply>)
-        ensures written { self.new ≡ with_prepared self.old reply }
-        ensures call { self.new ≡ after_call self.old (Call.Writes (OwnWrite.Prepares reply)) }
-    {
-        self.shared.objects.router.prepared = reply;
-    }
-
-    /// Settles a command in doubt of the command ledger: a repeat of it gets this reply from now on. `reply` is the whole
-    /// reply that its embedded request should have had. The ledger lists the commands in doubt (`Ledger::in_doubt`).
-    ///
-    /// Returns `false`, and changes nothing, if the adapter has no ledger, if this command of this originator is not in
-    /// doubt, or if the reply does not have 4 to 480 bytes. Nothing else of the adapter changes.
-    ///
-    /// ```
-    /// adapter.settle(originator, number, &[0xb2, 0, 0, 0]); // the machine did move
-    /// ```
-    pub fn settle(&mut self, originator: u64, number: u32, reply: &[u8]) -> bool
-        ensures written { self.new ≡ with_ledger self.old (option_map
-            (λ ledger. settled ledger originator number reply.now) self.old.state.shared.objects.ledger) }
-        ensures told { result
-            ≡ can_settle_in self.old.state.shared.objects.ledger originator number reply.now }
-        ensures call { self.new ≡ after_call self.old (Call.Writes (OwnWrite.Settles originator number reply.now)) }
-    {
-        match &mut self.shared.objects.ledger {
-            Some(ledger) => ledger.settle(originator, number, reply),
-            None => false,
-        }
+        self.shared.objects.router.queue.as_ref()
     }
 
     /// The reply that the next request to the owner takes, if one is prepared.

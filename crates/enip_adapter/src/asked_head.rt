@@ -5,7 +5,7 @@ ghost use Rattle.std.specs.Option.{option_map};
 ghost use Rattle.cip_objects.specs.OwnRequests.{asked_in};
 ghost use Rattle.enip_adapter.specs.Asks.{asked_with};
 
-use cip_objects::ReplyBuf;
+use cip_objects::{ReplyBuf, ServiceKind};
 use cip_owner::OwnRequest;
 
 /// A request to the owner of the device, apart from its data.
@@ -16,6 +16,7 @@ pub(crate) struct AskedHead {
     service: u8,
     attribute: Option<u16>,
     reply_limit: u16,
+    kind: ServiceKind,
 }
 
 /// Copies the data of a request into a buffer, over what it held, and returns the rest.
@@ -35,6 +36,7 @@ pub(crate) fn copy_asked(
         service: request.service,
         attribute: request.attribute,
         reply_limit: request.reply_limit,
+        kind: request.kind,
     })
 }
 
@@ -50,5 +52,6 @@ pub(crate) fn lend_asked(head: Option<AskedHead>, buffer: &ReplyBuf) -> Option<O
         attribute: head.attribute,
         data: buffer.as_slice(),
         reply_limit: head.reply_limit,
+        kind: head.kind,
     })
 }

@@ -15,8 +15,10 @@ ghost use Rattle.enip_adapter.specs.declared.shared.Listen.{Listen};
 ghost use Rattle.enip_adapter.specs.Adapter.{shared_adapter};
 ghost use Rattle.enip_adapter.specs.DeviceRuns.{device_law, run_law, objects_law, commands_once_law, numbers_rise_law};
 ghost use Rattle.enip_adapter.specs.Discovery.{discovered};
+ghost use Rattle.enip_adapter.specs.LedgerSteps.{ledger_steps_law};
 ghost use Rattle.enip_adapter.specs.OwnerLaws.{one_asked_law, asked_alike_law, repeat_law, given_law, unasked_law};
 ghost use Rattle.enip_adapter.specs.OwnerLaws.{answered_law, nobody_law, calls_law, asked_once_law};
+ghost use Rattle.enip_adapter.specs.QueueLaws.{queue_steps_law, handed_over_law, pending_law, finished_answer_law};
 ghost use Rattle.enip_adapter.specs.RightsLaws.{unchanged_law, unasked_by_reading_law, readers_law, readers_ask_nothing_law};
 ghost use Rattle.enip_adapter.specs.ShareLaws.{peers_share_law, connections_share_law, refused_begin_law};
 ghost use Rattle.enip_adapter.specs.ShareLaws.{under_share_law, slot_for_each_share_law};
@@ -90,12 +92,14 @@ pub fn ids_rise()
 /// Whatever calls are made, the objects and the command ledger change only by requests and by the device's own writes:
 /// they are those after `steps_of_calls`, the requests in the frames that are served and these writes, in order. Among
 /// calls without such writes they are those after a run of the requests, so all laws of `cip_ledger` hold for frames,
-/// over any peers, sessions, connections, timeouts and new connections. Two are written out, and hold with writes among
-/// the calls: no number of an originator is executed twice, and the numbers rise, unless the originator's slot is freed
-/// in between.
+/// over any peers, sessions, connections, timeouts and new connections. If no command in doubt is settled, they are those
+/// after steps of the ledger, in which the device finishes queued commands: so `answers_never_go_back` of `cip_ledger`
+/// holds too. Two laws are written out, and hold with all writes among the calls: no number of an originator is executed
+/// twice, and the numbers rise, unless the originator's slot is freed in between.
 pub fn device_runs_requests()
     ensures device { device_law }
     ensures run { run_law }
+    ensures steps { ledger_steps_law }
     ensures objects { objects_law }
     ensures once { commands_once_law }
     ensures rising { numbers_rise_law }
@@ -234,6 +238,19 @@ pub fn owner_is_asked()
     ensures nobody { nobody_law }
     ensures calls { calls_law }
     ensures once { asked_once_law }
+{}
+
+/// Queued commands are handed over in order, each until it is done. Whatever calls are made, the queue changes only by the
+/// requests of queued services that reach the objects and by the commands that the device finishes: it is the one after
+/// these steps, in order. So tickets are numbers in a row. The commands that wait are those that were put into the queue
+/// and not finished, in the order of their tickets: none is lost or made up, and none waits again once it is finished.
+/// Each command has one result at most, and the last 256 results are kept. A command of the ledger that is pending is one
+/// that waits. Once the device has finished it, a repeat is answered by the owner's reply, and is not executed again.
+pub fn queued_commands_are_handed_over()
+    ensures steps { queue_steps_law }
+    ensures handed_over { handed_over_law }
+    ensures pending { pending_law }
+    ensures answered { finished_answer_law }
 {}
 
 /// A request that is not a change, by its service and class alone, leaves the device as it was: the objects, the command

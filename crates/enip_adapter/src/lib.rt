@@ -9,6 +9,7 @@
 //! - `tick` reports the time alone. `deadline` is the next time at which a connection ends.
 //! - `serve` does one read and the feeds and writes that follow, over a reader and a writer.
 //! - `discover` answers a datagram. It keeps nothing of it.
+//! - `queue` lists the commands that wait for the program that owns the device. `finish` gives one its reply.
 //!
 //! The answers are a function of the peers' whole frames, of the times and of the device's own writes: `turn` of
 //! `specs/Turn.antt`, which has one definition for each command. No call after `Adapter::new` allocates memory.

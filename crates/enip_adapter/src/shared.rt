@@ -30,7 +30,8 @@ pub(crate) struct Shared {
     /// The greatest time so far, in microseconds.
     pub(crate) moment: u64,
     pub(crate) manager: Manager,
-    /// The objects with the reply that their owner prepared, and the command ledger before them if there is one.
+    /// The objects with the reply that their owner prepared and the queue of commands, and the command ledger before them
+    /// if there is one.
     pub(crate) objects: LedgerRouter<OwnedObjects>,
 }
 

@@ -13,11 +13,11 @@ use Rattle.cip_message.specs.PathReading.{path_of}
 use Rattle.cip_message.specs.Request.{Request as Spelled, request_of}
 use Rattle.cip_objects.specs.OwnRequests.{Asked}
 use Rattle.cip_owner.specs.Owned.{OwnedState, asks, asked_within}
-use Rattle.cip_ledger.specs.Device.{Device}
+use Rattle.cip_ledger.specs.Device.{Device, owned_standing}
 use Rattle.cip_ledger.specs.Reaching.{listed}
-use Rattle.cip_ledger.specs.Requests.{is_barred}
+use Rattle.cip_ledger.specs.Requests.{Command, is_barred}
 use Rattle.cip_ledger.specs.Runs.{Request, reached_by}
-use Rattle.cip_ledger.specs.Services.{Replies, Executes, Frees, KEPT_LIMIT}
+use Rattle.cip_ledger.specs.Services.{Replies, Executes, Queues, Frees, KEPT_LIMIT}
 use Rattle.cip_ledger.specs.Turn.{Fate, Passed, Served, fate}
 use Rattle.cip_ledger.proofs.Devices.{other_class}
 use Rattle.cip_ledger.proofs.ReachingLemmas.{reached_other}
@@ -44,7 +44,7 @@ unfolding asks
 not_own-asks device text q path read found manages =
     let six : path.class ≡ 6 = eqb-true path.class 6 (and_parts _ _ manages).0 in
     ap (λ requests. flat_map (asks_by_reached device.router.objects) (map Requested requests))
-    (reached_other objects_after objects_answer device (UNCONNECTED_LIMIT, text)
+    (reached_other objects_after objects_answer owned_standing device (UNCONNECTED_LIMIT, text)
     (other_class text q path read found (λ e. absurd (omega (arith, six, e)))))
     ∙ ap (λ own. listed (asked_within UNCONNECTED_LIMIT own) ++ [])
     (manager_is_not_own device.router.objects text q path read found manages)
@@ -91,22 +91,26 @@ one-listed : (asked : Option Asked) → length (listed asked ++ []) ≤ 1
 one-listed None = omega arith
 one-listed (Some asked) = omega arith
 
+one-embedded : (owned : OwnedState) (command : Command) (barred : Bool) →
+    length (flat_map (asks_by_reached owned.objects)
+    (map Requested (cond barred [] ((KEPT_LIMIT, command.request) ∷ []) ++ []))) ≤ 1
+one-embedded owned command true = omega arith
+one-embedded owned command false = one-listed (asks owned.objects KEPT_LIMIT command.request)
+
 one-reached : (f : Fate) (owned : OwnedState) (request : Request) →
     length (flat_map (asks_by_reached owned.objects)
     (map Requested (reached_by objects_after objects_answer f request ++ []))) ≤ 1
 one-reached Passed owned request = one-listed (asks owned.objects request.0 request.1)
 one-reached (Served service (Replies reply)) owned request = omega arith
-one-reached (Served service (Executes command)) owned request = embedded (is_barred command.request)
-  where
-    embedded : (barred : Bool) →
-        length (flat_map (asks_by_reached owned.objects)
-        (map Requested (cond barred [] ((KEPT_LIMIT, command.request) ∷ []) ++ []))) ≤ 1
-    embedded true = omega arith
-    embedded false = one-listed (asks owned.objects KEPT_LIMIT command.request)
+one-reached (Served service (Executes command)) owned request =
+    one-embedded owned command (is_barred command.request)
+one-reached (Served service (Queues command ticket)) owned request =
+    one-embedded owned command (is_barred command.request)
 one-reached (Served service (Frees originator)) owned request = omega arith
 
 pub one-ask : (device : Device) (request : Request) → length (asks_by_step device (Requested request)) ≤ 1
-one-ask device request = one-reached (fate device.ledger request.0 request.1) device.router request
+one-ask device request =
+    one-reached (fate owned_standing device.ledger device.router request.0 request.1) device.router request
 
 -- ---- a device that remembers what was asked
 

@@ -6,7 +6,7 @@ use Rattle.cip_objects.specs.Contents.{Contents}
 use Rattle.cip_objects.specs.DeviceWrites.{device_write}
 use Rattle.enip_adapter.specs.Calls.{call_answer}
 use Rattle.enip_adapter.specs.Calls.Call.{Feeds}
-use Rattle.enip_adapter.specs.OwnWrites.{OwnWrite, WritesData, WritesAttribute, SetsStatus, SetsState, Prepares, Settles}
+use Rattle.enip_adapter.specs.OwnWrites.{OwnWrite, WritesData, WritesAttribute, SetsStatus, SetsState, Prepares, Settles, Finishes}
 use Rattle.enip_adapter.specs.OwnWrites.{attribute_write}
 use Rattle.enip_client.specs.Calls.{resends}
 use Rattle.enip_client.specs.Client.{fed}
@@ -49,7 +49,7 @@ back_result world None = Impossible
 back_result world (Some bytes) = reply_result (reply_heard (fed world.client bytes).heard_event)
 
 -- whether the device can write this: there is such an assembly or attribute, and the bytes don't go past its end (no
--- event of a bench settles a command)
+-- event of a bench settles or finishes a command)
 abbrev pub is_possible_write : OwnWrite → Contents → Bool
 is_possible_write (WritesData instance offset bytes) objects = is_some (device_write objects instance offset bytes)
 is_possible_write (WritesAttribute class instance attribute offset bytes) objects =
@@ -58,6 +58,7 @@ is_possible_write (SetsStatus status) objects = true
 is_possible_write (SetsState state) objects = true
 is_possible_write (Prepares reply) objects = true
 is_possible_write (Settles originator number reply) objects = true
+is_possible_write (Finishes ticket reply) objects = true
 
 -- the outcome of an event in this world
 abbrev pub event_result : CountingWorld → Event → EventResult

@@ -14,7 +14,7 @@ use crate::world::{Accepted, World};
 use cip_class3::Stage;
 use cip_ledger::Ledger;
 use cip_objects::Objects;
-use cip_owner::OwnerReply;
+use cip_owner::{OwnerReply, Queue};
 use enip_adapter::{Adapter, Peer};
 use enip_client::Client;
 use std::alloc::{AllocError, Global};
@@ -49,6 +49,8 @@ pub struct Seen<'a> {
     pub objects: &'a Objects,
     /// The reply that the next request to the owner of the device takes, if one is prepared.
     pub prepared: Option<&'a OwnerReply>,
+    /// The adapter's queue of commands, if it has one.
+    pub queue: Option<&'a Queue>,
     /// The adapter's command ledger, if it has one.
     pub ledger: Option<&'a Ledger>,
     /// Every frame from the adapter to the client, by position.
@@ -191,6 +193,7 @@ impl Bench {
         Seen {
             objects: self.world.adapter.objects(),
             prepared: self.world.adapter.prepared(),
+            queue: self.world.adapter.queue(),
             ledger: self.world.adapter.ledger(),
             back: &self.world.back,
             accepted: &self.world.accepted,

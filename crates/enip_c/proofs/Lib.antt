@@ -5,3 +5,5 @@ pub mod ClientLemmas
 pub mod CommanderLemmas
 pub mod StateLemmas
 pub mod StartLemmas
+pub mod QueuedLemmas
+pub mod ExplainLemmas

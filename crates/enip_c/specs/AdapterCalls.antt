@@ -1,5 +1,6 @@
 -- What a function of an adapter returns to C.
 use Rattle.std.specs.Prelude.{ℕ, ◌==◌, ◌+◌, ◌*◌, ◌^◌, if◌then◌else◌, List, [], ◌++◌, ◌≡◌, ◌⊎◌, ◌-◌, length, Bool, true, false, Option, Some, None, ⊤}
+use Rattle.std.specs.Prelude.{is_some}
 use Rattle.std.specs.Option.{IsSomeAnd}
 use Rattle.cip_manager.specs.Connection.{earliest_deadline}
 use Rattle.cip_objects.specs.Contents.{value_at}
@@ -16,10 +17,15 @@ use Rattle.enip_adapter.specs.Turn.{Output, Answer}
 use Rattle.enip_adapter.specs.Turn.Output.{NoReply, Sends, Begins, Refuses}
 use Rattle.enip_config.specs.declared.fault.ConfigurationRefusal.{ConfigurationRefusal}
 use Rattle.enip_config.specs.declared.fault.ConfigurationRefusal.TheVariants as refused
-use Rattle.configured_adapter.specs.Configured.{IsAdapterOf}
+use Rattle.enip_config.specs.declared.configuration.Configuration.{Configuration}
+use Rattle.enip_config.specs.declared.fault.LoadFault.{LoadFault}
+use Rattle.enip_config.specs.declared.fault.LoadFault.TheVariants as load_fault
+use Rattle.enip_config.specs.Commands.{queue_limit}
 use Rattle.enip_config.specs.Refusals.{refusal_number}
-use Rattle.enip_config.specs.Documents.{IsRefused}
+use Rattle.enip_config.specs.Documents.{IsDescribed, IsRefused}
 use Rattle.enip_c.specs.declared.adapter.Fed.{Fed}
+use Rattle.enip_c.specs.declared.make_fault.MakeFault.{MakeFault}
+use Rattle.enip_c.specs.declared.make_fault.MakeFault.TheVariants as make
 use Rattle.enip_c.specs.declared.status.Status.{Status}
 use Rattle.enip_c.specs.declared.status.Status.TheVariants as status
 use Rattle.enip_c.specs.Buffer.{status_number, in_buffer, IsMadeStatus}
@@ -101,11 +107,31 @@ group_of has_group high low = if has_group == 0 then None else Some (high * 2 ^ 
 -- The number of a check in C. 13 is that of ENIP_CONFIG_ORDER.
 abbrev pub check_number : ConfigurationRefusal → ℕ
 check_number refused.Access = 14
+check_number refused.Commands = 15
 check_number refusal = refusal_number refusal
 
--- The check with this number refuses the text.
+-- A service of the text is queued: the library has no queue of commands. Its number is 16.
+abbrev pub IsQueuedText : List ℕ → Type 0
+IsQueuedText text = (c : Configuration) × (IsDescribed text c × (is_some (queue_limit c) ≡ true))
+
+abbrev pub has_no_queue : AdapterState → Type 0
+has_no_queue a = a.state.shared.objects.router.queue ≡ None
+
+-- Why there is no adapter of a text.
+abbrev pub make_fault : LoadFault → MakeFault
+make_fault load_fault.Memory = make.Memory
+make_fault (load_fault.Refused refusal) = make.Refused refusal
+
+abbrev pub IsMakeFault : List ℕ → MakeFault → Type 0
+IsMakeFault text make.Memory = ⊤
+IsMakeFault text (make.Refused refusal) = IsRefused text refusal
+IsMakeFault text make.Queued = IsQueuedText text
+
+-- The check with this number refuses the text, or a service is queued.
 abbrev pub IsRefusedBy : List ℕ → ℕ → Type 0
-IsRefusedBy text number = (refusal : ConfigurationRefusal) × ((number ≡ check_number refusal) × IsRefused text refusal)
+IsRefusedBy text number =
+    ((refusal : ConfigurationRefusal) × ((number ≡ check_number refusal) × IsRefused text refusal))
+    ⊎ ((number ≡ 16) × IsQueuedText text)
 
 -- The status of making an adapter: the configuration is refused, or as for any object.
 abbrev pub IsAdapterStatus : ℕ → Type 0

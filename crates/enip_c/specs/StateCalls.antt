@@ -11,8 +11,9 @@ use Rattle.enip_adapter.specs.OwnWrites.{can_settle_in}
 use Rattle.enip_config.specs.declared.configuration.Configuration.{Configuration}
 use Rattle.enip_config.specs.declared.ledger.LedgerConfig.{LedgerConfig}
 use Rattle.configured_adapter.specs.Configured.{listen_of, limits_of, shares_from}
+use Rattle.enip_config.specs.Commands.{queue_limit}
 use Rattle.enip_config.specs.Documents.{IsDescribed, IsRefused}
-use Rattle.enip_c.specs.AdapterCalls.{check_number}
+use Rattle.enip_c.specs.AdapterCalls.{check_number, IsQueuedText}
 use Rattle.kept_adapter.specs.declared.adapter_start.AdapterStart.{AdapterStart}
 use Rattle.kept_adapter.specs.declared.adapter_start.LedgerStart.{LedgerStart}
 use Rattle.saved_adapter.specs.declared.starting.RestoreFault.{RestoreFault}
@@ -109,15 +110,17 @@ ledger_start life ledger = record { originators = ledger.originators; life = lif
 pub record IsStartOf (life : ℕ) (c : Configuration) (start : AdapterStart) : Type 0 where
   pub objects : start.objects ≡ c.objects
   pub ledger : start.ledger ≡ option_map (ledger_start life) c.ledger
+  pub no_queue : start.queue ≡ None
   pub goes_on : start.begins_life ≡ false
   pub listen : start.listen ≡ listen_of c
   pub limits : start.limits ≡ limits_of c
   pub shares : start.shares ≡ shares_from c.access
   pub no_timeout : start.idle_timeout ≡ 0
 
--- A text describes an adapter that starts from this.
+-- A text describes an adapter that starts from this. None of its services is queued.
 abbrev pub IsStartOfText : List ℕ → ℕ → AdapterStart → Type 0
-IsStartOfText text life start = (c : Configuration) × (IsDescribed text c × IsStartOf life c start)
+IsStartOfText text life start =
+    (c : Configuration) × (IsDescribed text c × ((queue_limit c ≡ None) × IsStartOf life c start))
 
 -- The adapter that a text describes, as it starts from a state.
 abbrev pub IsKeptAdapterOf : List ℕ → List ℕ → ℕ → AdapterState → Type 0
@@ -158,6 +161,7 @@ restore_status fault.Order = status.Configuration
 abbrev pub kept_status : KeptFault → Status
 kept_status kept_fault.Memory = status.Memory
 kept_status (kept_fault.Configuration refusal) = status.Configuration
+kept_status kept_fault.Queued = status.Configuration
 kept_status (kept_fault.State why) = restore_status why
 
 abbrev pub refusal_with : ℕ → ℕ → CRefusal
@@ -166,12 +170,14 @@ refusal_with number version = record { number = number; version = version }
 abbrev pub kept_refusal : KeptFault → CRefusal
 kept_refusal kept_fault.Memory = refusal_with 0 0
 kept_refusal (kept_fault.Configuration refusal) = refusal_with (check_number refusal) 0
+kept_refusal kept_fault.Queued = refusal_with 16 0
 kept_refusal (kept_fault.State why) = refusal_with (fault_number why) (fault_version why)
 
 -- When each fault comes: the configuration is checked first.
 abbrev pub IsKeptFault : List ℕ → List ℕ → ℕ → KeptFault → Type 0
 IsKeptFault text state life kept_fault.Memory = ⊤
 IsKeptFault text state life (kept_fault.Configuration refusal) = IsRefused text refusal
+IsKeptFault text state life kept_fault.Queued = IsQueuedText text
 IsKeptFault text state life (kept_fault.State why) =
     (start : AdapterStart) × (IsStartOfText text life start × IsRestoreFault start state why)
 

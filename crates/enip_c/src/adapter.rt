@@ -7,20 +7,20 @@ ghost use Rattle.enip_adapter.specs.declared.peer.Rights.TheVariants.{Write};
 ghost use Rattle.enip_adapter.specs.Calls.{Call, after_call, call_answer};
 ghost use Rattle.enip_adapter.specs.Discovery.{discovered};
 ghost use Rattle.configured_adapter.specs.Configured.{IsAdapterOf};
-ghost use Rattle.enip_config.specs.Documents.{IsFaultOf};
 ghost use Rattle.enip_c.specs.AdapterCalls.{IsFed, IsFedKept, IsBegun, IsBegunKept, IsRefusedBy, no_reply_reason_number, fed_of, answer_bytes};
 ghost use Rattle.enip_c.specs.AdapterCalls.{bool_number, full_status, AreFreeKept, deadline_kept, attribute_kept, discovered_kept};
-ghost use Rattle.enip_c.specs.AdapterCalls.{IsAdapterStatus, check_number, group_of, rights_of};
+ghost use Rattle.enip_c.specs.AdapterCalls.{IsAdapterStatus, IsMakeFault, check_number, has_no_queue, group_of, rights_of};
 ghost use Rattle.enip_c.specs.Kept.{IsLive};
 ghost use Rattle.cip_objects.specs.Contents.{value_at};
 ghost use Rattle.enip_c.specs.Buffer.{status_number, in_buffer, returned_bytes, ReturnsNumber};
 
 use crate::adapter_pointer::KeptAdapter;
 use crate::buffer::{copy_front, return_bytes};
+use crate::make_fault::MakeFault;
 use crate::status::Status;
 use configured_adapter::adapter_from;
 use enip_adapter::{Adapter, DiscoveryBuffer, Full, LONGEST_ANSWER, NoReplyReason, Peer, Rights};
-use enip_config::{ConfigurationRefusal, LoadFault};
+use enip_config::ConfigurationRefusal;
 use std::alloc::Global;
 
 /// The result of a feed: `enip_fed` of `enip.h`.
@@ -37,12 +37,17 @@ pub struct Fed {
     pub close: u32,
 }
 
+/// The number of a queued service in C, `ENIP_CONFIG_QUEUED`.
+pub(crate) const QUEUED_NUMBER: u32 = 16;
+
 /// The number of a check in C. The lists of the table `access` have 14, since 13 is the number of `ENIP_CONFIG_ORDER`.
+/// The table `commands` has 15.
 pub(crate) fn check_number(refusal: ConfigurationRefusal) -> u32
     ensures { result ≡ check_number refusal }
 {
     match refusal {
         ConfigurationRefusal::Access => 14,
+        ConfigurationRefusal::Commands => 15,
         _ => u32::from(refusal.number()),
     }
 }
@@ -57,6 +62,7 @@ pub extern "C" fn enip_core_adapter_new(
 ) -> u32
     ensures status { IsAdapterStatus result }
     ensures made { result ≡ status_number Status.Done → IsSomeAnd kept.new.value (IsAdapterOf text.now) }
+    ensures no_queue { result ≡ status_number Status.Done → IsSomeAnd kept.new.value has_no_queue }
     ensures refused { result ≡ status_number Status.Configuration → IsRefusedBy text.now refusal.new }
     ensures unchanged { (result ≡ status_number Status.Done → ⊥) → kept.new.value ≡ kept.old.value }
 {
@@ -65,20 +71,28 @@ pub extern "C" fn enip_core_adapter_new(
             *kept = KeptAdapter::of(adapter);
             Status::Done.number()
         }
-        Err(LoadFault::Refused(why)) => {
+        Err(MakeFault::Refused(why)) => {
             *refusal = check_number(why);
             Status::Configuration.number()
         }
-        Err(LoadFault::Memory) => Status::Memory.number(),
+        Err(MakeFault::Queued) => {
+            *refusal = QUEUED_NUMBER;
+            Status::Configuration.number()
+        }
+        Err(MakeFault::Memory) => Status::Memory.number(),
     }
 }
 
-/// The adapter of a configuration, in a box.
-fn boxed_adapter(alloc: Global, text: &[u8]) -> Result<Box<Adapter, Global>, LoadFault>
+/// The adapter of a configuration without a queued service, in a box.
+fn boxed_adapter(alloc: Global, text: &[u8]) -> Result<Box<Adapter, Global>, MakeFault>
     ensures made { IfOk result (λ adapter. IsAdapterOf text.now adapter.value) }
-    ensures refused { IfErr result (IsFaultOf text.now) }
+    ensures no_queue { IfOk result (λ adapter. has_no_queue adapter.value) }
+    ensures refused { IfErr result (IsMakeFault text.now) }
 {
     let adapter = adapter_from(alloc, text)?;
+    if adapter.queue().is_some() {
+        return Err(MakeFault::Queued);
+    }
     let boxed = Box::new(alloc, adapter)?;
     Ok(boxed)
 }

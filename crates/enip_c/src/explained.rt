@@ -4,13 +4,15 @@ ghost use Rattle.std.specs.Prelude.{◌≡◌};
 ghost use Rattle.enip_c.specs.ExplainCalls.{explained_count, IsPrinted, IsExplainOutcome, IsExplainedToC};
 
 use crate::buffer::copy_front;
-use enip_config::{Explanation, explain};
+use crate::queued_service::first_queued;
+use enip_config::{Configuration, explain};
 use std::alloc::Global;
+use std::fmt::Display;
 
 /// What became of an explanation.
 #[derive(Clone, Copy)]
 enum ExplainOutcome {
-    /// The configuration is accepted, so there is nothing to explain.
+    /// The configuration is accepted, and no service is queued, so there is nothing to explain.
     Accepted,
     /// This many bytes were written.
     Written(usize),
@@ -32,8 +34,8 @@ impl ExplainOutcome {
     }
 }
 
-/// Writes what is wrong with the text of a configuration, and in which line. Returns the length of this text. Returns 0
-/// if nothing is wrong, and also if memory runs out or the text does not fit.
+/// Writes what is wrong with the text of a configuration, and in which line, or which of its services is queued. Returns
+/// the length of this text. Returns 0 if nothing is wrong, and also if memory runs out or the text does not fit.
 #[unsafe(no_mangle)]
 pub extern "C" fn enip_core_explain(alloc: Global, text: &[u8], buffer: &mut [u8]) -> usize
     ensures { IsExplainedToC text.now buffer.old buffer.new result }
@@ -42,22 +44,35 @@ pub extern "C" fn enip_core_explain(alloc: Global, text: &[u8], buffer: &mut [u8
     outcome.count()
 }
 
-/// Writes what is wrong with the text of a configuration.
+/// Writes what is wrong with the text of a configuration, or which of its services is queued.
 fn explain_to(alloc: Global, text: &[u8], buffer: &mut [u8]) -> ExplainOutcome
     ensures { IsExplainOutcome text.now buffer.old buffer.new result }
 {
     match explain(alloc, text) {
-        Ok(None) => ExplainOutcome::Accepted,
+        Ok(None) => explain_queued(alloc, text, buffer),
         Ok(Some(explanation)) => print_to(alloc, &explanation, buffer),
         Err(_) => ExplainOutcome::Memory,
     }
 }
 
-/// Writes an explanation.
-fn print_to(alloc: Global, explanation: &Explanation, buffer: &mut [u8]) -> ExplainOutcome
+/// Writes which service of an accepted configuration is queued, if one is.
+fn explain_queued(alloc: Global, text: &[u8], buffer: &mut [u8]) -> ExplainOutcome
+    ensures { IsExplainOutcome text.now buffer.old buffer.new result }
+{
+    let Ok(configuration) = Configuration::from_bytes(alloc, text) else {
+        return ExplainOutcome::Memory;
+    };
+    match first_queued(&configuration.objects.objects) {
+        Some(service) => print_to(alloc, &service, buffer),
+        None => ExplainOutcome::Accepted,
+    }
+}
+
+/// Writes a reason.
+fn print_to<T: Display>(alloc: Global, reason: &T, buffer: &mut [u8]) -> ExplainOutcome
     ensures { IsPrinted buffer.old buffer.new result }
 {
-    let Ok(words) = format!(in alloc; "{explanation}") else {
+    let Ok(words) = format!(in alloc; "{reason}") else {
         return ExplainOutcome::Memory;
     };
     if words.len() > buffer.len() {

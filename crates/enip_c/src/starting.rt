@@ -8,7 +8,7 @@ ghost use Rattle.enip_c.specs.Buffer.{status_number};
 ghost use Rattle.enip_c.specs.StateCalls.{IsKeptAdapterOf, IsKeptFault, IsKeptOutcome, IsStartOf, ledger_start};
 ghost use Rattle.enip_c.specs.StateCalls.{kept_refusal, kept_status, fault_number, fault_version};
 
-use crate::adapter::check_number;
+use crate::adapter::{QUEUED_NUMBER, check_number};
 use crate::adapter_pointer::KeptAdapter;
 use crate::status::Status;
 use configured_adapter::shares_from;
@@ -36,6 +36,8 @@ pub(crate) enum KeptFault {
     Memory,
     /// This check refuses the configuration.
     Configuration(ConfigurationRefusal),
+    /// A service is queued, and the library has no queue of commands.
+    Queued,
     /// The state, or that it starts from this configuration.
     State(RestoreFault),
 }
@@ -97,6 +99,9 @@ fn adapter_from_state(
 {
     match Configuration::from_bytes(alloc, text) {
         Ok(configuration) => {
+            if configuration.queue_limit().is_some() {
+                return Err(KeptFault::Queued);
+            }
             let configured = start_of(configuration, life);
             match start(alloc, &configured, state) {
                 Ok(adapter) => Ok(adapter),
@@ -119,6 +124,7 @@ fn start_of(configuration: Configuration, life: u64) -> AdapterStart
     let address = configuration.address;
     AdapterStart {
         ledger: ledger_if_any(life, configuration.ledger),
+        queue: None,
         begins_life: false,
         listen: Listen {
             address,
@@ -161,8 +167,8 @@ fn status_of(fault: KeptFault) -> Status
 {
     match fault {
         KeptFault::Memory | KeptFault::State(RestoreFault::Memory) => Status::Memory,
-        KeptFault::Configuration(_) | KeptFault::State(RestoreFault::Order) =>
-            Status::Configuration,
+        KeptFault::Configuration(_) | KeptFault::Queued => Status::Configuration,
+        KeptFault::State(RestoreFault::Order) => Status::Configuration,
         KeptFault::State(RestoreFault::Malformed(_) | RestoreFault::OtherDevice) => {
             Status::SavedState
         }
@@ -179,6 +185,10 @@ fn refusal_of(fault: KeptFault) -> CRefusal
         },
         KeptFault::Configuration(refusal) => CRefusal {
             number: check_number(refusal),
+            version: 0,
+        },
+        KeptFault::Queued => CRefusal {
+            number: QUEUED_NUMBER,
             version: 0,
         },
         KeptFault::State(why) => CRefusal {

@@ -40,10 +40,24 @@ pub fn option_file_name<'a>(args: &'a [OsArg], option: &str, text: &'a str) -> &
 /// The first bytes of the file that an argument names, up to `most` of them. `text` is the argument as text. The file is
 /// opened by the bytes of that argument, which need not be UTF-8.
 pub fn read_file(alloc: Global, args: &[OsArg], text: &str, most: u64) -> io::Result<Vec<u8>> {
+    read_front(alloc, file_name(args, text), most)
+}
+
+/// The first bytes of the file that an option names, up to `most` of them. `text` is FILE as text.
+pub fn read_option_file(
+    alloc: Global,
+    args: &[OsArg],
+    option: &str,
+    text: &str,
+    most: u64,
+) -> io::Result<Vec<u8>> {
+    read_front(alloc, option_file_name(args, option, text), most)
+}
+
+/// The first bytes of the file of this name, up to `most` of them.
+fn read_front(alloc: Global, name: &[u8], most: u64) -> io::Result<Vec<u8>> {
     let mut bytes = Vec::new(alloc);
-    File::open(file_name(args, text))?
-        .take(most)
-        .read_to_end(&mut bytes)?;
+    File::open(name)?.take(most).read_to_end(&mut bytes)?;
     Ok(bytes)
 }
 

@@ -9,6 +9,21 @@ Also print what a client of this IPv4 or IPv6 address may do, by the
 table `access` of the configuration: read and write, read, or not
 connect";
 
+pub(crate) const PROFILE_DETAILS: &str = "\
+Print what a conformance test looks for in this configuration, one
+line for each part, in place of the device. A line with `missing:` is
+about something that the standard requires";
+
+pub(crate) const ICON_DETAILS: &str = "\
+Icon of the device, an .ico file of up to 65536 bytes. The EDS has its
+name without folders, and its bytes in base64";
+
+pub(crate) const EDS_DATE_DETAILS: &str = "\
+Date of the EDS as MM-DD-YYYY, such as 11-29-2026. With it, the same
+configuration gives the same text on every day
+
+[default: today, in UTC]";
+
 pub(crate) const ROUTE_DETAILS: &str = "\
 Hops to a device behind routers, such as 1/0,2/10.0.0.7: ADDRESS is
 the first router, and each hop is PORT/LINK, a port of a router and
@@ -114,6 +129,26 @@ pub(crate) const ACCEPT_OLDER_DETAILS: &str = "\
 With --keep, start even if FILE is damaged, or older than FILE.round
 says. The command ledger then begins a new life, so that no pending
 command is executed twice";
+
+pub(crate) const OWNER_DETAILS: &str = "\
+Also listen here for the owner of the device: a program that executes
+its services, hears of each set by a client, and writes its values, by
+lines of JSON. A loopback address, such as 127.0.0.1:7000,
+unless --owner-from is given. Port 0 takes a free one";
+
+pub(crate) const OWNER_FROM_DETAILS: &str = "\
+With --owner, listen at any address, and let in an owner from this
+IPv4 or IPv6 address only";
+
+pub(crate) const OWNER_TOKEN_DETAILS: &str = "\
+With --owner, let in an owner whose first line is the first line of
+FILE";
+
+pub(crate) const OWNER_TIMEOUT_DETAILS: &str = "\
+With --owner, how long a client waits for the owner's answer to a
+request that is not queued, 0 to 3600. 0 is no limit
+
+[default: 1]";
 
 pub(crate) const ONCE_DETAILS: &str = "\
 Execute the command once, even if connections are lost. The device

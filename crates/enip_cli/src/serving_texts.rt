@@ -1,11 +1,12 @@
-//! The longer texts of the help of `enip serve` and `enip check`.
+//! The longer texts of the help of `enip serve`, `enip check` and `enip eds`.
 //!
 //! `EXAMPLES_..` end the help of `-h`. `DETAILS_..` end that of `--help` and have the same examples.
 
 pub(crate) const EXAMPLES_SERVE: &str = "\
 Examples:
   enip serve demo.toml 127.0.0.1
-  enip serve demo.toml 0.0.0.0:2222 --discovery --log";
+  enip serve demo.toml 0.0.0.0:2222 --discovery --log
+  enip serve conveyor.toml 10.0.0.9 --owner 127.0.0.1:7000";
 
 pub(crate) const DETAILS_SERVE: &str = "\
 Once the device listens, `listening on ADDRESS` is printed on standard error.
@@ -33,9 +34,14 @@ are reported once a minute.
   0.002462 127.0.0.1:40312 UnRegisterSession: no answer
   0.002481 127.0.0.1:40312 disconnected: session unregistered
 
+With --owner, a program behind the device is its owner. Once the device listens
+for it, `owner at ADDRESS` is printed on standard error. Whoever can connect
+there can control the device, unless you pass --owner-token.
+
 Examples:
   enip serve demo.toml 127.0.0.1
   enip serve demo.toml 0.0.0.0:2222 --discovery --log
+  enip serve conveyor.toml 10.0.0.9 --owner 127.0.0.1:7000
 
 For exit statuses, see `enip --help`.";
 
@@ -72,5 +78,31 @@ Examples:
   enip check demo.toml
   enip check demo.toml --from 10.0.0.5
   enip check demo.toml && enip serve demo.toml 127.0.0.1
+
+For exit statuses, see `enip --help`.";
+
+pub(crate) const EXAMPLES_EDS: &str = "\
+Examples:
+  enip eds demo.toml >demo.eds
+  enip eds demo.toml --icon demo.ico --date 11-29-2026 >demo.eds";
+
+pub(crate) const DETAILS_EDS: &str = "\
+Prints the electronic data sheet of the device that a configuration describes: a
+text file from which the tools of controllers learn what the device is, and what
+its assemblies and attributes are.
+
+  [Device]
+          VendCode = 4660;
+          VendName = \"Vendor 4660\";
+          ProdType = 43;
+          ProdTypeStr = \"Generic Device (keyable)\";
+
+Each member of 1, 2, 4 or 8 bytes of an assembly is a Param, and each attribute
+of an own object that is neither an array nor BYTES. There are no I/O
+connections.
+
+Examples:
+  enip eds demo.toml >demo.eds
+  enip eds demo.toml --icon demo.ico --date 11-29-2026 >demo.eds
 
 For exit statuses, see `enip --help`.";

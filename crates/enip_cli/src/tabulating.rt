@@ -1,15 +1,12 @@
 //! The table of the program from which completion scripts and the man page are made.
 
-use crate::arguments::Argument;
-use crate::commands::{ABOUT, COMMANDS, DATE, Row, VERSION, command};
+use crate::argument_row::ArgumentRow;
+use crate::command_row::CommandRow;
+use crate::commands::{ABOUT, COMMANDS, DATE, VERSION};
 use crate::texts::EXIT_STATUSES;
-use clap::builder::ValueParser;
-use clap::{Arg, ArgAction};
-use enip_shell::{Command, Program, Takes};
+use clap::Arg;
+use enip_shell::{Command, Program};
 use std::alloc::{AllocError, Global};
-
-/// What the serial numbers of a connection can be besides a number.
-static AUTO: [&str; 1] = ["auto"];
 
 /// The commands of the program, with the texts of their help.
 ///
@@ -18,8 +15,8 @@ static AUTO: [&str; 1] = ["auto"];
 /// `AllocError` if memory is refused.
 pub fn program_table(alloc: Global) -> Result<Program, AllocError> {
     let mut commands = Vec::new(alloc);
-    for row in &COMMANDS {
-        commands.push(command_table(alloc, row)?)?;
+    for name in &COMMANDS {
+        commands.push(command_table(alloc, name.row())?)?;
     }
     Ok(Program {
         version: VERSION,
@@ -31,11 +28,10 @@ pub fn program_table(alloc: Global) -> Result<Program, AllocError> {
 }
 
 /// A command with its arguments.
-fn command_table(alloc: Global, row: &Row) -> Result<Command, AllocError> {
+fn command_table(alloc: Global, row: &CommandRow) -> Result<Command, AllocError> {
     let mut arguments = Vec::new(alloc);
     for argument in row.arguments {
-        let arg = argument.arg(alloc)?;
-        arguments.push(argument_table(alloc, *argument, &arg)?)?;
+        arguments.push(argument_table(alloc, argument.row())?)?;
     }
     Ok(Command {
         name: row.name,
@@ -48,58 +44,31 @@ fn command_table(alloc: Global, row: &Row) -> Result<Command, AllocError> {
 }
 
 /// How a command is used, one form a line.
-fn usage(alloc: Global, row: &Row) -> Result<String, AllocError> {
+fn usage(alloc: Global, row: &CommandRow) -> Result<String, AllocError> {
     if let Some(usage) = row.usage {
         return String::from_str(alloc, usage);
     }
-    let text = command(alloc, row)?.render_usage()?;
+    let text = row.command(alloc)?.render_usage()?;
     let arguments = text_after(text.as_str(), "Usage: ");
     format!(in alloc; "enip {arguments}")
 }
 
-/// An argument as `clap` takes it.
-fn argument_table(
-    alloc: Global,
-    argument: Argument,
-    arg: &Arg<'static>,
-) -> Result<enip_shell::Argument, AllocError> {
-    let help = arg.get_help().unwrap_or("");
+/// An argument with its texts.
+fn argument_table(alloc: Global, row: &ArgumentRow) -> Result<enip_shell::Argument, AllocError> {
     Ok(enip_shell::Argument {
-        option: arg.get_long(),
-        usage: format!(in alloc; "{arg}")?,
-        help,
-        details: arg.get_long_help().unwrap_or(help),
-        default: arg.get_default_values().first().copied(),
-        takes: takes(argument, arg),
-        is_optional: arg.is_require_equals_set(),
+        option: row.option,
+        usage: shown(alloc, &row.arg(alloc)?)?,
+        help: row.help,
+        details: row.details.unwrap_or(row.help),
+        default: row.default,
+        takes: row.takes,
+        is_optional: row.bare_value.is_some(),
     })
 }
 
-/// What an argument takes.
-fn takes(argument: Argument, arg: &Arg<'static>) -> Takes {
-    if let ArgAction::SetTrue = arg.get_action() {
-        return Takes::Nothing;
-    }
-    if let ValueParser::Names(names) = arg.get_value_parser() {
-        return Takes::Names(names);
-    }
-    match argument {
-        Argument::Config
-        | Argument::CheckedConfig
-        | Argument::Script
-        | Argument::Keep
-        | Argument::KeptFile
-        | Argument::Once => Takes::File,
-        Argument::Class | Argument::CommandClass => Takes::Class,
-        Argument::OptionalAttribute | Argument::CommandAttribute => Takes::Attribute,
-        Argument::CommandService => Takes::Service,
-        Argument::PrintedType
-        | Argument::WrittenType
-        | Argument::CalledType
-        | Argument::ReplyType => Takes::Type,
-        Argument::ConnectionSerial | Argument::OriginatorSerial => Takes::NamesOrText(&AUTO),
-        _ => Takes::Text,
-    }
+/// An argument as the help shows it.
+fn shown(alloc: Global, arg: &Arg<'static>) -> Result<String, AllocError> {
+    format!(in alloc; "{arg}")
 }
 
 /// What comes after the first occurrence of a part, or the whole text.

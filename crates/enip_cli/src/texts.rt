@@ -47,6 +47,7 @@ configuration N, the first that applies:
   11   a number, a type, a value or a range of an attribute, or too many bytes
   12   a number or a size of an object's service, or more than 16 services
   13   `read` or `write` of `access` is not a list of addresses and prefixes
+  14   there is a table `commands`, but no service is queued
 
 fault N:
 

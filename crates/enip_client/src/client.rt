@@ -51,11 +51,21 @@ impl PieceOutcome {
 /// device.send(client.register()?);
 /// let Hearing { taken, heard } = client.feed(piece);
 /// ```
-#[derive(Drop)]
 pub struct Client {
     state: State,
     reader: FrameReader,
     sent: Sent,
+}
+
+// Written out, so that each exit of a function that owns one calls it, and has no drop of every part.
+impl Drop for Client {
+    fn drop(self) {
+        let Client {
+            state: _,
+            reader: _,
+            sent: _,
+        } = self;
+    }
 }
 
 impl Model for Client {

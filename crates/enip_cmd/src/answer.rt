@@ -65,5 +65,5 @@ fn run_buffered<R: Read + Drop, W: Write + Drop>(
     output: W,
 ) -> Result<(), ProgramFault> {
     let mut output = BufWriter::with_capacity(alloc, OUTPUT_BUFFER, output)?;
-    enip_commands::answer(alloc, adapter, input, &mut output)
+    enip_answer::answer(alloc, adapter, input, &mut output)
 }

@@ -1,6 +1,8 @@
 //! `enip check`: prints the device that a configuration describes.
 
-use cip_application::{AttributeConfig, AttributeKind, NumberRange, ObjectConfig, ServiceConfig};
+use cip_application::{
+    AttributeConfig, AttributeKind, NumberRange, ObjectConfig, ServiceConfig, ServiceKind,
+};
 use cip_names::{ClassText, ServiceText};
 use cip_objects::{AssemblyConfig, Config};
 use cip_values::{ElementaryType, ValueType, ValuesText, read_values};
@@ -43,6 +45,9 @@ fn print_lines<W: Write>(
     }
     if let Some(ledger) = configuration.ledger {
         print_ledger(output, ledger)?;
+    }
+    if let Some(limit) = configuration.queue_limit() {
+        writeln!(output, "queue for {limit} commands")?;
     }
     print_limits(output, configuration)?;
     match &configuration.access {
@@ -282,7 +287,8 @@ fn print_digits<W: Write>(output: &mut W, bytes: &[u8]) -> io::Result<()> {
     Ok(())
 }
 
-/// Prints an own service of a class: its number, the size of its data, and the size of its reply's data.
+/// Prints an own service of a class: its number, the size of its data, the size of its reply's data, and whether it is
+/// queued or gives the results of queued commands.
 fn print_service<W: Write>(output: &mut W, class: u16, service: ServiceConfig) -> io::Result<()> {
     let (least, most) = (service.least, service.most);
     let text = ServiceText {
@@ -296,5 +302,10 @@ fn print_service<W: Write>(output: &mut W, class: u16, service: ServiceConfig) -
         write!(output, "{least} to {most} bytes")?;
     }
     let reply = service.reply;
-    writeln!(output, ", reply of up to {reply} bytes")
+    let kind = match service.kind {
+        ServiceKind::Asked => "",
+        ServiceKind::Queued => ", queued",
+        ServiceKind::Result => ", results of queued commands",
+    };
+    writeln!(output, ", reply of up to {reply} bytes{kind}")
 }

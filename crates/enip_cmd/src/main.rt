@@ -3,6 +3,7 @@
 
 pub mod answer;
 mod checking;
+mod data_sheet;
 pub mod replay;
 pub mod report;
 mod shells;
@@ -12,16 +13,17 @@ use answer::answer;
 use checking::print_device;
 use clap::ArgMatches;
 use clap::error::ErrorKind;
-use enip_access::parse_address;
+use data_sheet::{print_text, run_eds};
 use enip_adapter::Listen;
 use enip_cli::{OsArg, PROGRAM, arguments_after, os_args, program, reserve_streams};
 use enip_client::ListCommand;
 use enip_common::{
     ARGUMENTS_REFUSED, ArgumentError, CommandError, ErrorKeeping, Fault, INPUT, NamedFile,
-    NamedReason, OUTPUT, Reason, error_of_run, is_input, print_argument_error,
+    NamedReason, OUTPUT, Reason, error_of_run, is_input, parse_ip, print_argument_error,
 };
 use enip_config::EXAMPLE;
 use enip_device::{print_kept_values, run_serve, warn_of_address};
+use enip_eds::profile_text;
 use enip_requests::{
     Query, is_help_of_objects, run_batch, run_call, run_get, run_help_of_objects, run_inspect,
     run_query, run_set, run_watch,
@@ -30,7 +32,6 @@ use replay::{draw, replay};
 use report::Reported;
 use shells::{Page, run_page};
 use show::show;
-use std::net::IpAddr;
 use std::process::ExitCode;
 
 /// Runs the command in the arguments. Returns the exit status.
@@ -46,6 +47,7 @@ fn run_command<'a>(
         "answer" => return run_answer(rt, args, matches),
         "replay" => return run_replay(rt, args, matches),
         "check" => return run_check(rt, args, matches),
+        "eds" => return run_eds(rt, args, matches),
         "serve" => return run_serve(rt, args, matches),
         "show" => return run_show(rt),
         "identity" => return run_query(rt, Query::List(ListCommand::Identity), matches),
@@ -164,12 +166,16 @@ fn run_check<'a>(
         print!(rt; "{EXAMPLE}").map_err(|error| CommandError::of_system(OUTPUT, error))?;
         return Ok(0);
     }
-    let client = match client_address(matches) {
+    let client = match parse_ip("from", matches.get_str("from")) {
         Ok(client) => client,
         Err(error) => return Ok(print_argument_error(rt, error)),
     };
     let config = NamedFile::read_config(rt, args, matches)?;
     let configuration = config.configuration(rt.alloc())?;
+    if matches.get_flag("profile") {
+        let text = profile_text(rt.alloc(), &configuration.objects)?;
+        return print_text(rt, text.as_str());
+    }
     print_device(rt.alloc(), &configuration, client, rt.stdout()).map_err(|error| {
         CommandError::of_system(OUTPUT, error)
     })?;
@@ -184,17 +190,6 @@ fn run_check<'a>(
         print_kept_values(rt, args, &config, file)?;
     }
     Ok(0)
-}
-
-/// The address of a client that `--from` gives, if there is one.
-fn client_address<'a>(matches: &ArgMatches<'a>) -> Result<Option<IpAddr>, ArgumentError<'a>> {
-    let Some(text) = matches.get_str("from") else {
-        return Ok(None);
-    };
-    match parse_address(text.as_bytes()) {
-        Some(address) => Ok(Some(address)),
-        None => Err(ArgumentError::From(text)),
-    }
 }
 
 /// Parses the command line, and runs its command. Returns the exit status.

@@ -5,7 +5,7 @@ use Rattle.std.specs.Result.{result_ok}
 use Rattle.hex.specs.Hex.{hex_digit_value, is_hex_digit, digit_or_error, ◌>>=◌, decode_pairs, decode_of}
 use Rattle.hex.specs.declared.error.FromHexError.{FromHexError}
 use Rattle.hex.specs.declared.error.FromHexError.TheVariants.{OddLength}
-use Rattle.enip_commands.specs.Digits.{without_spaces, bytes_spelled}
+use Rattle.enip_lines.specs.Digits.{without_spaces, bytes_spelled}
 
 -- Pairs of digits.
 abbrev pub are_pairs : List ℕ → Bool

@@ -16,7 +16,7 @@ use Rattle.cip_layouts.specs.Layouts.{fields_of, has_names, name_of}
 use Rattle.cip_layouts.specs.declared.field.Field.{Field}
 use Rattle.cip_layouts.specs.declared.layout.Layout.{Layout}
 use Rattle.cip_layouts.specs.declared.name.FieldName.{FieldName}
-use Rattle.enip_commands.specs.Json.{latin, IsJsonOf, AreJsonOf}
+use Rattle.enip_lines.specs.JsonValues.{latin, IsJsonOf, AreJsonOf}
 use Rattle.enip_commands.specs.LayoutJson.{IsFieldJson, AddsMember, with_named, AreItemsOf, AreMembersOf, AddsItems, AreFieldsJson, IsFieldsObject, IsFieldsLine}
 use Rattle.enip_commands.proofs.JsonLemmas.{told_flat, list_nests}
 

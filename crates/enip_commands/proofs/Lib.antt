@@ -1,13 +1,8 @@
-pub mod StatusLemmas
-pub mod DigitLemmas
-pub mod LineLemmas
 pub mod PathLemmas
 pub mod ListingLemmas
 pub mod JsonLemmas
 pub mod CommandFileLemmas
 pub mod TurnLemmas
 pub mod HexLemmas
-pub mod InputLemmas
-pub mod AnswerLemmas
 pub mod LayoutJsonLemmas
 pub mod StyleLemmas

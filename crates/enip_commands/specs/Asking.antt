@@ -19,7 +19,7 @@ use Rattle.enip_faults.specs.declared.request_failure.RequestFailure.TheVariants
 use Rattle.enip_faults.specs.declared.request_failure.RequestFailure.TheVariants.{Shape, Fields, Program}
 use Rattle.enip_faults.specs.declared.fault.ProgramFault.TheVariants.{Memory}
 use Rattle.enip_commands.specs.declared.style.Style.{Style}
-use Rattle.enip_commands.specs.Digits.{bytes_spelled}
+use Rattle.enip_lines.specs.Digits.{bytes_spelled}
 use Rattle.enip_faults.specs.Failures.{stop_of}
 use Rattle.enip_faults.specs.Statuses.{IsOfDevices}
 use Rattle.enip_commands.specs.Styles.{IsUnprinted}

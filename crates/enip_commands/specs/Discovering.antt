@@ -10,7 +10,7 @@ use Rattle.serde_json.specs.Data.{Data, Members, boolean, string, object, put}
 use Rattle.serde_json.specs.Written.{compact_text}
 use Rattle.enip_client.specs.Identity.{Identity}
 use Rattle.enip_commands.specs.Json.{identity_members}
-use Rattle.enip_commands.specs.Lines.{with_newline}
+use Rattle.enip_lines.specs.Lines.{with_newline}
 use Rattle.enip_commands.specs.Listing.{device_text}
 use Rattle.enip_commands.specs.declared.discovering.DiscoveryAnswer.{DiscoveryAnswer}
 use Rattle.enip_commands.specs.declared.discovering.Remarks.{Remarks}

@@ -3,7 +3,8 @@ use Rattle.std.specs.Prelude.{ℕ, Bool, ◌+◌, ◌*◌, ◌%◌, ◌==◌, �
 use Rattle.std.specs.Prelude.{codes, slice_index, Option, Some, None}
 use Rattle.hex.specs.Hex.{encode_lower}
 use Rattle.serde_json.specs.Data.{Data, string, object, member, no_members}
-use Rattle.enip_commands.specs.Json.{count, latin, host_text}
+use Rattle.enip_lines.specs.JsonValues.{count, latin}
+use Rattle.enip_commands.specs.Json.{host_text}
 use Rattle.enip_commands.specs.Listing.{name_text}
 use Rattle.enip_commands.specs.declared.interface.InterfaceConfiguration.{InterfaceConfiguration}
 

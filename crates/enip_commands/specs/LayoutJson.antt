@@ -13,7 +13,7 @@ use Rattle.cip_layouts.specs.Layouts.{fields_of, name_of, has_names, layout_text
 use Rattle.cip_layouts.specs.declared.field.Field.{Field}
 use Rattle.cip_layouts.specs.declared.layout.Layout.{Layout}
 use Rattle.cip_layouts.specs.declared.name.FieldName.{FieldName}
-use Rattle.enip_commands.specs.Json.{count, latin, IsJsonOf, AreJsonOf}
+use Rattle.enip_lines.specs.JsonValues.{count, latin, IsJsonOf, AreJsonOf}
 
 -- The values of one field: a list if the field is an array, otherwise its one value.
 abbrev pub IsFieldJson : Option ℕ → List Value → Data → Type 0

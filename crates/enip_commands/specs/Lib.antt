@@ -1,8 +1,4 @@
 pub mod Statuses
-pub mod Digits
-pub mod Lines
-pub mod InputLines
-pub mod Answering
 pub mod Asking
 pub mod Listing
 pub mod Styles

@@ -11,7 +11,7 @@ use Rattle.enip_client.specs.declared.fault.AskFault.TheVariants as ask
 use Rattle.enip_client.specs.declared.fault.ClientFault.{ClientFault}
 use Rattle.enip_client.specs.declared.lists.ListCommand.{ListCommand}
 use Rattle.enip_client.specs.declared.lists.ListCommand.TheVariants as lists
-use Rattle.enip_commands.specs.Lines.{with_newline}
+use Rattle.enip_lines.specs.Lines.{with_newline}
 use Rattle.enip_faults.specs.Statuses.{IsOfDevices}
 use Rattle.enip_faults.specs.declared.request_failure.RequestFailure.{RequestFailure}
 use Rattle.enip_faults.specs.declared.request_failure.RequestFailure.TheVariants.{Hex, Session, Client}

@@ -2,7 +2,6 @@
 use Rattle.std.specs.Prelude.{◌≡◌, ℕ, ⊤, Result, Ok, Err}
 use Rattle.enip_faults.specs.Statuses.{IsOfDevices, request_failure_status}
 use Rattle.enip_faults.specs.declared.fault.ProgramFault.{ProgramFault}
-use Rattle.enip_faults.specs.declared.fault.ProgramFault.TheVariants.{Line}
 use Rattle.enip_faults.specs.declared.request_failure.RequestFailure.{RequestFailure}
 use Rattle.enip_commands.specs.declared.asking.ReplyOutcome.{ReplyOutcome}
 use Rattle.enip_commands.specs.declared.asking.ReplyOutcome.TheVariants as replied
@@ -18,11 +17,6 @@ replied_status (replied.Refused status extended) = 6
 abbrev pub asking_status : Result ReplyOutcome RequestFailure → ℕ
 asking_status (Ok replied) = replied_status replied
 asking_status (Err stop) = request_failure_status stop
-
--- The fault is of the line with this number, which may be refused, or a device or memory failed.
-abbrev pub EndsAt : Type 0 → ℕ → ProgramFault → Type 0
-EndsAt refused number (Line n why) = (n ≡ number) × refused
-EndsAt refused number fault = IsOfDevices fault
 
 -- The line has a fault, or a device or memory failed.
 abbrev pub IsStopOfDevices : ShowFailure → Type 0

@@ -10,7 +10,6 @@ ghost use Rattle.enip_commands.specs.Asking.{IsExchanged, IsExchangedOver, IsNot
 ghost use Rattle.enip_commands.specs.Statuses.{asking_status, replied_status};
 ghost use Rattle.enip_faults.specs.Failures.{IsOfDevice};
 
-use crate::digits::decode;
 use crate::hexadecimal::is_hexadecimal;
 use crate::json_text::refusal_line;
 use crate::style::{Style, data_object, print_data};
@@ -20,6 +19,7 @@ use cip_objects::ReplyBuf;
 use cip_route::Route;
 use enip_client::{AskFault, Client, ClientFault, Wants};
 use enip_faults::{ProgramFault, RequestFailure};
+use enip_lines::decode;
 use enip_wire::{Sink, Source};
 use std::alloc::{AllocError, Global};
 use std::io::{BufWriter, Write};

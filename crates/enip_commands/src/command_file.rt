@@ -12,10 +12,10 @@ ghost use Rattle.enip_commands.specs.CommandFiles.{file_text, head_line, origina
 ghost use Rattle.enip_commands.specs.CommandFiles.{pending_line, IsKept, IsLong, IsShort, IsSpelling, IsLine};
 ghost use Rattle.enip_commands.specs.CommandFiles.{LacksLine, IsFault, bytes_in};
 
-use crate::lines::decimal;
 use arrayvec::ArrayVec;
 use cip_commander::{Commander, LONGEST_EMBEDDED};
 use enip_faults::{CommandFileFault, Digits};
+use enip_lines::decimal;
 use memchr::memchr;
 use std::fmt;
 use std::io::{self, Write};

@@ -2,7 +2,7 @@
 
 ghost use Rattle.std.specs.Prelude.{◌≡◌, is_some};
 ghost use Rattle.hex.specs.Hex.{is_hex_digit};
-ghost use Rattle.enip_commands.specs.Digits.{bytes_spelled};
+ghost use Rattle.enip_lines.specs.Digits.{bytes_spelled};
 
 /// Whether a text has two hexadecimal digits for each byte, with spaces anywhere.
 pub(crate) fn is_hexadecimal(text: &[u8]) -> bool

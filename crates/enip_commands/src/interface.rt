@@ -12,8 +12,9 @@ ghost use Rattle.enip_commands.specs.Interfaces.{interface_data, fields_data};
 ghost use Rattle.serde_json.specs.View.{view};
 ghost use Rattle.serde_json.specs.Written.{compact_text};
 
-use crate::json_text::{host_of, latin_text};
+use crate::json_text::host_of;
 use crate::listing::Name;
+use enip_lines::latin_text;
 use serde_json::{Map, Value, json, put};
 use std::alloc::{AllocError, Global};
 use std::fmt;

@@ -7,13 +7,9 @@
 mod answer;
 mod entry;
 mod fields;
-mod latin;
 mod reply;
-mod value;
 
 pub(crate) use answer::answer_object;
 pub(crate) use entry::{host_of, identity_line, service_line};
 pub(crate) use fields::fields_line;
-pub(crate) use latin::latin_text;
 pub(crate) use reply::{data_line, refusal_line, timed_line, values_line};
-pub use value::json_of;

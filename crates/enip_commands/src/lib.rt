@@ -1,6 +1,5 @@
 //! The commands of the program `enip`: each reads its input from any reader, and prints to any writer.
 //!
-//! - [`answer`] runs an adapter over lines of hexadecimal pieces, and prints its answers.
 //! - [`show_frames`] prints the fields of frames, one frame per line of input.
 //! - [`ask_over`] sends one request and prints the reply. A [`DeviceRequest`], a [`TypedRequest`] or a
 //!   [`LayoutRequest`] makes the request, and [`report_outcome`] gives the exit status. [`DeviceSession`], [`Readings`] and [`print_reading`] are
@@ -13,33 +12,24 @@
 //!   address that each came from. A [`DiscoveryAnswer`] is compared with others.
 //! - An [`InterfaceConfiguration`] is printed as lines or, by [`interface_object`], as JSON.
 //!
-//! [`json_of`] is a value of an elementary type as JSON.
-//!
-//! A command over lines is built from [`TakeLines`], [`read_lines`], [`decode`], [`decimal`] and [`Digits`].
-//! `enip_replay` uses them for scripts.
+//! A command over lines is built from what `enip_lines` has for them.
 //!
 //! A [`ProgramFault`] or a [`RequestFailure`] of `enip_faults` says why a command ended early. Its text is the line for
-//! standard error. `specs/InputLines.antt` defines the lines of an input, `specs/Lines.antt` what those of `answer`
-//! mean, and `specs/Answering.antt` what they do.
+//! standard error.
 //!
-//! This crate opens no file and no socket, and it knows neither the command line nor the configuration file. The
-//! caller makes the adapter.
+//! This crate opens no file and no socket, and it knows neither the command line nor the configuration file.
 #![tactic(auto)]
 
-mod answering;
 mod asking;
 mod command_file;
 mod digits;
 mod discovering;
 mod hexadecimal;
-mod input_lines;
 mod interface;
 mod json_text;
-mod lines;
 mod list_objects;
 mod listing;
 mod once;
-mod peer_number;
 mod reading;
 mod session;
 mod showing;
@@ -47,21 +37,16 @@ mod style;
 mod turns;
 mod typed;
 
-pub use answering::answer;
 pub use asking::{
     DeviceRequest, ReplyOutcome, WANTS, ask_over, exchange_over, exchange_with, report_outcome,
     show_refusal, show_reply,
 };
 pub use command_file::{CommandFile, read_commander, write_commander};
-pub use digits::decode;
 pub use discovering::{DiscoveryAnswer, Remarks, print_answer, print_answer_object};
 pub use enip_faults::{
     CommandFileFault, Digits, LedgerRefusal, LineFault, OnceRefusal, ProgramFault, RequestFailure,
 };
-pub use input_lines::{TakeLines, read_lines};
 pub use interface::{InterfaceConfiguration, interface_object};
-pub use json_text::json_of;
-pub use lines::decimal;
 pub use list_objects::{objects_over, print_device_objects};
 pub use listing::{list_over, print_devices};
 pub use once::{LIFE_REQUEST, LifeFault, PendingChoice, begin_once, check_once, read_life};

@@ -25,12 +25,23 @@ pub const LONG_LIVED: Wants = Wants {
 };
 
 /// A session with a device, and its connection if it has one.
-#[derive(Drop)]
 pub struct DeviceSession {
     client: Client,
     route: Route,
     connected: bool,
     reply: ReplyBuf,
+}
+
+// Written out, so that each exit of a function that owns one calls it, and has no drop of every part.
+impl Drop for DeviceSession {
+    fn drop(self) {
+        let DeviceSession {
+            client: _,
+            route: _,
+            connected: _,
+            reply: _,
+        } = self;
+    }
 }
 
 impl DeviceSession {

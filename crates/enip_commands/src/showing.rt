@@ -6,8 +6,7 @@ ghost use Rattle.std.specs.Prelude.{◌≡◌, IfErr, ⊤};
 ghost use Rattle.enip_commands.specs.Statuses.{IsStopOfDevices};
 ghost use Rattle.enip_faults.specs.Statuses.{IsOfDevices};
 
-use crate::digits::{decode, print_digits};
-use crate::input_lines::{TakeLines, read_lines};
+use crate::digits::print_digits;
 use cip_bytes::protocol::{CONNECTION_MANAGER, Command, ManagerService};
 use cip_message::{
     CloseRequest, LengthFault, OpenRequest, Path, PathFault, ReplyFault, ReplyView, RequestFault,
@@ -15,6 +14,7 @@ use cip_message::{
 };
 use cip_route::{HopFault, HopView, UNCONNECTED_SEND, UnconnectedSend, read_hop};
 use enip_faults::ProgramFault;
+use enip_lines::{TakeLines, decode, read_lines};
 use enip_wire::{CpfFault, FrameReader, FrameView, Header, Held, cpf_items, rr_body, unit_body};
 use std::alloc::Global;
 use std::io::{self, BufWriter, Read, Write};

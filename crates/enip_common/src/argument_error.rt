@@ -6,8 +6,10 @@ use cip_layouts::{Layout, LayoutFault, ValueShape};
 use cip_names::Name;
 use cip_route::RouteFault;
 use cip_values::ValueType;
+use enip_access::parse_address;
 use enip_cli::microseconds_of;
 use std::fmt;
+use std::net::IpAddr;
 use std::time::Duration;
 use thiserror::Error;
 
@@ -34,9 +36,15 @@ pub enum ArgumentError<'a> {
     /// The text for the argument of this usage is neither a number nor a name of these.
     #[error("invalid value '{1}' for '{0}'\n  [{2}]")]
     Name(&'static str, &'a str, Choices),
-    /// The value of `--from` is not an address.
-    #[error("invalid value '{0}' for '--from <ADDRESS>'\n  [an IPv4 or IPv6 address, such as 10.0.0.5 or fd00::5]")]
-    From(&'a str),
+    /// The value of this option is not an address.
+    #[error("invalid value '{1}' for '--{0} <ADDRESS>'\n  [an IPv4 or IPv6 address, such as 10.0.0.5 or fd00::5]")]
+    Address(&'static str, &'a str),
+    /// The value of `--date` is not a day.
+    #[error("invalid value '{0}' for '--date <DATE>'\n  [a day as MM-DD-YYYY, such as 11-29-2026]")]
+    Date(&'a str),
+    /// The file that `--icon` names is not an icon.
+    #[error("invalid value '{0}' for '--icon <FILE>'\n  [an .ico file of up to 65536 bytes]")]
+    Icon(&'a str),
     /// HEX has a second argument.
     #[error("unexpected argument '{0}' found\n  [HEX is one argument, unless '--as <TYPE>' is used]")]
     ExtraHex(&'a str),
@@ -65,6 +73,20 @@ pub fn parse_seconds<'a>(
     match microseconds_of(text) {
         Some(microseconds) => Ok(Duration::from_micros(microseconds)),
         None => Err(ArgumentError::Seconds(option, text)),
+    }
+}
+
+/// The address of a machine that the value of an option gives, if there is a value.
+pub fn parse_ip<'a>(
+    option: &'static str,
+    text: Option<&'a str>,
+) -> Result<Option<IpAddr>, ArgumentError<'a>> {
+    let Some(text) = text else {
+        return Ok(None);
+    };
+    match parse_address(text.as_bytes()) {
+        Some(address) => Ok(Some(address)),
+        None => Err(ArgumentError::Address(option, text)),
     }
 }
 

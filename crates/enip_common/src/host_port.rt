@@ -75,6 +75,21 @@ impl<'a> HostPort<'a> {
         Err(last)
     }
 
+    /// Listens at the first loopback address of the host at which that is possible.
+    pub fn bind_loopback(self, rt: &HostRuntime) -> Result<TcpListener, CommandError<'a>> {
+        let mut last = CommandError::of_reason(Reason::Named(self.text, NamedReason::NotLoopback));
+        for address in self.addresses(rt)? {
+            if !address.ip().to_canonical().is_loopback() {
+                continue;
+            }
+            match TcpListener::bind(rt, address) {
+                Ok(listener) => return Ok(listener),
+                Err(error) => last = CommandError::of_system(self.text, error),
+            }
+        }
+        Err(last)
+    }
+
     /// Connects to the first address of the host at which that is possible. The timeout bounds all attempts together.
     fn connect_to_any(
         self,
@@ -226,7 +241,7 @@ impl<'a> Timeout<'a> {
     }
 
     /// What is left until the deadline, if there is one. Without a clock it is over.
-    fn left<C: Clock>(self, clock: &C) -> Option<Duration> {
+    pub fn left<C: Clock>(self, clock: &C) -> Option<Duration> {
         let deadline = self.deadline?;
         match deadline.start.elapsed(clock) {
             Ok(elapsed) => Some(deadline.limit.saturating_sub(elapsed)),

@@ -19,14 +19,15 @@ mod retry;
 mod socket;
 
 pub use argument_error::{
-    ARGUMENTS_REFUSED, ArgumentError, Choices, parse_seconds, parse_shape, print_argument_error,
+    ARGUMENTS_REFUSED, ArgumentError, Choices, parse_ip, parse_seconds, parse_shape,
+    print_argument_error,
 };
 pub use error_keeping::ErrorKeeping;
 pub use fault::Fault;
 pub use host_port::{HostPort, Timeout};
 pub use named_file::{NamedFile, error_of_run, is_input};
 pub use number_argument::{NumberArgument, path_of, service_of, u16_of, u32_of};
-pub use owner::{OwnerNeed, owner_need};
+pub use owner::{OwnerNeed, need_at_once, owner_need};
 pub use reason::{
     CLOCK, CommandError, ConfigurationReason, NamedReason, Note, OwnedDigits, Reason, SystemError,
     print_reason,

@@ -1,10 +1,11 @@
 //! What of a configuration needs an owner of the device, who executes own services and decides on sets. `enip serve` has
-//! none, so it refuses such a configuration.
+//! one with `--owner`.
 
 ghost use Rattle.std.specs.Prelude.{◌≡◌};
-ghost use Rattle.enip_common.specs.Owner.{checked_number, first_checked, first_need, first_service, refusal_of_need};
+ghost use Rattle.enip_common.specs.Owner.{asked_number, checked_number, first_asked, first_checked, first_need, first_service};
+ghost use Rattle.enip_common.specs.Owner.{first_need_at_once, is_asked, need_of_service, refusal_of_need};
 
-use cip_application::{AttributeConfig, ObjectConfig};
+use cip_application::{AttributeConfig, ObjectConfig, ServiceConfig, ServiceKind};
 use enip_config::ConfigurationRefusal;
 use thiserror::Error;
 
@@ -14,9 +15,12 @@ pub enum OwnerNeed {
     /// A checked attribute: the owner decides on each set.
     #[error("attribute {2} of class {0:#04x}, instance {1} is checked by an owner, and enip serve has none")]
     Attribute(u16, u16, u16),
-    /// A service: the owner executes it.
+    /// A service: the owner executes it while the client waits.
     #[error("service {2:#04x} of class {0:#04x}, instance {1} needs an owner, and enip serve has none")]
     Service(u16, u16, u8),
+    /// A queued service: the owner executes it later.
+    #[error("service {2:#04x} of class {0:#04x}, instance {1} is queued for an owner (see --owner)")]
+    Queued(u16, u16, u8),
 }
 
 impl OwnerNeed {
@@ -26,7 +30,7 @@ impl OwnerNeed {
     {
         match self {
             OwnerNeed::Attribute(..) => ConfigurationRefusal::Attribute,
-            OwnerNeed::Service(..) => ConfigurationRefusal::Service,
+            OwnerNeed::Service(..) | OwnerNeed::Queued(..) => ConfigurationRefusal::Service,
         }
     }
 }
@@ -38,6 +42,17 @@ pub fn owner_need(objects: &[ObjectConfig]) -> Option<OwnerNeed>
     match first_checked(objects) {
         Some(need) => Some(need),
         None => first_service(objects),
+    }
+}
+
+/// The first part of these objects that needs an owner that answers while the client waits: checked attributes come before
+/// services that are not queued.
+pub fn need_at_once(objects: &[ObjectConfig]) -> Option<OwnerNeed>
+    ensures { result ≡ first_need_at_once objects.now }
+{
+    match first_checked(objects) {
+        Some(need) => Some(need),
+        None => first_asked(objects),
     }
 }
 
@@ -71,8 +86,54 @@ fn first_service(objects: &[ObjectConfig]) -> Option<OwnerNeed>
 {
     for object in objects {
         if let Some(service) = object.services.first() {
-            return Some(OwnerNeed::Service(object.class, object.instance, service.number));
+            return Some(need_of_service(object.class, object.instance, *service));
         }
     }
     None
+}
+
+/// What a service of an object needs.
+fn need_of_service(class: u16, instance: u16, service: ServiceConfig) -> OwnerNeed
+    ensures { result ≡ need_of_service class instance service }
+{
+    match service.kind {
+        ServiceKind::Asked => OwnerNeed::Service(class, instance, service.number),
+        ServiceKind::Queued | ServiceKind::Result => {
+            OwnerNeed::Queued(class, instance, service.number)
+        }
+    }
+}
+
+/// The first service of these objects that is not queued.
+fn first_asked(objects: &[ObjectConfig]) -> Option<OwnerNeed>
+    ensures { result ≡ first_asked objects.now }
+{
+    for object in objects {
+        if let Some(number) = asked_number(&object.services) {
+            return Some(OwnerNeed::Service(object.class, object.instance, number));
+        }
+    }
+    None
+}
+
+/// The number of the first service that is not queued.
+fn asked_number(services: &[ServiceConfig]) -> Option<u8>
+    ensures { result ≡ asked_number services.now }
+{
+    for service in services {
+        if is_asked(service.kind) {
+            return Some(service.number);
+        }
+    }
+    None
+}
+
+/// Whether the owner is asked while the client waits.
+fn is_asked(kind: ServiceKind) -> bool
+    ensures { result ≡ is_asked kind }
+{
+    match kind {
+        ServiceKind::Asked => true,
+        ServiceKind::Queued | ServiceKind::Result => false,
+    }
 }

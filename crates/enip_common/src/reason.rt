@@ -33,6 +33,9 @@ pub enum Reason<'a> {
     /// The device at the address did not answer before the deadline of so many seconds.
     #[error("{0}: not done within {1} s (--deadline)")]
     DeadlineOver(&'a str, &'a str),
+    /// The device at the address has taken a command, and did not execute it before the deadline of so many seconds.
+    #[error("{0}: not executed within {1} s (--deadline)")]
+    NotExecutedYet(&'a str, &'a str),
     /// The command refuses a configuration.
     #[error("{0}: {1}")]
     Configuration(&'a str, ConfigurationReason),
@@ -120,6 +123,12 @@ pub enum NamedReason {
     /// The name has no address.
     #[error("no such host")]
     NoHost,
+    /// Other machines than this one reach the address.
+    #[error("not a loopback address (see --owner-from)")]
+    NotLoopback,
+    /// The first line of the file cannot be a token.
+    #[error("its first line is not a token (1 to 65536 bytes)")]
+    NoToken,
     /// The device at the address closed the connection.
     #[error("the device closed the connection before it replied")]
     Disconnected,
@@ -129,9 +138,6 @@ pub enum NamedReason {
     /// The command file has no pending command.
     #[error("no command is pending")]
     NonePending,
-    /// The device has taken the command, and has not executed it yet.
-    #[error("the device has not executed the command yet")]
-    StillPending,
     /// The device does not know whether it executed the command.
     #[error("the device does not know whether it executed the command, and its owner has to settle that")]
     InDoubt,
@@ -181,6 +187,12 @@ pub enum Note {
     /// The same, for a line that would give up the command if it were run again.
     #[error("the command may have been executed, and the same line without --abandon sends it again")]
     MaybeExecutedNew,
+    /// The device has put the command into its queue, and has not executed it yet.
+    #[error("the command was queued, and the same line asks for its reply")]
+    Queued,
+    /// The same, for a line that would give up the command if it were run again.
+    #[error("the command was queued, and the same line without --abandon asks for its reply")]
+    QueuedNew,
     /// The ledger refused the command.
     #[error("the command was not executed, and is still pending")]
     NotExecuted,
@@ -282,11 +294,21 @@ impl Reason<'_> {
 pub const CLOCK: &str = "the clock";
 
 /// The error of a command: the fault, with its exit status and its line for scripts, and the reason for people.
-#[derive(Drop)]
 pub struct CommandError<'a> {
     fault: Fault,
     reason: Reason<'a>,
     note: Option<Note>,
+}
+
+// Written out, so that each exit of a function that owns one calls it, and has no drop of every part.
+impl Drop for CommandError<'_> {
+    fn drop(self) {
+        let CommandError {
+            fault: _,
+            reason: _,
+            note: _,
+        } = self;
+    }
 }
 
 impl<'a> CommandError<'a> {
@@ -301,9 +323,15 @@ impl<'a> CommandError<'a> {
 
     /// The same error, with what became of the command.
     pub fn with_note(self, note: Note) -> CommandError<'a> {
+        let CommandError {
+            fault,
+            reason,
+            note: _,
+        } = self;
         CommandError {
+            fault,
+            reason,
             note: Some(note),
-            ..self
         }
     }
 
@@ -346,7 +374,12 @@ impl<'a> CommandError<'a> {
     pub fn into_reason(self) -> Reason<'a>
         ensures { result ≡ self.entry.reason }
     {
-        self.reason
+        let CommandError {
+            fault: _,
+            reason,
+            note: _,
+        } = self;
+        reason
     }
 
     /// Prints both lines on standard error. Returns the exit status.

@@ -2,7 +2,9 @@ pub mod KeyLemmas
 pub mod ListLemmas
 pub mod ValueLemmas
 pub mod TypeLemmas
+pub mod CommandLemmas
 pub mod Rows
 pub mod Refused
 pub mod ReadLemmas
 pub mod ShareLemmas
+pub mod NumberLemmas

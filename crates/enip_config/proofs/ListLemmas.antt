@@ -54,6 +54,7 @@ with_access described c access values same = record {
   address = values.address;
   assemblies = values.assemblies;
   ledger = values.ledger;
+  queue = values.queue;
   enabled = values.enabled;
   objects = values.objects;
   shares = values.shares ∙ ap Some (sym same);

@@ -1,6 +1,7 @@
 -- What a configuration says, and why one is refused: the first check that fails, in the order 7, 9, 8, 1 to 5, 10
--- to 13.
-use Rattle.std.specs.Prelude.{◌≡◌, ◌≤◌, ◌⊎◌, ⊤, ℕ, List, Bool, true, false, Option, Some, None, IfSome, option_map, map, string_bytes}
+-- to 14.
+use Rattle.std.specs.Prelude.{◌≡◌, ◌≤◌, ◌⊎◌, ⊤, ℕ, List, Bool, true, false, not, ◌&&◌, Option, Some, None, IfSome, is_some}
+use Rattle.std.specs.Prelude.{option_map, map, string_bytes}
 use Rattle.std.specs.Prelude.{IsUtf8}
 use Rattle.std.specs.Option.{IsSomeAnd}
 use Rattle.toml.specs.Parse.{parse_document}
@@ -11,7 +12,7 @@ use Rattle.enip_config.specs.declared.configuration.Configuration.{Configuration
 use Rattle.enip_config.specs.declared.fault.LoadFault.{LoadFault}
 use Rattle.enip_config.specs.declared.fault.LoadFault.TheVariants.{Refused, Memory}
 use Rattle.enip_config.specs.declared.fault.ConfigurationRefusal.{ConfigurationRefusal}
-use Rattle.enip_config.specs.declared.fault.ConfigurationRefusal.TheVariants.{NotToml, BadValue, UnknownKey, Access}
+use Rattle.enip_config.specs.declared.fault.ConfigurationRefusal.TheVariants.{NotToml, BadValue, UnknownKey, Access, Commands}
 use Rattle.enip_config.specs.declared.key.NumberKey.{NumberKey}
 use Rattle.enip_config.specs.declared.key.NumberKey.TheVariants.{Vendor, DeviceType, ProductCode, Major, Minor, Serial}
 use Rattle.enip_config.specs.declared.key.NumberKey.TheVariants.{Status, State, Port, Peers, Connections, FirstHandle}
@@ -19,8 +20,9 @@ use Rattle.enip_config.specs.declared.key.NumberKey.TheVariants.{FirstId, Counte
 use Rattle.enip_config.specs.declared.key.NumberKey.TheVariants.{CounterLimit}
 use Rattle.enip_config.specs.Known.{has_unknown_key}
 use Rattle.enip_config.specs.declared.ledger.LedgerConfig.{LedgerConfig}
-use Rattle.enip_config.specs.Keys.{row, originators_row, life_row, number_of, name_of, address_of, assemblies_of, ledger_of}
-use Rattle.enip_config.specs.Keys.{counter_enabled}
+use Rattle.enip_config.specs.Commands.{has_queued}
+use Rattle.enip_config.specs.Keys.{row, originators_row, life_row, queue_row, number_of, name_of, address_of, assemblies_of}
+use Rattle.enip_config.specs.Keys.{ledger_of, queue_of, counter_enabled}
 use Rattle.enip_config.specs.Objects.{objects_of, object_seen}
 use Rattle.enip_config.specs.ObjectTypes.{types_of, types_seen}
 use Rattle.enip_config.specs.Refusals.{fault_of_objects}
@@ -59,6 +61,7 @@ pub record HasValues (described : Members) (c : Configuration) : Type 0 where
   pub address : address_of described ≡ Some c.address
   pub assemblies : assemblies_of described ≡ Some (map assembly_seen c.objects.assemblies.items)
   pub ledger : ledger_of described ≡ Some (option_map ledger_seen c.ledger)
+  pub queue : queue_of described ≡ Some c.queue
   pub enabled : counter_enabled described ≡ Some c.objects.counter.enabled
   pub objects : objects_of described ≡ Some (map object_seen c.objects.objects.items)
   pub shares : shares_of described ≡ Some (option_map shares_seen c.access)
@@ -70,7 +73,7 @@ HasBadValue described =
     ((key : NumberKey) × (number_of key described ≡ None))
     ⊎ ((name_of described ≡ None) ⊎ ((address_of described ≡ None) ⊎ ((assemblies_of described ≡ None)
     ⊎ ((ledger_of described ≡ None) ⊎ ((counter_enabled described ≡ None) ⊎ ((objects_of described ≡ None)
-    ⊎ (shares_of described ≡ None)))))))
+    ⊎ ((shares_of described ≡ None) ⊎ (queue_of described ≡ None))))))))
 
 -- why a table whose keys are all known gives no configuration
 abbrev pub IsUnread : Members → LoadFault → Type 0
@@ -85,6 +88,10 @@ IsBad read fault = (fault ≡ Refused BadValue) × (read ≡ None)
 abbrev pub IsBadOrMemory : {A : Type 0} → Option A → LoadFault → Type 0
 IsBadOrMemory read fault = (fault ≡ Memory) ⊎ IsBad read fault
 
+-- there is a table `commands`, but no service is queued
+abbrev pub has_unused_queue : Configuration → Bool
+has_unused_queue c = is_some c.queue && not (has_queued c.objects.objects.items)
+
 -- the bytes are a TOML document; and one whose keys are all known
 pub record IsDocument (bytes : List ℕ) (described : Members) : Type 0 where
   pub text : IsUtf8 bytes
@@ -95,12 +102,17 @@ pub record IsKnown (bytes : List ℕ) (described : Members) : Type 0 where
   pub known : has_unknown_key described ≡ false
 
 -- the bytes are a configuration that the objects accept, with the lists of the table `access`
-pub record IsDescribed (bytes : List ℕ) (c : Configuration) : Type 0 where
-  pub described : Members
+pub record IsListed (bytes : List ℕ) (described : Members) (c : Configuration) : Type 0 where
   pub known : IsKnown bytes described
   pub values : HasValues described c
   pub taken : fault_of c.objects ≡ None
   pub lists : lists_of described ≡ Some (option_map lists_seen c.access)
+
+-- the same, and the table `commands` is used if there is one
+pub record IsDescribed (bytes : List ℕ) (c : Configuration) : Type 0 where
+  pub described : Members
+  pub listed : IsListed bytes described c
+  pub used : has_unused_queue c ≡ false
 
 -- why bytes are refused
 abbrev pub IsRefused : List ℕ → ConfigurationRefusal → Type 0
@@ -114,6 +126,9 @@ IsRefused bytes BadValue = (described : Members) × (IsKnown bytes described × 
 IsRefused bytes Access =
     (described : Members) × ((c : Configuration) × (IsKnown bytes described
     × (HasValues described c × ((fault_of c.objects ≡ None) × (lists_of described ≡ None)))))
+-- 14: the table `commands` is not used
+IsRefused bytes Commands =
+    (described : Members) × ((c : Configuration) × (IsListed bytes described c × (has_unused_queue c ≡ true)))
 -- 1 to 5 and 10 to 12: the first check of the objects that fails
 IsRefused bytes refusal =
     (described : Members) × ((c : Configuration) × (IsKnown bytes described
@@ -137,6 +152,10 @@ pub record HasRanges (ledger : LedgerConfig) : Type 0 where
 
 abbrev pub IsLedgerInRange : Configuration → Type 0
 IsLedgerInRange c = IfSome c.ledger HasRanges
+
+-- the queue of the table `commands` is in range, if there is one
+abbrev pub IsQueueInRange : Configuration → Type 0
+IsQueueInRange c = IfSome c.queue (λ n. (queue_row.least ≤ n) × (n ≤ queue_row.greatest))
 
 -- the shares of the table `access` are in range, if there is one
 abbrev pub AreSharesInRange : Configuration → Type 0

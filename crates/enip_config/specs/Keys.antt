@@ -58,6 +58,10 @@ originators_row = required (codes "originators") 1 64
 abbrev pub life_row : KeyRow
 life_row = optional (codes "life") 1 0x7fffffffffffffff 1
 
+-- the key `queue` of the table `commands`
+abbrev pub queue_row : KeyRow
+queue_row = optional (codes "queue") 1 256 16
+
 abbrev pub row_seen : Row → KeyRow
 row_seen r = record { name = r.name.now; least = r.least; greatest = r.greatest; default = r.default }
 
@@ -159,3 +163,13 @@ ledger_in _ = None
 abbrev pub ledger_of : Members → Option (Option (ℕ × ℕ))
 ledger_of described =
     read_or (Some None) (λ value. option_map (λ ledger. Some ledger) (ledger_in value)) (get_member (codes "ledger") described)
+
+-- how many queued commands can wait
+abbrev pub queue_in : Data → Option ℕ
+queue_in (table described) = number_by queue_row described
+queue_in _ = None
+
+-- the table `commands`, if there is one
+abbrev pub queue_of : Members → Option (Option ℕ)
+queue_of described =
+    read_or (Some None) (λ value. option_map (λ limit. Some limit) (queue_in value)) (get_member (codes "commands") described)

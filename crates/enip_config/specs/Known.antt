@@ -3,13 +3,13 @@ use Rattle.std.specs.Prelude.{ℕ, List, [], ◌∷◌, ◌++◌, map, Bool, tru
 use Rattle.std.specs.List.{list_any}
 use Rattle.enip_config.specs.declared.known.TableKind.{TableKind}
 use Rattle.enip_config.specs.declared.known.TableKind.TheVariants.{Text, Counter, Assembly, Ledger, Object}
-use Rattle.enip_config.specs.declared.known.TableKind.TheVariants.{Attribute, Service, Access}
+use Rattle.enip_config.specs.declared.known.TableKind.TheVariants.{Attribute, Service, Commands, Access}
 use Rattle.enip_config.specs.declared.key.NumberKey.{NumberKey}
 use Rattle.enip_config.specs.declared.key.NumberKey.TheVariants.{Vendor, DeviceType, ProductCode, Major, Minor, Serial}
 use Rattle.enip_config.specs.declared.key.NumberKey.TheVariants.{Status, State, Port, Peers, Connections, FirstHandle}
 use Rattle.enip_config.specs.declared.key.NumberKey.TheVariants.{FirstId, CounterValue}
 use Rattle.enip_config.specs.declared.key.NumberKey.TheVariants.{CounterLimit}
-use Rattle.enip_config.specs.Keys.{row, instance_row, originators_row, life_row}
+use Rattle.enip_config.specs.Keys.{row, instance_row, originators_row, life_row, queue_row}
 use Rattle.enip_config.specs.Objects.{class_row, attribute_row, service_row, reply_row}
 use Rattle.toml.specs.Data.{Data, array, table, Items, no_items, item, Members, no_members, member}
 
@@ -61,12 +61,13 @@ keys_of Text = map (λ key. (row key).name) text_numbers ++ (codes "name" ∷ co
 keys_of Counter = map (λ key. (row key).name) (CounterValue ∷ CounterLimit ∷ []) ++ (codes "enabled" ∷ [])
 keys_of Assembly = instance_row.name ∷ codes "settable" ∷ codes "members" ∷ []
 keys_of Ledger = originators_row.name ∷ life_row.name ∷ []
+keys_of Commands = queue_row.name ∷ []
 keys_of Access = codes "read" ∷ codes "write" ∷ codes "per_address" ∷ codes "connections_per_address" ∷ []
 keys_of Object = class_row.name ∷ instance_row.name ∷ codes "name" ∷ []
 keys_of Attribute =
     attribute_row.name ∷ codes "type" ∷ codes "value" ∷ codes "settable" ∷ codes "checked" ∷ codes "min"
     ∷ codes "max" ∷ []
-keys_of Service = service_row.name ∷ codes "size" ∷ codes "sizes" ∷ reply_row.name ∷ []
+keys_of Service = service_row.name ∷ codes "size" ∷ codes "sizes" ∷ reply_row.name ∷ codes "queued" ∷ []
 
 -- whether a key of a table `object` is unknown, or one within its value
 abbrev pub is_unknown_in_object : List ℕ → Data → Bool
@@ -99,6 +100,7 @@ is_unknown key value =
     if bytes_eq key (codes "counter") then has_other_keys_within (keys_of Counter) value
     else if bytes_eq key (codes "assembly") then has_other_keys_within (keys_of Assembly) value
     else if bytes_eq key (codes "ledger") then has_other_keys_within (keys_of Ledger) value
+    else if bytes_eq key (codes "commands") then has_other_keys_within (keys_of Commands) value
     else if bytes_eq key (codes "access") then has_other_keys_within (keys_of Access) value
     else if bytes_eq key (codes "object") then has_other_keys_in_objects value
     else not (is_among (keys_of Text) key) || has_key value

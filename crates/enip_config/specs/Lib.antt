@@ -1,9 +1,11 @@
 pub mod Keys
 pub mod Types
+pub mod Commands
 pub mod Objects
 pub mod ObjectTypes
 pub mod Known
 pub mod Refusals
 pub mod Access
 pub mod Documents
+pub mod Numbers
 pub mod Explained

@@ -1,11 +1,15 @@
 -- The tables `object` of a configuration, with the tables `attribute` and `service` in them.
-use Rattle.std.specs.Prelude.{ℕ, List, [], ◌∷◌, Bool, false, true, codes, Option, Some, None, option_map, string_bytes}
-use Rattle.std.specs.Prelude.{map}
+use Rattle.std.specs.Prelude.{ℕ, List, [], ◌∷◌, ◌++◌, Bool, false, true, codes, Option, Some, None, option_map, string_bytes}
+use Rattle.std.specs.Prelude.{map, if◌then◌else◌}
+use Rattle.std.specs.List.{list_any}
 use Rattle.toml.specs.Data.{Data, array, table, Items, no_items, item, Members, get_member, as_str, as_bool}
 use Rattle.cip_application.specs.declared.config.AttributeConfig.{AttributeConfig}
 use Rattle.cip_application.specs.declared.config.ObjectConfig.{ObjectConfig}
 use Rattle.cip_application.specs.declared.config.ServiceConfig.{ServiceConfig}
+use Rattle.cip_application.specs.declared.config.ServiceKind.{ServiceKind}
+use Rattle.cip_application.specs.declared.config.ServiceKind.TheVariants as kinds
 use Rattle.cip_application.specs.declared.kind.AttributeKind.{AttributeKind}
+use Rattle.enip_config.specs.Commands.{is_queued_kind}
 use Rattle.enip_config.specs.Keys.{KeyRow, required, optional, instance_row, number_in, number_by, read_or, each, both}
 use Rattle.enip_config.specs.Keys.{flag_of}
 use Rattle.enip_config.specs.Types.{typed_in}
@@ -42,23 +46,45 @@ sizes_from (Some size) None = one_size size
 sizes_from None (Some sizes) = two_sizes sizes
 sizes_from (Some size) (Some sizes) = None
 
--- a service's number, the sizes of its data, and the most bytes of its reply's data
-abbrev pub service_in : Data → Option (ℕ × ((ℕ × ℕ) × ℕ))
+-- a service that is not queued is asked of the owner
+abbrev pub kind_of : Bool → ServiceKind
+kind_of queued = if queued then kinds.Queued else kinds.Asked
+
+abbrev pub kind_by : Members → Option ServiceKind
+kind_by described = option_map kind_of (flag_of (codes "queued") false described)
+
+-- a service's number, the sizes of its data, the most bytes of its reply's data, and how it is executed
+abbrev pub ServiceSeen : Type 0
+ServiceSeen = ℕ × ((ℕ × ℕ) × (ℕ × ServiceKind))
+
+abbrev pub service_in : Data → Option ServiceSeen
 service_in (table described) =
     both (number_by service_row described)
     (both (sizes_from (get_member (codes "size") described) (get_member (codes "sizes") described))
-    (number_by reply_row described))
+    (both (number_by reply_row described) (kind_by described)))
 service_in _ = None
 
-abbrev pub service_seen : ServiceConfig → ℕ × ((ℕ × ℕ) × ℕ)
-service_seen service = (service.number, ((service.least, service.most), service.reply))
+abbrev pub service_seen : ServiceConfig → ServiceSeen
+service_seen service = (service.number, ((service.least, service.most), (service.reply, service.kind)))
 
-abbrev pub services_in : Data → Option (List (ℕ × ((ℕ × ℕ) × ℕ)))
+abbrev pub services_in : Data → Option (List ServiceSeen)
 services_in (array values) = each service_in values
 services_in _ = None
 
-abbrev pub services_of : Members → Option (List (ℕ × ((ℕ × ℕ) × ℕ)))
-services_of described = read_or (Some []) services_in (get_member (codes "service") described)
+abbrev pub described_services : Members → Option (List ServiceSeen)
+described_services described = read_or (Some []) services_in (get_member (codes "service") described)
+
+-- Get_Result: its data are a ticket, and its reply has at most a state, a status, and what a queued service replies
+abbrev pub get_result : ServiceSeen
+get_result = (0x4e, ((4, 4), (478, kinds.Result)))
+
+-- an object with a queued service has Get_Result too, after its other services
+abbrev pub with_result : List ServiceSeen → List ServiceSeen
+with_result services =
+    if list_any (λ service. is_queued_kind service.1.1.1) services then services ++ (get_result ∷ []) else services
+
+abbrev pub services_of : Members → Option (List ServiceSeen)
+services_of described = option_map with_result (described_services described)
 
 -- ---- attributes
 
@@ -88,7 +114,7 @@ attributes_of described = read_or (Some []) attributes_in (get_member (codes "at
 
 -- an object's class, instance, name if it has one, attributes and services
 abbrev pub ObjectSeen : Type 0
-ObjectSeen = ℕ × (ℕ × (Option (List ℕ) × (List AttributeSeen × List (ℕ × ((ℕ × ℕ) × ℕ)))))
+ObjectSeen = ℕ × (ℕ × (Option (List ℕ) × (List AttributeSeen × List ServiceSeen)))
 
 abbrev pub object_name : Members → Option (Option (List ℕ))
 object_name described =

@@ -23,6 +23,7 @@ refusal_number refused.Object = 10
 refusal_number refused.Attribute = 11
 refusal_number refused.Service = 12
 refusal_number refused.Access = 13
+refusal_number refused.Commands = 14
 
 -- the check of the objects that fails, or Memory
 abbrev pub fault_of_objects : ConfigFault → LoadFault

@@ -1,17 +1,21 @@
 //! The values of a configuration.
 //! Text: docs/PROGRAM.md, "The configuration".
 
-ghost use Rattle.std.specs.Prelude.{◌≡◌, IfOk, IfErr, None, Some, option_map};
+ghost use Rattle.std.specs.Prelude.{◌≡◌, ◌≤◌, IfOk, IfErr, IfSome, None, Some, option_map};
 ghost use Rattle.toml.specs.View.{table_view};
 ghost use Rattle.cip_objects.specs.Configuration.{fault_of};
 ghost use Rattle.enip_config.specs.Access.{lists_of, lists_seen, IsBadList};
-ghost use Rattle.enip_config.specs.Documents.{IsDescribed, IsFaultOf, IsInRange, IsLedgerInRange, AreSharesInRange, IsUnread, HasValues};
+ghost use Rattle.enip_config.specs.Commands.{queue_limit};
+ghost use Rattle.enip_config.specs.Documents.{IsDescribed, IsFaultOf, IsInRange, IsLedgerInRange, IsQueueInRange};
+ghost use Rattle.enip_config.specs.Documents.{AreSharesInRange, IsUnread, HasValues, has_unused_queue};
+ghost use Rattle.enip_config.specs.Numbers.{HasIdentity, HasCounter, HasLimits};
 
 use crate::access::{shares_of, with_lists};
 use crate::assemblies::assemblies_of;
 use crate::attribute_type::AttributeType;
+use crate::commands::{has_queued, queue_of};
 use crate::fault::{ConfigurationRefusal, LoadFault};
-use crate::key::NumberKey;
+use crate::key::{DEFAULT_QUEUE, NumberKey};
 use crate::known::has_unknown_key;
 use crate::ledger::{LedgerConfig, ledger_of};
 use crate::object_types::types_of;
@@ -23,7 +27,7 @@ use std::alloc::Global;
 use toml::Table;
 
 /// A device as a configuration describes it: its objects, the address and port that it reports, its limits, its
-/// command ledger if it has one, and the types of its own attributes.
+/// command ledger if it has one, how many queued commands can wait, and the types of its own attributes.
 ///
 /// ```
 /// const DEVICE: &[u8] = b"vendor = 1
@@ -58,6 +62,8 @@ pub struct Configuration {
     pub first_id: u32,
     /// The command ledger before the objects, if there is one.
     pub ledger: Option<LedgerConfig>,
+    /// How many queued commands can wait, 1 to 256, by the table `commands`. `None` if it is left out.
+    pub queue: Option<u16>,
     /// Who may connect and who may change something, if the configuration says so. Otherwise everybody may.
     pub access: Option<Access>,
     /// The types of the attributes of each own object, in the order of the file.
@@ -71,11 +77,13 @@ impl Configuration {
     ///
     /// `LoadFault::Refused` with the first check that fails, in this order: `NotToml` (7); `UnknownKey` (9) if any key
     /// is unknown; `BadValue` (8) if a required key is missing, or a value has another type or is out of range; the
-    /// checks of the objects (1 to 5, 10 to 12); `Access` (13). `LoadFault::Memory` if memory is refused.
+    /// checks of the objects (1 to 5, 10 to 12); `Access` (13); `Commands` (14). `LoadFault::Memory` if memory is
+    /// refused.
     pub fn from_bytes(alloc: Global, bytes: &[u8]) -> Result<Configuration, LoadFault>
         ensures read { IfOk result (IsDescribed bytes.now) }
         ensures in_range { IfOk result IsInRange }
         ensures ledger { IfOk result IsLedgerInRange }
+        ensures queue { IfOk result IsQueueInRange }
         ensures shares { IfOk result AreSharesInRange }
         ensures refused { IfErr result (IsFaultOf bytes.now) }
     {
@@ -88,10 +96,33 @@ impl Configuration {
             return Err(LoadFault::Refused(ConfigurationRefusal::UnknownKey));
         }
         let values = Configuration::from_table(alloc, &table)?;
-        match values.objects.fault() {
-            Some(check) => Err(LoadFault::from(check)),
-            None => values.with_lists(&table),
+        if let Some(check) = values.objects.fault() {
+            return Err(LoadFault::from(check));
         }
+        let configuration = values.with_lists(&table)?;
+        if configuration.has_unused_queue() {
+            return Err(LoadFault::Refused(ConfigurationRefusal::Commands));
+        }
+        Ok(configuration)
+    }
+
+    /// How many queued commands can wait. `None` if no service is queued, so that the device has no queue.
+    pub fn queue_limit(&self) -> Option<u16>
+        ensures value { result ≡ queue_limit self.now }
+        ensures from { IsQueueInRange self.now → IfSome result (λ n. 1 ≤ n) }
+        ensures to { IsQueueInRange self.now → IfSome result (λ n. n ≤ 256) }
+    {
+        if !has_queued(&self.objects.objects) {
+            return None;
+        }
+        Some(self.queue.unwrap_or(DEFAULT_QUEUE))
+    }
+
+    /// Whether there is a table `commands`, but no service is queued.
+    fn has_unused_queue(&self) -> bool
+        ensures { result ≡ has_unused_queue self.now }
+    {
+        self.queue.is_some() && !has_queued(&self.objects.objects)
     }
 
     /// The same configuration with the lists of the table `access`.
@@ -111,34 +142,109 @@ impl Configuration {
         ensures read { IfOk result (HasValues (table_view text.now)) }
         ensures refused { IfErr result (IsUnread (table_view text.now)) }
     {
+        // What needs no memory comes first: nothing has to be dropped if one of it is refused.
+        let identity = identity_of(text)?;
+        let counter = counter_of(text)?;
+        let limits = limits_of(text)?;
+        let address = address_of(text)?;
+        let ledger = ledger_of(text)?;
+        let queue = queue_of(text)?;
+        let access = shares_of(text)?;
+        let name = name_of(text)?;
+        let assemblies = assemblies_of(alloc, text)?;
+        let objects = objects_of(alloc, text)?;
+        let attribute_types = types_of(alloc, text)?;
         Ok(Configuration {
             objects: Config {
-                vendor: number(text, NumberKey::Vendor)?,
-                device_type: number(text, NumberKey::DeviceType)?,
-                product_code: number(text, NumberKey::ProductCode)?,
-                major: number(text, NumberKey::Major)?,
-                minor: number(text, NumberKey::Minor)?,
-                serial: number(text, NumberKey::Serial)?,
-                name: name_of(text)?,
-                status: number(text, NumberKey::Status)?,
-                state: number(text, NumberKey::State)?,
-                counter: CounterConfig {
-                    enabled: counter_enabled(text)?,
-                    value: number(text, NumberKey::CounterValue)?,
-                    limit: number(text, NumberKey::CounterLimit)?,
-                },
-                assemblies: assemblies_of(alloc, text)?,
-                objects: objects_of(alloc, text)?,
+                vendor: identity.vendor,
+                device_type: identity.device_type,
+                product_code: identity.product_code,
+                major: identity.major,
+                minor: identity.minor,
+                serial: identity.serial,
+                name,
+                status: identity.status,
+                state: identity.state,
+                counter,
+                assemblies,
+                objects,
             },
-            address: address_of(text)?,
-            port: number(text, NumberKey::Port)?,
-            peers: number(text, NumberKey::Peers)?,
-            connections: number(text, NumberKey::Connections)?,
-            first_handle: number(text, NumberKey::FirstHandle)?,
-            first_id: number(text, NumberKey::FirstId)?,
-            ledger: ledger_of(text)?,
-            access: shares_of(text)?,
-            attribute_types: types_of(alloc, text)?,
+            address,
+            port: limits.port,
+            peers: limits.peers,
+            connections: limits.connections,
+            first_handle: limits.first_handle,
+            first_id: limits.first_id,
+            ledger,
+            queue,
+            access,
+            attribute_types,
         })
     }
+}
+
+/// The numbers of the Identity object.
+#[derive(Clone, Copy)]
+struct Identity {
+    vendor: u16,
+    device_type: u16,
+    product_code: u16,
+    major: u8,
+    minor: u8,
+    serial: u32,
+    status: u16,
+    state: u8,
+}
+
+/// Reads the numbers of the Identity object.
+fn identity_of(text: &Table) -> Result<Identity, LoadFault>
+    ensures read { IfOk result (HasIdentity (table_view text.now)) }
+    ensures refused { IfErr result (IsUnread (table_view text.now)) }
+{
+    Ok(Identity {
+        vendor: number(text, NumberKey::Vendor)?,
+        device_type: number(text, NumberKey::DeviceType)?,
+        product_code: number(text, NumberKey::ProductCode)?,
+        major: number(text, NumberKey::Major)?,
+        minor: number(text, NumberKey::Minor)?,
+        serial: number(text, NumberKey::Serial)?,
+        status: number(text, NumberKey::Status)?,
+        state: number(text, NumberKey::State)?,
+    })
+}
+
+/// Reads the counter.
+fn counter_of(text: &Table) -> Result<CounterConfig, LoadFault>
+    ensures read { IfOk result (HasCounter (table_view text.now)) }
+    ensures refused { IfErr result (IsUnread (table_view text.now)) }
+{
+    Ok(CounterConfig {
+        enabled: counter_enabled(text)?,
+        value: number(text, NumberKey::CounterValue)?,
+        limit: number(text, NumberKey::CounterLimit)?,
+    })
+}
+
+/// The port that the device reports, and the numbers of its peers and connections.
+#[derive(Clone, Copy)]
+struct Limits {
+    port: u16,
+    peers: u16,
+    connections: u16,
+    first_handle: u32,
+    first_id: u32,
+}
+
+/// Reads the port and the limits.
+fn limits_of(text: &Table) -> Result<Limits, LoadFault>
+    ensures read { IfOk result (HasLimits (table_view text.now)) }
+    ensures refused { IfErr result (IsUnread (table_view text.now)) }
+{
+    Ok(Limits {
+        port: number(text, NumberKey::Port)?,
+        peers: number(text, NumberKey::Peers)?,
+        connections: number(text, NumberKey::Connections)?,
+        first_handle: number(text, NumberKey::FirstHandle)?,
+        first_id: number(text, NumberKey::FirstId)?,
+    })
 }

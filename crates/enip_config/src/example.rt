@@ -1,7 +1,7 @@
 //! A configuration with every key.
 
 /// A configuration with every key, with comments. It describes a device that `enip serve` can run. Keys that need a
-/// program of yours next to the adapter, the owner of the device, are commented out.
+/// program of yours, the owner of the device, are commented out.
 pub const EXAMPLE: &str =
     r#"# A device for `enip serve`. A key with a default can be left out, and so can any table.
 
@@ -61,8 +61,8 @@ number = 2
 type = "SHORT_STRING[32]"
 value = "ready"
 
-# Services are executed by the owner of the device: a program with the adapter as a library.
-# `enip serve` has none, and refuses a configuration with services.
+# Services are executed by the owner of the device: a program with the adapter as a library, or, if they are queued,
+# one that connects to `enip serve --owner`. Without an owner, `enip serve` refuses a configuration with services.
 #
 # [[object.service]]           # up to 16 in an object
 # number = 50                  # 50 to 99
@@ -72,4 +72,8 @@ value = "ready"
 # [[object.service]]
 # number = 51
 # sizes = [0, 8]               # the least and the greatest number of bytes, instead of size
+# queued = true                # answered at once by a ticket, and executed later; default false
+#
+# [commands]                   # the queue of the device, for services with queued = true
+# queue = 16                   # how many commands can wait in it: 1 to 256; default 16
 "#;

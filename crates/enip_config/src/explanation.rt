@@ -23,11 +23,22 @@ const MOST_READ: usize = 1 << 20;
 
 /// What is wrong with a refused configuration. It prints as one line of text: the line of the file, if known, and what
 /// is wrong there.
-#[derive(Debug, Drop)]
+#[derive(Debug)]
 pub struct Explanation {
     refusal: ConfigurationRefusal,
     line: Option<usize>,
     problem: Problem,
+}
+
+// Written out, so that each exit of a function that owns one calls it, and has no drop of every part.
+impl Drop for Explanation {
+    fn drop(self) {
+        let Explanation {
+            refusal: _,
+            line: _,
+            problem: _,
+        } = self;
+    }
 }
 
 impl Explanation {
@@ -99,19 +110,22 @@ pub(crate) enum Problem {
     Service(ServiceProblem),
     #[error("{0}")]
     List(ListProblem),
+    #[error("there is a table commands, but no service is queued")]
+    NoQueuedService,
     /// The number of a check for which no other text was found.
     #[error("check {0} of the configuration fails")]
     Check(u8),
 }
 
-/// A location in a configuration: a key at the top level, a key of the table `counter`, `ledger` or `access`, one of the tables
-/// `assembly` or `object`, from 0, or a key of one. A part of an object is one of its tables `attribute` or `service`,
-/// from 0.
+/// A location in a configuration: a key at the top level, a key of the table `counter`, `ledger`, `commands` or
+/// `access`, one of the tables `assembly` or `object`, from 0, or a key of one. A part of an object is one of its
+/// tables `attribute` or `service`, from 0.
 #[derive(Clone, Copy)]
 pub(crate) enum Location<'a> {
     Text(&'a str),
     Counter(&'a str),
     Ledger(&'a str),
+    Commands(&'a str),
     Access(&'a str),
     Assembly(usize),
     InAssembly(usize, &'a str),
@@ -128,6 +142,7 @@ impl Location<'_> {
             Location::Text(key) => text.get(key).is_some(),
             Location::Counter(key) => has_member(text.get("counter"), key),
             Location::Ledger(key) => has_member(text.get("ledger"), key),
+            Location::Commands(key) => has_member(text.get("commands"), key),
             Location::Access(key) => has_member(text.get("access"), key),
             Location::Assembly(place) => item_at(text.get("assembly"), place).is_some(),
             Location::InAssembly(place, key) => {
@@ -206,10 +221,20 @@ fn problem_in(alloc: Global, bytes: &[u8]) -> Result<Option<(Option<usize>, Prob
     if let Some((spot, problem)) = object_problem(alloc, &text)? {
         return Ok(Some((line_of(alloc, bytes, spot), problem)));
     }
-    match list_problem(alloc, &text)? {
+    if let Some((spot, problem)) = list_problem(alloc, &text)? {
+        return Ok(Some((line_of(alloc, bytes, spot), problem)));
+    }
+    match queue_problem(&text) {
         Some((spot, problem)) => Ok(Some((line_of(alloc, bytes, spot), problem))),
         None => Ok(None),
     }
+}
+
+/// What is wrong with the table `commands` of a refused configuration that passes all other checks: no service is
+/// queued.
+fn queue_problem(text: &Table) -> Option<(Location<'static>, Problem)> {
+    text.get("commands")?;
+    Some((Location::Text("commands"), Problem::NoQueuedService))
 }
 
 /// The line of a location, from 1: the first one such that the lines up to it are a TOML document with something there.

@@ -35,6 +35,8 @@ pub enum ConfigurationRefusal {
     Service = 12,
     /// The list `read` or `write` of the table `access` is not an array of up to 64 addresses and prefixes.
     Access = 13,
+    /// The table `commands` is there, but no service is queued.
+    Commands = 14,
 }
 
 impl ConfigurationRefusal {

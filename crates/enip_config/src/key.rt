@@ -10,6 +10,9 @@ const REGISTERED_PORT: u64 = 44_818;
 /// The greatest number of 32 bits.
 const GREATEST_UDINT: u64 = 0xffff_ffff;
 
+/// How many queued commands can wait, unless the key `queue` says otherwise (our choice).
+pub(crate) const DEFAULT_QUEUE: u16 = 16;
+
 /// A key whose value is a number, at the top level or in the table `counter`.
 #[derive(Clone, Copy, Debug)]
 pub enum NumberKey {
@@ -109,6 +112,14 @@ pub(crate) const LIFE: Row = Row {
     least: 1,
     greatest: 0x7fff_ffff_ffff_ffff,
     default: Some(1),
+};
+
+/// The key `queue` of the table `commands`.
+pub(crate) const QUEUE: Row = Row {
+    name: "queue",
+    least: 1,
+    greatest: 256,
+    default: Some(DEFAULT_QUEUE as u64),
 };
 
 impl NumberKey {

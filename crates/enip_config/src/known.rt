@@ -11,7 +11,7 @@ ghost use Rattle.enip_config.specs.Known.{has_other_keys_in_objects, object_has_
 ghost use Rattle.enip_config.specs.Known.{is_unknown_in_object};
 
 use crate::key::{
-    ATTRIBUTE_NUMBER, CLASS, INSTANCE, LIFE, NumberKey, ORIGINATORS, REPLY, SERVICE_NUMBER,
+    ATTRIBUTE_NUMBER, CLASS, INSTANCE, LIFE, NumberKey, ORIGINATORS, QUEUE, REPLY, SERVICE_NUMBER,
 };
 use toml::{Table, Value};
 
@@ -26,6 +26,8 @@ pub(crate) enum TableKind {
     Assembly,
     /// The table `ledger`.
     Ledger,
+    /// The table `commands`.
+    Commands,
     /// The table `access`.
     Access,
     /// A table `object`, without the tables in it.
@@ -70,13 +72,11 @@ impl TableKind {
                 || name == "settable"
                 || name == "members",
             TableKind::Ledger => ORIGINATORS.is_named(name) || LIFE.is_named(name),
+            TableKind::Commands => QUEUE.is_named(name),
             TableKind::Access => is_access_key(name),
             TableKind::Object => CLASS.is_named(name) || INSTANCE.is_named(name) || name == "name",
             TableKind::Attribute => is_attribute_key(name),
-            TableKind::Service => SERVICE_NUMBER.is_named(name)
-                || name == "size"
-                || name == "sizes"
-                || REPLY.is_named(name),
+            TableKind::Service => is_service_key(name),
         }
     }
 }
@@ -99,6 +99,17 @@ fn is_attribute_key(name: &str) -> bool
         || name == "checked"
         || name == "min"
         || name == "max"
+}
+
+/// Whether a table `object.service` has a key of this name.
+fn is_service_key(name: &str) -> bool
+    ensures { result ≡ is_among (keys_of TableKind.Service) name.now }
+{
+    SERVICE_NUMBER.is_named(name)
+        || name == "size"
+        || name == "sizes"
+        || REPLY.is_named(name)
+        || name == "queued"
 }
 
 /// Whether one of these keys has this name.
@@ -133,6 +144,7 @@ fn is_unknown(key: &str, value: &Value) -> bool
         "counter" => has_other_keys_within(value, TableKind::Counter),
         "assembly" => has_other_keys_within(value, TableKind::Assembly),
         "ledger" => has_other_keys_within(value, TableKind::Ledger),
+        "commands" => has_other_keys_within(value, TableKind::Commands),
         "access" => has_other_keys_within(value, TableKind::Access),
         "object" => has_other_keys_in_objects(value),
         name => !TableKind::Text.knows(name) || has_key(value),

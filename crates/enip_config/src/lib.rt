@@ -1,11 +1,12 @@
 //! The configuration of an EtherNet/IP device, as a TOML document: its identity, counter and assemblies, its own
-//! objects, the address and port that it reports, its limits, and its command ledger.
+//! objects, the address and port that it reports, its limits, its command ledger, and its queue of commands.
 //!
 //! - [`Configuration::from_bytes`] reads a configuration, and refuses it by the first check that fails
 //!   (`specs/Documents.antt`). Each check has a number. Each key has a name, a range and, unless it is required, a
 //!   default (`specs/Keys.antt`). The objects accept every configuration that is read.
 //! - An own object has attributes and services (`specs/Objects.antt`). An [`AttributeType`] has a name, as `UINT[4]`,
-//!   and says how a value is read and which bytes it has (`specs/Types.antt`).
+//!   and says how a value is read and which bytes it has (`specs/Types.antt`). A service can be queued. Then its object
+//!   has Get_Result too, and the device a queue of commands (`specs/Commands.antt`).
 //! - The table `access` has the rules of `enip_access`: who may connect, and who may change something
 //!   (`specs/Access.antt`).
 //! - [`explain`] says what is wrong with a refused configuration, and in which line.
@@ -32,6 +33,7 @@ mod access_problems;
 mod assemblies;
 mod attribute_problems;
 mod attribute_type;
+mod commands;
 mod configuration;
 mod elements;
 mod example;

@@ -27,18 +27,20 @@ impl TableKind {
                 "counter",
                 "assembly",
                 "ledger",
+                "commands",
                 "access",
                 "object",
             ],
             TableKind::Counter => &["value", "limit", "enabled"],
             TableKind::Assembly => &["instance", "members", "settable"],
             TableKind::Ledger => &["originators", "life"],
+            TableKind::Commands => &["queue"],
             TableKind::Access => &["read", "write", "per_address", "connections_per_address"],
             TableKind::Object => &["class", "instance", "name", "attribute", "service"],
             TableKind::Attribute => &[
                 "number", "type", "value", "settable", "checked", "min", "max",
             ],
-            TableKind::Service => &["number", "size", "sizes", "reply"],
+            TableKind::Service => &["number", "size", "sizes", "reply", "queued"],
         }
     }
 

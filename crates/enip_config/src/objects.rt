@@ -7,17 +7,36 @@ ghost use Rattle.toml.specs.View.{view, items_view, table_view};
 ghost use Rattle.enip_config.specs.Keys.{each, number_in};
 ghost use Rattle.enip_config.specs.Objects.{objects_of, object_in, object_seen, object_name};
 ghost use Rattle.enip_config.specs.Objects.{attributes_of, attribute_in, attribute_seen};
-ghost use Rattle.enip_config.specs.Objects.{services_of, service_in, service_seen, sizes_from, two_sizes};
+ghost use Rattle.enip_config.specs.Objects.{services_of, described_services, service_in, service_seen, kind_by};
+ghost use Rattle.enip_config.specs.Objects.{sizes_from, two_sizes};
 ghost use Rattle.enip_config.specs.Documents.{IsBad, IsBadOrMemory, IsUnread};
 
+use crate::commands::has_queued_service;
 use crate::fault::LoadFault;
 use crate::key::{ATTRIBUTE_NUMBER, CLASS, INSTANCE, REPLY, SERVICE_NUMBER};
 use crate::typed::typed_in;
 use crate::values::{BAD_VALUE, flag_of, number_by, number_in, value_of};
 use crate::width::Width;
-use cip_application::{AttributeConfig, ObjectConfig, ServiceConfig};
+use cip_application::{
+    AttributeConfig, GET_RESULT, ObjectConfig, QUEUED_REPLY_LIMIT, ServiceConfig, ServiceKind,
+};
 use std::alloc::Global;
 use toml::{Table, Value};
+
+/// The bytes of a ticket, which are the data of Get_Result.
+const TICKET_SIZE: u16 = 4;
+
+/// The state and the status before the data in a reply of Get_Result.
+const RESULT_HEAD: u16 = 2;
+
+/// Get_Result, which an object with a queued service has too.
+const RESULT_SERVICE: ServiceConfig = ServiceConfig {
+    number: GET_RESULT,
+    least: TICKET_SIZE,
+    most: TICKET_SIZE,
+    reply: RESULT_HEAD + QUEUED_REPLY_LIMIT as u16,
+    kind: ServiceKind::Result,
+};
 
 /// Reads the own objects, in the order of the file. Empty if the key is left out.
 pub(crate) fn objects_of(alloc: Global, text: &Table) -> Result<Vec<ObjectConfig>, LoadFault>
@@ -120,11 +139,26 @@ fn attribute_of(alloc: Global, value: &Value) -> Result<AttributeConfig, LoadFau
     })
 }
 
-/// Reads the own services of an object, in the order of the file. Empty if the key is left out.
+/// Reads the own services of an object. If one of them is queued, Get_Result is added.
+#[tactic(auto, using(crate::proofs::CommandLemmas::without_queued, crate::proofs::CommandLemmas::with_queued, crate::proofs::CommandLemmas::bad_services))]
 fn services_of(alloc: Global, table: &Table) -> Result<Vec<ServiceConfig>, LoadFault>
     ensures read { IfOk result (λ services. services_of (table_view table.now)
         ≡ Some (map service_seen services.items)) }
     ensures refused { IfErr result (IsBadOrMemory (services_of (table_view table.now))) }
+{
+    let mut services = described_services(alloc, table)?;
+    if !has_queued_service(&services) {
+        return Ok(services);
+    }
+    services.push(RESULT_SERVICE)?;
+    Ok(services)
+}
+
+/// Reads the services that are described, in the order of the file. Empty if the key is left out.
+fn described_services(alloc: Global, table: &Table) -> Result<Vec<ServiceConfig>, LoadFault>
+    ensures read { IfOk result (λ services. described_services (table_view table.now)
+        ≡ Some (map service_seen services.items)) }
+    ensures refused { IfErr result (IsBadOrMemory (described_services (table_view table.now))) }
 {
     match value_of(table, "service") {
         None => Ok(Vec::new(alloc)),
@@ -157,12 +191,26 @@ fn service_of(value: &Value) -> Result<ServiceConfig, LoadFault>
     let number = number_by(table, SERVICE_NUMBER)?;
     let (least, most) = sizes_from(value_of(table, "size"), value_of(table, "sizes"))?;
     let reply = number_by(table, REPLY)?;
+    let kind = kind_by(table)?;
     Ok(ServiceConfig {
         number,
         least,
         most,
         reply,
+        kind,
     })
+}
+
+/// How a service is executed, by its key `queued`.
+fn kind_by(table: &Table) -> Result<ServiceKind, LoadFault>
+    ensures read { IfOk result (λ kind. kind_by (table_view table.now) ≡ Some kind) }
+    ensures refused { IfErr result (IsBad (kind_by (table_view table.now))) }
+{
+    if flag_of(table, "queued", false)? {
+        Ok(ServiceKind::Queued)
+    } else {
+        Ok(ServiceKind::Asked)
+    }
 }
 
 /// The least and the greatest size of a service's data, by its key `size` or `sizes`.

@@ -1,8 +1,9 @@
 //! What is wrong with the own objects of a configuration whose keys each have a value of their type.
 
 use crate::attribute_problems::{AttributeProblem, attribute_problem};
+use crate::commands::{has_queued_service, is_queued};
 use crate::explanation::{Location, Problem};
-use cip_application::{ObjectConfig, ServiceConfig};
+use cip_application::{GET_RESULT, ObjectConfig, QUEUED_REPLY_LIMIT, ServiceConfig};
 use cip_objects::{Config, ConfigFault};
 use std::alloc::{AllocError, Global};
 use thiserror::Error;
@@ -36,8 +37,14 @@ pub(crate) enum ServiceProblem {
     Falling(u16, u16),
     #[error("{0} is {1} (allowed: 0 to 480)")]
     Size(&'static str, u16),
+    #[error("service {0:#04x} is Get_Result, which each object with a queued service has")]
+    Result(u8),
+    #[error("reply is {0} (allowed: 0 to 476 for a queued service)")]
+    QueuedReply(u16),
     #[error("there are {0} services (allowed: up to 16)")]
     Count(usize),
+    #[error("there are {0} services (allowed: up to 15 and Get_Result)")]
+    CountWithResult(usize),
 }
 
 /// What is wrong with the first object at which a check fails: it passes with only the objects before it.
@@ -140,9 +147,8 @@ fn attributes_problem(
 
 /// What is wrong with the services of an object.
 fn service_problem(place: usize, object: &ObjectConfig) -> Option<(Location<'static>, Problem)> {
-    let services = object.services.as_slice();
-    if services.len() > 16 {
-        let problem = ServiceProblem::Count(services.len());
+    let services = described_services(object);
+    if let Some(problem) = count_problem(object) {
         return Some((
             Location::InObject(place, "service"),
             Problem::Service(problem),
@@ -155,7 +161,7 @@ fn service_problem(place: usize, object: &ObjectConfig) -> Option<(Location<'sta
         let found = if is_twice {
             Some(("number", ServiceProblem::Twice(service.number)))
         } else {
-            one_service_problem(service)
+            one_service_problem(service, has_result(object))
         };
         if let Some((key, problem)) = found {
             return Some((
@@ -167,8 +173,37 @@ fn service_problem(place: usize, object: &ObjectConfig) -> Option<(Location<'sta
     None
 }
 
-/// What is wrong with a service alone, and at which key.
-fn one_service_problem(service: &ServiceConfig) -> Option<(&'static str, ServiceProblem)> {
+/// Whether an object has Get_Result, because it has a queued service. It is the last of the object's services.
+fn has_result(object: &ObjectConfig) -> bool {
+    has_queued_service(&object.services)
+}
+
+/// The services of an object that are described.
+fn described_services(object: &ObjectConfig) -> &[ServiceConfig] {
+    match object.services.as_slice().split_last() {
+        Some((_, described)) if has_result(object) => described,
+        _ => object.services.as_slice(),
+    }
+}
+
+/// Whether an object has too many services.
+fn count_problem(object: &ObjectConfig) -> Option<ServiceProblem> {
+    if object.services.len() <= 16 {
+        return None;
+    }
+    let count = described_services(object).len();
+    if has_result(object) {
+        Some(ServiceProblem::CountWithResult(count))
+    } else {
+        Some(ServiceProblem::Count(count))
+    }
+}
+
+/// What is wrong with a service alone, and at which key. Its object may have Get_Result too.
+fn one_service_problem(
+    service: &ServiceConfig,
+    has_result: bool,
+) -> Option<(&'static str, ServiceProblem)> {
     let (least, most) = (service.least, service.most);
     if service.number < 50 || service.number > 99 {
         return Some(("number", ServiceProblem::Number(service.number)));
@@ -180,8 +215,14 @@ fn one_service_problem(service: &ServiceConfig) -> Option<(&'static str, Service
         let key = if least == most { "size" } else { "sizes" };
         return Some((key, ServiceProblem::Size("size", most)));
     }
+    if is_queued(service) && usize::from(service.reply) > QUEUED_REPLY_LIMIT {
+        return Some(("reply", ServiceProblem::QueuedReply(service.reply)));
+    }
     if service.reply > 480 {
         return Some(("reply", ServiceProblem::Size("reply", service.reply)));
+    }
+    if has_result && service.number == GET_RESULT {
+        return Some(("number", ServiceProblem::Result(service.number)));
     }
     None
 }

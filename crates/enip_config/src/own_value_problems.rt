@@ -127,8 +127,11 @@ fn bad_service(table: &Table) -> Option<(&'static str, Problem)> {
     if let Some(found) = bad_sizes(table) {
         return Some(found);
     }
-    let problem = bad_number(table, REPLY)?;
-    Some((REPLY.name, problem))
+    if let Some(problem) = bad_number(table, REPLY) {
+        return Some((REPLY.name, problem));
+    }
+    let problem = bad_flag(table, "queued")?;
+    Some(("queued", problem))
 }
 
 /// What is wrong with the keys `size` and `sizes` of a service, and at which key.

@@ -50,6 +50,7 @@ pub(crate) fn unknown_key(
             "counter" => unknown_within(alloc, key, value, TableKind::Counter)?,
             "assembly" => unknown_within(alloc, key, value, TableKind::Assembly)?,
             "ledger" => unknown_within(alloc, key, value, TableKind::Ledger)?,
+            "commands" => unknown_within(alloc, key, value, TableKind::Commands)?,
             "access" => unknown_within(alloc, key, value, TableKind::Access)?,
             "object" => unknown_in_objects(alloc, value)?,
             _ => unknown_at(alloc, "", key, value, TableKind::Text)?.map(|problem| (
@@ -64,7 +65,7 @@ pub(crate) fn unknown_key(
     Ok(None)
 }
 
-/// The same within the value of `counter`, `assembly`, `ledger` or `access`: a table, or an array of them.
+/// The same within the value of `counter`, `assembly`, `ledger`, `commands` or `access`: a table, or an array of them.
 fn unknown_within<'a>(
     alloc: Global,
     name: &'a str,
@@ -86,6 +87,7 @@ fn unknown_within<'a>(
             Ok(found.map(|(key, problem)| match kind {
                 TableKind::Counter => (Location::Counter(key), problem),
                 TableKind::Ledger => (Location::Ledger(key), problem),
+                TableKind::Commands => (Location::Commands(key), problem),
                 TableKind::Access => (Location::Access(key), problem),
                 _ => (Location::InAssembly(0, key), problem),
             }))

@@ -2,7 +2,7 @@
 
 use crate::access_problems::bad_shares;
 use crate::explanation::{Location, Problem};
-use crate::key::{INSTANCE, LIFE, NumberKey, ORIGINATORS, Row};
+use crate::key::{INSTANCE, LIFE, NumberKey, ORIGINATORS, QUEUE, Row};
 use crate::known::TEXT_NUMBERS;
 use crate::missing_keys::MissingKeys;
 use crate::own_value_problems::bad_objects;
@@ -21,7 +21,7 @@ const REQUIRED: [&str; 7] = [
 ];
 
 /// The required keys that are missing, if there are any. Otherwise the first bad value, in this order: the numbers, the
-/// name, the address, the counter, the assemblies, the ledger, the table `access`, the own objects.
+/// name, the address, the counter, the assemblies, the tables `ledger`, `commands` and `access`, the own objects.
 pub(crate) fn bad_value(text: &Table) -> Option<(Location<'static>, Problem)> {
     if let Some((key, problem)) = missing_in(text, &REQUIRED) {
         return Some((Location::Text(key), problem));
@@ -45,6 +45,9 @@ pub(crate) fn bad_value(text: &Table) -> Option<(Location<'static>, Problem)> {
         return Some(found);
     }
     if let Some(found) = bad_ledger(text) {
+        return Some(found);
+    }
+    if let Some(found) = bad_commands(text) {
         return Some(found);
     }
     if let Some(found) = bad_shares(text) {
@@ -170,6 +173,19 @@ fn bad_ledger(text: &Table) -> Option<(Location<'static>, Problem)> {
         }
     }
     None
+}
+
+fn bad_commands(text: &Table) -> Option<(Location<'static>, Problem)> {
+    let table = match text.get("commands") {
+        None => return None,
+        Some(Value::Table(table)) => table,
+        Some(_) => return Some((
+            Location::Text("commands"),
+            Problem::Type("commands", "a table"),
+        )),
+    };
+    let problem = bad_number(table, QUEUE)?;
+    Some((Location::Commands(QUEUE.name), problem))
 }
 
 fn bad_assemblies(text: &Table) -> Option<(Location<'static>, Problem)> {

@@ -1,3 +1,4 @@
 pub mod Admission
+pub mod Owners
 pub mod Readiness
 pub mod Reads

@@ -2,6 +2,8 @@
 
 use crate::readiness::Readiness;
 use mio::net::{TcpListener, TcpStream};
+use mio::{Interest, Registry, Token};
+use std::io;
 use std::net::SocketAddr;
 
 /// A nonblocking listening socket.
@@ -18,6 +20,11 @@ impl Acceptor {
             listener,
             readiness: Readiness::Ready,
         }
+    }
+
+    /// Has the system report the listener under this token.
+    pub(crate) fn register(&mut self, registry: &Registry, token: usize) -> io::Result<()> {
+        registry.register(&mut self.listener, Token(token), Interest::READABLE)
     }
 
     /// When to try the listener next.

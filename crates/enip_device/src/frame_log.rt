@@ -3,7 +3,8 @@
 use crate::frame_summary::{AnswerStatus, RequestSummary};
 use crate::log_event::{LogClock, LogEvent, LogLine, LogStyle, LogTime, TurnedAway};
 use crate::logged_wire::LoggedWire;
-use crate::observer::Observer;
+use crate::observer::{Observer, OwnerLog};
+use crate::owner_event::OwnerEvent;
 use enip_wire::{Held, parse_frame};
 use mio::net::TcpStream;
 use std::alloc::Global;
@@ -62,10 +63,22 @@ impl<'a, R: Eprint + Clock> FrameLog<'a, R> {
     }
 }
 
+impl<'a, R: Eprint + Clock> OwnerLog for &'a FrameLog<'a, R> {
+    fn owner(&self, address: SocketAddr, event: OwnerEvent) {
+        self.write(address, LogEvent::Owner(event));
+    }
+}
+
 impl<'a, R: Eprint + Clock> Observer for &'a FrameLog<'a, R> {
     type Wire = LoggedWire<'a, R>;
 
-    fn wire(&self, stream: TcpStream) -> Option<LoggedWire<'a, R>> {
+    type OwnerLog = &'a FrameLog<'a, R>;
+
+    fn owner_log(&self) -> &'a FrameLog<'a, R> {
+        *self
+    }
+
+    fn wire(&self, stream: TcpStream, _address: SocketAddr) -> Option<LoggedWire<'a, R>> {
         LoggedWire::new(*self, self.alloc, stream)
     }
 

@@ -1,6 +1,7 @@
 //! What the log prints of a served device: its events, as text or as JSON.
 
 use crate::frame_summary::{AnswerStatus, RequestSummary};
+use crate::owner_event::{OwnerEvent, write_owner};
 use cip_values::Date;
 use std::fmt;
 use std::net::SocketAddr;
@@ -85,6 +86,8 @@ pub(crate) enum LogEvent {
     Unanswered(RequestSummary),
     /// A datagram was answered.
     Datagram(RequestSummary, AnswerStatus),
+    /// Something happened to the connection of an owner.
+    Owner(OwnerEvent),
 }
 
 impl fmt::Display for LogEvent {
@@ -97,6 +100,7 @@ impl fmt::Display for LogEvent {
             LogEvent::Repeated(request, status) => write!(f, "{request}: {status} (kept reply)"),
             LogEvent::Unanswered(request) => write!(f, "{request}: no answer"),
             LogEvent::Datagram(request, status) => write!(f, "datagram {request}: {status}"),
+            LogEvent::Owner(event) => write!(f, "{event}"),
         }
     }
 }
@@ -119,6 +123,7 @@ impl fmt::Display for JsonMembers {
             LogEvent::Datagram(request, status) => {
                 write_frame(f, "datagram", request, Some(status))
             }
+            LogEvent::Owner(event) => write_owner(f, event),
         }
     }
 }

@@ -9,9 +9,10 @@ use crate::wire::TcpWire;
 use enip_server::{ReadOutcome, Wire};
 use enip_wire::{FrameReader, FrameView, Held};
 use mio::net::TcpStream;
+use owner_port::HasAddress;
 use std::alloc::Global;
 use std::collections::VecDeque;
-use std::net::SocketAddr;
+use std::net::{IpAddr, SocketAddr};
 use std::rt::Clock;
 
 /// The most connections whose last sequence counts are noted, to recognize repeats.
@@ -38,7 +39,7 @@ impl<'a, R: Eprint + Clock> LoggedWire<'a, R> {
         let frames = PendingFrames::new(alloc)?;
         log.write(address, LogEvent::Connected);
         Some(LoggedWire {
-            wire: TcpWire::new(stream),
+            wire: TcpWire::new(stream, address),
             log,
             address,
             frames,
@@ -217,6 +218,14 @@ impl<R: Eprint + Clock> Drop for LoggedWire<'_, R> {
             frames: _,
             end: _,
         } = self;
+    }
+}
+
+impl<R: Eprint + Clock> HasAddress for LoggedWire<'_, R> {
+    ghost address_of = { λ w. w.wire.address };
+
+    fn address(&self) -> IpAddr {
+        self.wire.address()
     }
 }
 

@@ -1,19 +1,27 @@
 //! What observes the connections of a served device: the log, or a report of the clients that are turned away.
 
 use crate::log_event::TurnedAway;
+use crate::owner_event::OwnerEvent;
 use crate::wire::TcpWire;
 use enip_server::Wire;
 use mio::net::TcpStream;
+use owner_port::HasAddress;
 use std::alloc::Global;
 use std::net::SocketAddr;
 
 /// Makes the wires of connections, and is informed of what no wire sees. Times are in microseconds since the start.
 pub(crate) trait Observer {
     /// The wire of a connection.
-    type Wire: Wire + Drop;
+    type Wire: Wire + HasAddress + Drop;
 
-    /// The wire of a connection that has a peer slot. `None` if there is no memory for it.
-    fn wire(&self, stream: TcpStream) -> Option<Self::Wire>;
+    /// What is informed of owners.
+    type OwnerLog: OwnerLog + Drop;
+
+    /// What is informed of owners from now on.
+    fn owner_log(&self) -> Self::OwnerLog;
+
+    /// The wire of a connection that has a peer slot, to a client at this address. `None` if there is no memory for it.
+    fn wire(&self, stream: TcpStream, address: SocketAddr) -> Option<Self::Wire>;
 
     /// A connection is closed at once.
     fn turned_away(&mut self, now: u64, address: SocketAddr, why: TurnedAway);
@@ -26,6 +34,20 @@ pub(crate) trait Observer {
 
     /// A datagram was answered.
     fn answered(&self, sender: SocketAddr, datagram: &[u8], answer: &[u8]);
+}
+
+/// Is informed of what happens to the connections of owners.
+pub(crate) trait OwnerLog {
+    /// Something happened to the connection of an owner at this address.
+    fn owner(&self, address: SocketAddr, event: OwnerEvent);
+}
+
+/// Nothing is logged of owners.
+#[derive(Clone, Copy)]
+pub(crate) struct NoOwnerLog;
+
+impl OwnerLog for NoOwnerLog {
+    fn owner(&self, _address: SocketAddr, _event: OwnerEvent) {}
 }
 
 /// A minute in microseconds.
@@ -100,8 +122,14 @@ impl<'a, R: Eprint> TurnedAwayReport<'a, R> {
 impl<R: Eprint> Observer for TurnedAwayReport<'_, R> {
     type Wire = TcpWire;
 
-    fn wire(&self, stream: TcpStream) -> Option<TcpWire> {
-        Some(TcpWire::new(stream))
+    type OwnerLog = NoOwnerLog;
+
+    fn owner_log(&self) -> NoOwnerLog {
+        NoOwnerLog
+    }
+
+    fn wire(&self, stream: TcpStream, address: SocketAddr) -> Option<TcpWire> {
+        Some(TcpWire::new(stream, address))
     }
 
     fn turned_away(&mut self, now: u64, _address: SocketAddr, why: TurnedAway) {

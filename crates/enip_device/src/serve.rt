@@ -23,7 +23,8 @@ use std::net::{Net, SocketAddr};
 use std::rt::Clock;
 use std::time::{Duration, Instant};
 
-/// The tokens of the listener and of the UDP socket. A peer's token is its slot, which is less.
+/// The tokens of the listener and of the UDP socket. A peer's token is its slot, which is less. The sockets for an owner
+/// have further ones.
 const LISTENER: usize = 64;
 
 const DATAGRAMS: usize = 65;
@@ -74,7 +75,7 @@ fn microseconds_since<C: Clock>(clock: &C, start: Instant) -> io::Result<u64> {
 }
 
 /// The earlier of two times, either of which may be missing.
-fn earlier(first: Option<u64>, second: Option<u64>) -> Option<u64>
+pub(crate) fn earlier(first: Option<u64>, second: Option<u64>) -> Option<u64>
     ensures first { IfSome first (λ time. IsSomeAnd result (λ t. t ≤ time)) }
     ensures second { IfSome second (λ time. IsSomeAnd result (λ t. t ≤ time)) }
     ensures either { IfSome result (λ t. (first ≡ Some t) ⊎ (second ≡ Some t)) }
@@ -119,7 +120,6 @@ struct AcceptedClient {
 }
 
 /// The peers and the sockets of a served device.
-#[derive(Drop)]
 struct Server<O: Observer + Drop, S: Serving<O::Wire> + Drop> {
     system: System,
     /// `None` before the sockets are open, and once all connections were accepted.
@@ -138,6 +138,25 @@ struct Server<O: Observer + Drop, S: Serving<O::Wire> + Drop> {
     rounds_deferred: u32,
     /// A client to which a peer gives way in the next round.
     waiting: Option<AcceptedClient>,
+}
+
+// Written out, so that each exit of a function that owns one calls it, and has no drop of every part.
+impl<O: Observer + Drop, S: Serving<O::Wire> + Drop> Drop for Server<O, S> {
+    fn drop(self) {
+        let Server {
+            system: _,
+            acceptor: _,
+            discovery: _,
+            peers: _,
+            observer: _,
+            last_round: _,
+            limits: _,
+            accepted: _,
+            ended: _,
+            rounds_deferred: _,
+            waiting: _,
+        } = self;
+    }
 }
 
 impl<O: Observer + Drop, S: Serving<O::Wire> + Drop> Server<O, S> {
@@ -174,12 +193,14 @@ impl<O: Observer + Drop, S: Serving<O::Wire> + Drop> Server<O, S> {
 
     /// Takes over the sockets. The system reports them from now on.
     fn open(&mut self, alloc: Global, sockets: Sockets) -> io::Result<()>
-        ensures { self.new.peers ≡ self.old.peers }
+        requires ready { S.is_ready self.old.peers }
+        ensures ready { S.is_ready self.new.peers }
     {
         let Sockets {
             listener,
             datagrams,
         } = sockets;
+        self.peers.register(self.system.poll.registry())?;
         self.listen(listener)?;
         match datagrams {
             Some(socket) => self.answer_datagrams(alloc, socket),
@@ -290,7 +311,8 @@ impl<O: Observer + Drop, S: Serving<O::Wire> + Drop> Server<O, S> {
         if let Some(discovery) = &mut self.discovery {
             discovery.answer_one(&self.peers, &self.observer, now);
         }
-        self.last_round = self.peers.round(now).map_err(ServeFault::Keep)?;
+        let registry = self.system.poll.registry();
+        self.last_round = self.peers.round(now, registry).map_err(ServeFault::Keep)?;
         if self.last_round.ended > 0 {
             self.ended = self.ended.saturating_add(self.last_round.ended as u64);
             if let Some(acceptor) = &mut self.acceptor {
@@ -400,7 +422,7 @@ impl<O: Observer + Drop, S: Serving<O::Wire> + Drop> Server<O, S> {
     {
         let AcceptedClient {
             stream,
-            address: _,
+            address,
             admission,
         } = client;
         let mut stream = stream;
@@ -413,7 +435,7 @@ impl<O: Observer + Drop, S: Serving<O::Wire> + Drop> Server<O, S> {
         if registered.is_err() {
             return false;
         }
-        let Some(wire) = self.observer.wire(stream) else {
+        let Some(wire) = self.observer.wire(stream, address) else {
             return false;
         };
         if self.peers.first_free().is_none() {

@@ -2,6 +2,8 @@
 
 ghost use Rattle.std.specs.Prelude.{◌≡◌, ◌<◌, ◌≤◌, ◌*◌, ◌-◌, ◌^◌, IfSome, IfOk, IsTrue};
 ghost use Rattle.configured_adapter.specs.Configured.{shares_from};
+ghost use Rattle.enip_keep.specs.Server.{IsReady};
+ghost use Rattle.kept_server.specs.Rounds.{kept_of};
 
 use crate::frame_log::FrameLog;
 use crate::keeping::Keeping;
@@ -9,8 +11,10 @@ use crate::kept_file::{KeptFile, OpenFile};
 use crate::kept_values::KeptValues;
 use crate::log_event::{LogClock, LogStyle};
 use crate::observer::{Observer, TurnedAwayReport};
+use crate::owner_options::OwnerOptions;
 use crate::reported_address::ReportedAddress;
 use crate::serve::{ServeLimits, Sockets, serve_connections};
+use crate::serve_owner::serve_owned;
 use crate::serving::{ServeFault, Serving};
 use clap::ArgMatches;
 use configured_adapter::{adapter_from, adapter_in_life};
@@ -22,14 +26,14 @@ use enip_common::{
     OUTPUT, Reason, print_argument_error, u16_of,
 };
 use enip_config::Configuration;
-use enip_keep::{KeepError, Keeper, Server};
-use enip_server::{NO_IDLE_TIMEOUT, Peers, Wire};
+use enip_keep::{Device, KeepError, Keeper, Server};
+use enip_server::{NO_IDLE_TIMEOUT, NoWatcher, Peers, Wire};
 use kept_adapter::{AdapterStart, LedgerStart};
-use kept_server::KeptDevice;
+use kept_server::{KeptDevice, KeptPeers, RoundGuest};
 use mio::net::UdpSocket;
 use std::alloc::Global;
 use std::io;
-use std::net::TcpListener;
+use std::net::{SocketAddr, TcpListener};
 use std::time::{Instant, UNIX_EPOCH};
 
 /// The microseconds of a second.
@@ -37,7 +41,7 @@ const SECOND: u64 = 1_000_000;
 
 /// How a device is served.
 #[derive(Clone, Copy)]
-struct ServeOptions<'a> {
+pub(crate) struct ServeOptions<'a> {
     /// Where it listens.
     address: &'a str,
     /// Whether it answers datagrams.
@@ -48,6 +52,10 @@ struct ServeOptions<'a> {
     idle_timeout: u64,
     /// Where its state is kept.
     keep: Option<KeptFile<'a>>,
+    /// Where it listens for its owner, and who that may be.
+    owner: Option<OwnerOptions<'a>>,
+    /// The address at which it listens for its owner.
+    owner_at: Option<SocketAddr>,
     /// Where discovery reports it.
     reported: Option<ReportedAddress<'a>>,
 }
@@ -59,6 +67,7 @@ impl<'a> ServeOptions<'a> {
             return Err(ArgumentError::Missing);
         };
         let accepts_older = matches.get_flag("accept-older");
+        let owner = OwnerOptions::from_matches(matches)?;
         Ok(ServeOptions {
             address: matches.get_str("ADDRESS").unwrap_or(""),
             discovery: matches.get_flag("discovery"),
@@ -71,14 +80,42 @@ impl<'a> ServeOptions<'a> {
                 Some(name) => Some(KeptFile::new(name, accepts_older)),
                 None => None,
             },
+            owner,
+            owner_at: None,
             reported: None,
         })
     }
 
+    /// How long a peer may be silent, in microseconds.
+    pub(crate) fn idle_timeout(self) -> u64 {
+        self.idle_timeout
+    }
+
+    /// Where the state of the device is kept.
+    pub(crate) fn keep(self) -> Option<KeptFile<'a>> {
+        self.keep
+    }
+
+    /// Whether a state is taken that is damaged, or older than it was: its ledger then begins another life.
+    fn begins_life(self) -> bool {
+        match self.keep {
+            Some(file) => file.accepts_older(),
+            None => false,
+        }
+    }
+
     /// The same, with what a configuration has for discovery.
-    fn with_reported(self, config: &'a str, listen: Listen) -> ServeOptions<'a> {
+    pub(crate) fn with_reported(self, config: &'a str, listen: Listen) -> ServeOptions<'a> {
         ServeOptions {
             reported: Some(ReportedAddress { config, listen }),
+            ..self
+        }
+    }
+
+    /// The same, with the address at which the device listens for its owner.
+    pub(crate) fn with_owner_at(self, address: SocketAddr) -> ServeOptions<'a> {
+        ServeOptions {
+            owner_at: Some(address),
             ..self
         }
     }
@@ -120,13 +157,18 @@ fn serve_config<'a, O: Observer + Drop>(
     options: ServeOptions<'a>,
     observer: O,
 ) -> Result<u8, CommandError<'a>> {
+    if let Some(owner) = options.owner {
+        return serve_owned(rt, args, owner, config, options, observer);
+    }
+    let mut configuration = config.configuration_to_serve(rt.alloc())?;
+    let access = configuration.access.take();
     let Some(file) = options.keep else {
-        let (adapter, listen, access) = adapter_to_serve(rt, config)?;
+        let adapter = adapter_of(rt, config, &configuration)?;
         let peers = Peers::new(rt.alloc(), adapter, options.idle_timeout)?;
-        let options = options.with_reported(config.name(), listen);
+        let options = options.with_reported(config.name(), listen_of(&configuration));
         return listen_and_serve(rt, options, access, peers, observer);
     };
-    let (start, access) = adapter_start(rt, config, file.accepts_older(), options.idle_timeout)?;
+    let start = adapter_start(rt, config, configuration, shares_from(&access), options)?;
     let opened = file.open(rt, args)?;
     let options = options.with_reported(config.name(), start.listen);
     serve_kept(rt, file, opened, &start, options, access, observer)
@@ -145,24 +187,32 @@ fn serve_kept<'a, O: Observer + Drop, K: Keeper + Drop>(
     requires { K.doubt opened.rows ≡ 0 → K.is_up opened.rows }
 {
     let keeper = file.numbered(rt.alloc(), opened)?;
-    let (peers, values) = kept_peers(rt.alloc(), file, keeper, start)?;
+    let (server, values) = start_server(rt.alloc(), file, keeper, start)?;
     values.report_unused(rt, file);
-    listen_and_serve(rt, options, access, peers, observer)
+    listen_and_serve(
+        rt,
+        options,
+        access,
+        Keeping::new(server, NoWatcher, false),
+        observer,
+    )
 }
 
-/// The peers of a device that starts from what is kept, and what is kept.
-fn kept_peers<'a, W: Wire + Drop, K: Keeper + Drop>(
+/// Starts a device from what is kept. Returns its server, and what is kept.
+pub(crate) fn start_server<'a, W: Wire + Drop, K: Keeper + Drop, G: RoundGuest<W>>(
     alloc: Global,
     file: KeptFile<'a>,
     keeper: K,
     start: &AdapterStart,
-) -> Result<(Keeping<W, AdapterStart, K>, KeptValues), CommandError<'a>>
+) -> Result<(Server<KeptPeers<W, AdapterStart, G>, K>, KeptValues), CommandError<'a>>
     requires { K.doubt keeper ≡ 0 → K.is_up keeper }
-    ensures { IfOk result (λ r. ⟦<Keeping<W, AdapterStart, K> as Serving<W>>⟧.is_ready r.0) }
+    ensures { IfOk result (λ r. IsReady K.doubt K.is_up K.kept
+        ⟦<KeptPeers<W, AdapterStart, G> as Device>⟧.contents
+        ⟦<KeptPeers<W, AdapterStart, G> as Device>⟧.known_kept kept_of r.0) }
 {
     let (keeper, values) = KeptValues::read(alloc, file, keeper, start)?;
     match Server::start(alloc, keeper, start) {
-        Ok(server) => Ok((Keeping::new(server), values)),
+        Ok(server) => Ok((server, values)),
         Err(error) => Err(file.refused(error)),
     }
 }
@@ -175,12 +225,32 @@ pub fn print_kept_values<'a>(
     name: &'a str,
 ) -> Result<(), CommandError<'a>> {
     let file = KeptFile::to_read(name);
-    let (start, _) = adapter_start(rt, config, false, NO_IDLE_TIMEOUT)?;
+    let start = start_to_read(rt, config)?;
     let opened = file.open(rt, args)?;
     let values = kept_values(rt.alloc(), file, opened, &start)?;
     values
         .print(rt.alloc(), rt.stdout())
         .map_err(|error| CommandError::of_system(OUTPUT, error))
+}
+
+/// What the adapter of a configuration is started from, to be read and not served.
+fn start_to_read<'a>(
+    rt: &HostRuntime,
+    config: &NamedFile<'a>,
+) -> Result<AdapterStart, CommandError<'a>> {
+    let mut configuration = config.configuration(rt.alloc())?;
+    let access = configuration.access.take();
+    let life = life_now(rt)?;
+    match start_of(
+        configuration,
+        shares_from(&access),
+        life,
+        false,
+        NO_IDLE_TIMEOUT,
+    ) {
+        Some(start) => Ok(start),
+        None => Err(CommandError::of_reason(Reason::Named(config.name(), NamedReason::Failed))),
+    }
 }
 
 /// What is kept in an open file, if a device starts from it.
@@ -201,7 +271,7 @@ fn kept_values<'a, K: Keeper + Drop>(
 }
 
 /// Binds the sockets of a device, and serves its peers.
-fn listen_and_serve<'a, O: Observer + Drop, S: Serving<O::Wire> + Drop>(
+pub(crate) fn listen_and_serve<'a, O: Observer + Drop, S: Serving<O::Wire> + Drop>(
     rt: &HostRuntime,
     options: ServeOptions<'a>,
     access: Option<Access>,
@@ -212,9 +282,9 @@ fn listen_and_serve<'a, O: Observer + Drop, S: Serving<O::Wire> + Drop>(
 {
     let address = HostPort::parse(options.address)?;
     let sockets = bind(rt, address, options.discovery)?;
-    print_listening(rt, &sockets, options.reported, address.port()).map_err(
-        |error| CommandError::of_system(ERRORS, error),
-    )?;
+    print_listening(rt, &sockets, options, address.port()).map_err(|error| CommandError::of_system(
+        ERRORS, error,
+    ))?;
     let limits = ServeLimits {
         count: options.count,
         access,
@@ -241,41 +311,49 @@ fn serve_error<'a>(
     }
 }
 
-/// The adapter of a configuration whose device needs no owner, where discovery reports it, and who may do what. A command
-/// ledger gets another life with each start, because it is empty then.
-fn adapter_to_serve<'a>(
-    rt: &HostRuntime,
-    config: &NamedFile<'a>,
-) -> Result<(Adapter, Listen, Option<Access>), CommandError<'a>> {
-    let configuration = config.configuration_to_serve(rt.alloc())?;
-    let listen = Listen {
+/// Where discovery reports the device of a configuration.
+pub(crate) fn listen_of(configuration: &Configuration) -> Listen {
+    Listen {
         address: configuration.address,
         port: configuration.port,
-    };
+    }
+}
+
+/// The adapter of a configuration. A command ledger gets another life with each start, because it is empty then.
+pub(crate) fn adapter_of<'a>(
+    rt: &HostRuntime,
+    config: &NamedFile<'a>,
+    configuration: &Configuration,
+) -> Result<Adapter, CommandError<'a>> {
     let loaded = match configuration.ledger {
         None => adapter_from(rt.alloc(), config.bytes()),
         Some(_) => adapter_in_life(rt.alloc(), config.bytes(), life_now(rt)?),
     };
     match loaded {
-        Ok(adapter) => Ok((adapter, listen, configuration.access)),
+        Ok(adapter) => Ok(adapter),
         Err(fault) => Err(config.refused(rt.alloc(), fault)),
     }
 }
 
-/// What the adapter of a configuration is started from, whose device needs no owner and keeps its state, and who may do
-/// what. A ledger of which nothing is kept begins a life now.
-fn adapter_start<'a>(
+/// What the adapter of a configuration is started from, whose device keeps its state. A ledger of which nothing is kept
+/// begins a life now.
+pub(crate) fn adapter_start<'a>(
     rt: &HostRuntime,
     config: &NamedFile<'a>,
-    begins_life: bool,
-    idle_timeout: u64,
-) -> Result<(AdapterStart, Option<Access>), CommandError<'a>> {
-    let mut configuration = config.configuration_to_serve(rt.alloc())?;
-    let access = configuration.access.take();
+    configuration: Configuration,
+    shares: Shares,
+    options: ServeOptions<'a>,
+) -> Result<AdapterStart, CommandError<'a>> {
     let life = life_now(rt)?;
-    let shares = shares_from(&access);
-    match start_of(configuration, shares, life, begins_life, idle_timeout) {
-        Some(start) => Ok((start, access)),
+    let begins_life = options.begins_life();
+    match start_of(
+        configuration,
+        shares,
+        life,
+        begins_life,
+        options.idle_timeout,
+    ) {
+        Some(start) => Ok(start),
         None => Err(CommandError::of_reason(Reason::Named(config.name(), NamedReason::Failed))),
     }
 }
@@ -289,6 +367,7 @@ fn start_of(
     begins_life: bool,
     idle_timeout: u64,
 ) -> Option<AdapterStart> {
+    let queue = configuration.queue_limit();
     let Configuration {
         mut objects,
         address,
@@ -298,6 +377,7 @@ fn start_of(
         first_handle,
         first_id,
         ledger,
+        queue: _,
         access: _,
         attribute_types: _,
     } = configuration;
@@ -317,12 +397,14 @@ fn start_of(
         first_handle,
         first_id,
     };
-    if objects.fault().is_some() || !are_in_range(limits, ledger) || !are_shares(shares) {
+    let is_accepted = objects.fault().is_none() && is_queue(queue);
+    if !is_accepted || !are_in_range(limits, ledger) || !are_shares(shares) {
         return None;
     }
     Some(AdapterStart {
         objects,
         ledger,
+        queue,
         begins_life,
         listen: Listen { address, port },
         limits,
@@ -332,7 +414,7 @@ fn start_of(
 }
 
 /// How many peers and connections one address may have.
-fn shares_from(access: &Option<Access>) -> Shares
+pub(crate) fn shares_from(access: &Option<Access>) -> Shares
     ensures { result ≡ shares_from access.now }
 {
     match access {
@@ -350,6 +432,16 @@ fn are_shares(shares: Shares) -> bool
     ensures connections { IsTrue result → (1 ≤ shares.connections) × (shares.connections ≤ 64) }
 {
     1 <= shares.peers && shares.peers <= 16 && 1 <= shares.connections && shares.connections <= 64
+}
+
+/// Whether so many commands can wait in a queue, if there is one.
+fn is_queue(queue: Option<u16>) -> bool
+    ensures { IsTrue result → IfSome queue (λ n. (1 ≤ n) × (n ≤ 256)) }
+{
+    match queue {
+        Some(limit) => 1 <= limit && limit <= 256,
+        None => true,
+    }
 }
 
 /// Whether an adapter has these limits, and a ledger so many slots.
@@ -380,18 +472,24 @@ fn life_now<'a>(rt: &HostRuntime) -> Result<u64, CommandError<'a>> {
     }
 }
 
-/// Prints the address at which the device listens, and a warning if discovery reports another one. `asked_port` is the
-/// port in the arguments, 0 for any.
+/// Prints the address at which the device listens, a warning if discovery reports another one, and the address at which it
+/// listens for its owner. `asked_port` is the port in the arguments, 0 for any.
 fn print_listening(
     rt: &HostRuntime,
     sockets: &Sockets,
-    reported: Option<ReportedAddress<'_>>,
+    options: ServeOptions<'_>,
     asked_port: u16,
 ) -> io::Result<()> {
     let bound = sockets.listener.local_addr()?;
     eprintln!(rt; "listening on {bound}")?;
-    match reported.and_then(|reported| reported.warning(asked_port, bound)) {
-        Some(warning) => eprintln!(rt; "{warning}"),
+    if let Some(warning) = options
+        .reported
+        .and_then(|reported| reported.warning(asked_port, bound))
+    {
+        eprintln!(rt; "{warning}")?;
+    }
+    match options.owner_at {
+        Some(address) => eprintln!(rt; "owner at {address}"),
         None => Ok(()),
     }
 }

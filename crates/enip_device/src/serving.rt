@@ -6,6 +6,7 @@ use crate::admission::Admission;
 use enip_adapter::{DiscoveryBuffer, Full};
 use enip_keep::KeepError;
 use enip_server::{Peers, RoundEnd, Wire};
+use mio::Registry;
 use std::io;
 
 /// Why a device is not served any longer.
@@ -28,6 +29,11 @@ pub(crate) trait Serving<W: Wire + Drop> {
     // What holds between two calls.
     ghost is_ready: { Self → Type 0 };
 
+    /// Has the system report the sockets that are not those of peers.
+    fn register(&mut self, registry: &Registry) -> io::Result<()>
+        requires { is_ready self.old }
+        ensures { is_ready self.new };
+
     /// The index of the first free peer slot.
     fn first_free(&self) -> Option<usize>;
 
@@ -46,17 +52,18 @@ pub(crate) trait Serving<W: Wire + Drop> {
         requires { is_ready self.old }
         ensures { is_ready self.new };
 
-    /// The system reports that the wire of a slot may be ready, and whether its stream has ended or failed.
+    /// The system reports that the wire of a slot, or the socket with this token, may be ready, and whether its stream has
+    /// ended or failed.
     fn mark_ready(&mut self, slot: usize, ends: bool)
         requires { is_ready self.old }
         ensures { is_ready self.new };
 
-    /// Serves one round at the time `now`.
+    /// Serves one round at the time `now`. New sockets are registered.
     ///
     /// # Errors
     ///
     /// If what the round has changed cannot be kept. No answer has left then, and no further round is served.
-    fn round(&mut self, now: u64) -> Result<RoundEnd, KeepError>
+    fn round(&mut self, now: u64, registry: &Registry) -> Result<RoundEnd, KeepError>
         requires { is_ready self.old }
         ensures { is_ready self.new };
 
@@ -69,6 +76,10 @@ pub(crate) trait Serving<W: Wire + Drop> {
 
 impl<W: Wire + Drop> Serving<W> for Peers<W> {
     ghost is_ready = { λ _. ⊤ };
+
+    fn register(&mut self, _registry: &Registry) -> io::Result<()> {
+        Ok(())
+    }
 
     fn first_free(&self) -> Option<usize> {
         Peers::first_free(self)
@@ -91,7 +102,7 @@ impl<W: Wire + Drop> Serving<W> for Peers<W> {
         Peers::mark_ready(self, slot, ends);
     }
 
-    fn round(&mut self, now: u64) -> Result<RoundEnd, KeepError> {
+    fn round(&mut self, now: u64, _registry: &Registry) -> Result<RoundEnd, KeepError> {
         Ok(Peers::round(self, now))
     }
 

@@ -8,21 +8,25 @@ use enip_common::{read_some, write_some};
 use enip_server::{ReadOutcome, Wire, WireCounts};
 use enip_wire::Header;
 use mio::net::TcpStream;
+use owner_port::HasAddress;
 use std::io::ErrorKind;
-use std::net::Shutdown;
+use std::net::{IpAddr, Shutdown, SocketAddr};
 
 /// A nonblocking TCP connection.
 #[derive(Drop)]
 pub(crate) struct TcpWire {
     stream: TcpStream,
+    /// The address of the client.
+    address: IpAddr,
     counts: WireCounts,
 }
 
 impl TcpWire {
-    /// The wire of a new connection.
-    pub(crate) fn new(stream: TcpStream) -> TcpWire {
+    /// The wire of a new connection to a client at this address.
+    pub(crate) fn new(stream: TcpStream, address: SocketAddr) -> TcpWire {
         TcpWire {
             stream,
+            address: address.ip().to_canonical(),
             counts: WireCounts::new(),
         }
     }
@@ -39,6 +43,14 @@ impl TcpWire {
         };
         self.counts.add_read(outcome);
         outcome
+    }
+}
+
+impl HasAddress for TcpWire {
+    ghost address_of = { λ wire. wire.address };
+
+    fn address(&self) -> IpAddr {
+        self.address
     }
 }
 

@@ -8,8 +8,8 @@ use thiserror::Error;
 /// What the general status says with which a ledger refuses a command. The command is still pending.
 #[derive(Clone, Copy, Debug, PartialEq, Eq, Error)]
 pub enum LedgerRefusal {
-    /// 0x02.
-    #[error("all slots of the command ledger are taken")]
+    /// 0x02. Nothing has changed.
+    #[error("all slots of the command ledger are taken, or its queue of commands is full")]
     NoSlot,
     /// 0x05.
     #[error("the device has no command ledger")]
@@ -44,7 +44,7 @@ impl LedgerRefusal {
     }
 
     /// Whether the command may have been executed, when it was sent before. A ledger without a slot for an originator
-    /// has executed none of its commands.
+    /// has executed none of its commands, and a command that finds the queue full was not executed.
     pub fn may_be_executed(self) -> bool
         ensures { result ≡ may_be_executed self }
     {

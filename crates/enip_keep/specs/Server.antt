@@ -10,8 +10,8 @@ pub record IsKept (is_up : Type 0) (kept known_kept kept_part : Kept) : Type 0 w
   pub known : known_kept ≡ kept
 
 -- As long as it serves, all is kept.
-abbrev pub IsReady : {D K Contents A B : Type 0} → (K → ℕ) → (K → Type 0) → (K → Kept) → (D → Contents)
-    → (D → Kept) → (Contents → Kept) → Server D K A B → Type 0
+abbrev pub IsReady : {D K Contents A B G : Type 0} → (K → ℕ) → (K → Type 0) → (K → Kept) → (D → Contents)
+    → (D → Kept) → (Contents → Kept) → Server D K A B G → Type 0
 IsReady doubt is_up kept contents known_kept kept_part server =
     doubt server.keeper ≡ 0 → IsTrue server.is_serving
     → IsKept (is_up server.keeper) (kept server.keeper) (known_kept server.device) (kept_part (contents server.device))

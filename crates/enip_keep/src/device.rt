@@ -19,6 +19,10 @@ pub trait Device {
     /// What a round gets: the time, for example, or the requests themselves.
     type Input: Drop;
 
+    /// What a round works with and the device does not own, such as the port of a program behind it. What a round makes
+    /// of it is not kept. `()` if there is none.
+    type Guest;
+
     // What rounds execute, and the requests of a round.
     ghost Contents: { Type 0 };
 
@@ -70,12 +74,13 @@ pub trait Device {
         ensures cause { IfErr result (λ e. (e ≡ Memory)
             ⊎ ((e ≡ Refused) × refuses configuration.now (pairs_of entries.now))) };
 
-    /// Serves the requests of a round, and holds their answers back.
+    /// Serves the requests of a round, and holds their answers back. `guest` may bring requests too. What the round leaves
+    /// for the guest reports changes that are not kept yet: it has to wait until the round is over.
     ///
     /// # Errors
     ///
     /// `Memory` if memory is refused. The device is then not served any more.
-    fn serve(&mut self, input: Self::Input) -> Result<(), KeepError>
+    fn serve(&mut self, input: Self::Input, guest: &mut Self::Guest) -> Result<(), KeepError>
         ensures served { OnOk result ((requests : Requests) × brings input requests
             × (contents self.new ≡ executed (contents self.old) requests)
             × holds_answers self.old requests self.new) }

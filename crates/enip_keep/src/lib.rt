@@ -4,7 +4,8 @@
 //! crash.
 //! A round has three steps:
 //!
-//! 1. The device serves its requests, and holds the answers back.
+//! 1. The device serves its requests, and holds the answers back. A guest may take part, such as the port of a program
+//!    behind the device: it stays outside of the device, and what it gets has to wait as the answers do.
 //! 2. The keeper commits the entries that differ from what is kept.
 //! 3. The device releases the answers.
 //!
@@ -17,7 +18,7 @@
 //! ```
 //! let mut server = Server::start(alloc, keeper, &configuration)?;
 //! loop {
-//!     server.round(requests)?; // the answers have left, and a crash finds what they report
+//!     server.round(requests, &mut ())?; // the answers have left, and a crash finds what they report
 //! }
 //! ```
 #![tactic(auto)]

@@ -16,10 +16,19 @@ pub enum Event<Input, Configuration> {
     Restart(Configuration),
 }
 
+/// Rounds, crashes and starts, in any order. `guest` takes part in all of the rounds: nothing is said of it, so it may be
+/// any, and what it does in a round is among the requests of that round.
+///
+/// `went` says of each event whether it went well.
+///
+/// # Errors
+///
+/// `AllocError` if memory is refused for `went`.
 pub fn live<D: Device + Drop, K: Restart + Drop>(
     alloc: Global,
     server: &mut Server<D, K>,
     events: Vec<Event<D::Input, D::Configuration>>,
+    guest: &mut D::Guest,
     went: &mut Vec<bool>,
 ) -> Result<(), AllocError>
 where
@@ -37,7 +46,7 @@ where
     ensures doubt { K.doubt server.old.keeper ≤ K.doubt server.new.keeper }
 {
     for event in events {
-        let well = happen(alloc, server, event);
+        let well = happen(alloc, server, event, guest);
         went.push(well)?;
     }
     Ok(())
@@ -48,6 +57,7 @@ fn happen<D: Device + Drop, K: Restart + Drop>(
     alloc: Global,
     server: &mut Server<D, K>,
     event: Event<D::Input, D::Configuration>,
+    guest: &mut D::Guest,
 ) -> bool
 where
     D::Configuration: Drop,
@@ -66,7 +76,7 @@ where
     ensures doubt { K.doubt server.old.keeper ≤ K.doubt server.new.keeper }
 {
     match event {
-        Event::Round(input) => server.round(input).is_ok(),
+        Event::Round(input) => server.round(input, guest).is_ok(),
         Event::Restart(configuration) => server.restart(alloc, &configuration).is_ok(),
     }
 }

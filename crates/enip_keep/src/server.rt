@@ -9,12 +9,22 @@ use crate::{Device, Entry, KeepError, Keeper, Restart};
 use std::alloc::Global;
 
 /// A device, and the keeper of what is kept of it.
-#[derive(Drop)]
 pub struct Server<D: Device + Drop, K: Keeper + Drop> {
     device: D,
     keeper: K,
     /// Whether there was no failure since the last start.
     is_serving: bool,
+}
+
+// Written out, so that each exit of a function that owns one calls it, and has no drop of every part.
+impl<D: Device + Drop, K: Keeper + Drop> Drop for Server<D, K> {
+    fn drop(self) {
+        let Server {
+            device: _,
+            keeper: _,
+            is_serving: _,
+        } = self;
+    }
 }
 
 impl<D: Device + Drop, K: Keeper + Drop> Server<D, K> {
@@ -59,13 +69,14 @@ impl<D: Device + Drop, K: Keeper + Drop> Server<D, K> {
         self.is_serving
     }
 
-    /// Serves a round. Once it returns `Ok`, its answers have left, and every crash leaves what they report.
+    /// Serves a round. Once it returns `Ok`, its answers have left, and every crash leaves what they report. Until then
+    /// nothing of what the round left for the guest may leave.
     ///
     /// # Errors
     ///
     /// At any error no answer leaves, and the server serves no more until a start: each further round is `Stopped`, and
     /// changes nothing.
-    pub fn round(&mut self, input: D::Input) -> Result<(), KeepError>
+    pub fn round(&mut self, input: D::Input, guest: &mut D::Guest) -> Result<(), KeepError>
         requires { IsReady K.doubt K.is_up K.kept D.contents D.known_kept D.kept_part self.old }
         ensures ready { IsReady K.doubt K.is_up K.kept D.contents D.known_kept D.kept_part self.new }
         ensures served { OnOk result (IsServed D.brings D.contents D.executed
@@ -88,7 +99,7 @@ impl<D: Device + Drop, K: Keeper + Drop> Server<D, K> {
             return Err(KeepError::Stopped);
         }
         self.is_serving = false;
-        self.device.serve(input)?;
+        self.device.serve(input, guest)?;
         keep(&mut self.keeper, self.device.changes())?;
         self.device.release();
         self.is_serving = true;

@@ -61,6 +61,8 @@ impl Device for Tally {
 
     type Input = u8;
 
+    type Guest = ();
+
     ghost use Rattle.std.specs.Prelude.{◌≡◌, ℕ, false, [], refl};
     ghost use Rattle.std.proofs.Common.{sym, append-nil};
     ghost use Rattle.enip_keep.specs.Tally.{added, entries_of, kept_of, total_in, is_tally, IsSilent, Answers, Releases};
@@ -109,7 +111,7 @@ impl Device for Tally {
         })
     }
 
-    fn serve(&mut self, input: u8) -> Result<(), KeepError> {
+    fn serve(&mut self, input: u8, _guest: &mut ()) -> Result<(), KeepError> {
         let total = self.total.wrapping_add(input);
         let changes = entries_of(self.alloc, total)?;
         self.answers.push(total)?;

@@ -20,7 +20,7 @@ use Rattle.enip_owner.specs.declared.hello.DescribedAttribute.{DescribedAttribut
 use Rattle.enip_owner.specs.declared.hello.DescribedObject.{DescribedObject}
 use Rattle.enip_owner.specs.declared.hello.HelloEvent.{HelloEvent}
 use Rattle.enip_owner.specs.Events.{IsWritten, IsLineOf}
-use Rattle.enip_owner.specs.Hello.{attribute_json, object_json, hello_json, hello_detail, shorter_detail, object_head, name_tokens, hello_head, listed_tokens, attribute_list, fits}
+use Rattle.enip_owner.specs.Hello.{attribute_json, object_json, hello_json, hello_detail, shorter_detail, object_head, name_tokens, hello_head, device_tokens, listed_tokens, attribute_list, fits}
 use Rattle.enip_owner.specs.Parts.{Adds}
 use Rattle.enip_owner.proofs.PartLemmas.{items_tokens-map, items_depth-map}
 
@@ -67,14 +67,26 @@ object_tokens detail o = object_named o.name detail o refl
 
 -- ---- the device
 
-pub hello_tokens : (detail : Detail) (h : HelloEvent)
-    → hello_head h ++ (flat_map (λ o. json_tokens (object_json detail o)) h.objects.now ++ end_array ∷ end_object ∷ end_object ∷ [])
-    ≡ json_tokens (hello_json detail h)
-hello_tokens detail h =
-    ap (λ l. hello_head h ++ l)
+objects_tokens : (detail : Detail) (h : HelloEvent)
+    → key (codes "objects") ∷ begin_array ∷ (flat_map (λ o. json_tokens (object_json detail o)) h.objects.now ++ end_array ∷ end_object ∷ end_object ∷ [])
+    ≡ (key (codes "objects") ∷ begin_array ∷ (items_tokens (items_of (map (object_json detail) h.objects.now)) ++ end_object ∷ [])) ++ end_object ∷ []
+objects_tokens detail h =
+    ap (λ l. key (codes "objects") ∷ begin_array ∷ l)
     (sym (append_assoc (flat_map (λ o. json_tokens (object_json detail o)) h.objects.now) (end_array ∷ []) (end_object ∷ end_object ∷ []))
     ∙ ap (λ l. l ++ end_object ∷ end_object ∷ []) (sym (items_tokens-map (object_json detail) h.objects.now))
     ∙ sym (append_assoc (items_tokens (items_of (map (object_json detail) h.objects.now))) (end_object ∷ []) (end_object ∷ [])))
+
+hello_of_life : (life : Option ℕ) (detail : Detail) (h : HelloEvent) → h.life ≡ life
+    → hello_head h ++ (flat_map (λ o. json_tokens (object_json detail o)) h.objects.now ++ end_array ∷ end_object ∷ end_object ∷ [])
+    ≡ json_tokens (hello_json detail h)
+hello_of_life None detail h is = rw is (ap (λ l. device_tokens h ++ l) (objects_tokens detail h))
+hello_of_life (Some life) detail h is =
+    rw is (ap (λ l. device_tokens h ++ key (codes "life") ∷ number (decimal life) ∷ l) (objects_tokens detail h))
+
+pub hello_tokens : (detail : Detail) (h : HelloEvent)
+    → hello_head h ++ (flat_map (λ o. json_tokens (object_json detail o)) h.objects.now ++ end_array ∷ end_object ∷ end_object ∷ [])
+    ≡ json_tokens (hello_json detail h)
+hello_tokens detail h = hello_of_life h.life detail h refl
 
 attribute_flat : (detail : Detail) (a : DescribedAttribute) (name : Option (Bor (List ℕ))) → a.name ≡ name → depth (attribute_json detail a) ≤ 1
 attribute_flat details.Values a None is = rw is (omega arith)
@@ -100,10 +112,16 @@ object_shallow details.Types o (Some name) is =
     rw is (omega (arith, inner))
 object_shallow details.Objects o (Some name) is = rw is (omega arith)
 
-pub hello_shallow : (detail : Detail) (h : HelloEvent) → depth (hello_json detail h) ≤ 128
-hello_shallow detail h =
+hello_of_life_shallow : (life : Option ℕ) (detail : Detail) (h : HelloEvent) → h.life ≡ life → depth (hello_json detail h) ≤ 128
+hello_of_life_shallow None detail h is =
     let inner = items_depth-map (object_json detail) h.objects.now 3 (λ o. object_shallow detail o o.name refl) in
-    omega (arith, inner)
+    rw is (omega (arith, inner))
+hello_of_life_shallow (Some life) detail h is =
+    let inner = items_depth-map (object_json detail) h.objects.now 3 (λ o. object_shallow detail o o.name refl) in
+    rw is (omega (arith, inner))
+
+pub hello_shallow : (detail : Detail) (h : HelloEvent) → depth (hello_json detail h) ≤ 128
+hello_shallow detail h = hello_of_life_shallow h.life detail h refl
 
 -- ---- how much of the attributes
 

@@ -3,6 +3,7 @@ pub mod HandOverLemmas
 pub mod ValueLemmas
 pub mod TokenLemmas
 pub mod ReadingLemmas
+pub mod NewlineLemmas
 pub mod PartLemmas
 pub mod ShownLemmas
 pub mod HelloLemmas

@@ -1,5 +1,5 @@
 -- Lines that are written part by part.
-use Rattle.std.proofs.Common.{◌≡◌, ℕ, suc, ◌+◌, ◌<◌, ◌≤◌, max, List, [], ◌∷◌, ◌++◌, length, take, get_or, map, Result, Ok, Err, Option, Some, None, Vec, refl, sym, ap, subst, ◌∙◌, append_assoc, append-nil, arith}
+use Rattle.std.proofs.Common.{◌≡◌, ℕ, suc, ◌+◌, ◌<◌, ◌≤◌, max, List, [], ◌∷◌, ◌++◌, length, take, get_or, map, Result, Ok, Err, Option, Some, None, Vec, refl, sym, ap, subst, false, ◌∙◌, append_assoc, append-nil, arith}
 use Rattle.std.specs.List.{flat_map}
 use Rattle.std.specs.Option.{option_and_then}
 use Rattle.std.specs.Result.{IsErr}
@@ -9,17 +9,20 @@ use Rattle.std.specs.declared.alloc.Global.{Global}
 use Rattle.std.proofs.lemmas.List.{take_more, take_all}
 use Rattle.json.specs.Json.{Json, Items, no_items, item, if_last, value, document, max_depth}
 use Rattle.json.specs.Lex.{tokens}
-use Rattle.json.specs.Print.{print}
+use Rattle.json.specs.Print.{print, ArePrintableOrBad}
 use Rattle.json.specs.Token.{Token, end_array}
 use Rattle.json.specs.Tree.{json_tokens, items_tokens, depth, items_depth}
 use Rattle.json.specs.Value.{items_of}
 use Rattle.json.specs.Written.{Written}
+use Rattle.json.proofs.Numbered.{ArePrintableOrBad-tokens}
 use Rattle.json.proofs.Printed.Trees.{value-json_tokens}
+use Rattle.enip_lines.specs.InputLines.{has_newline}
 use Rattle.enip_owner.specs.declared.line_buffer.TheConstants.{LINE_LIMIT}
 use Rattle.enip_owner.specs.declared.event_fault.EventFault.{EventFault}
 use Rattle.enip_owner.specs.declared.event_fault.EventFault.TheVariants as faults
 use Rattle.enip_owner.specs.Events.{IsLineOf, IsWritten, IsUnwritten, IsWrittenOne, IsUnwrittenOne}
 use Rattle.enip_owner.specs.Parts.{Adds, IsLine, IsLineFrom, IsLineFault}
+use Rattle.enip_owner.proofs.NewlineLemmas.{none_in_print}
 
 -- ---- lists of tokens
 
@@ -69,6 +72,8 @@ line_is j w line before same shallow is =
     ap (λ l. l ++ print w.tokens) before ∙ ap print same in record {
       text = is.text ∙ ap (λ l. l ++ 10 ∷ []) text;
       short = subst (λ l. length l ≤ LINE_LIMIT) text is.short;
+      one_line = subst (λ ts. has_newline (print ts) ≡ false) same
+          (none_in_print false w.tokens (subst ArePrintableOrBad is.reads_back (ArePrintableOrBad-tokens (print w.tokens))));
       reads_back = reads j shallow (subst (λ ts. tokens (print ts) ≡ ts) same is.reads_back);
     }
 

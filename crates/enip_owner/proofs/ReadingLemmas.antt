@@ -1,15 +1,17 @@
 -- What a line of an owner says, step by step.
-use Rattle.std.proofs.Common.{◌≡◌, ℕ, ◌+◌, ◌<◌, ◌≤◌, ◌^◌, ◌&&◌, nat_lt, Bool, true, false, List, [], ◌∷◌, ◌++◌, length, take, drop, get_or, map, cond}
+use Rattle.std.proofs.Common.{◌≡◌, ℕ, ◌+◌, ◌<◌, ◌≤◌, ◌^◌, ◌&&◌, nat_lt, Bool, true, false, List, [], ◌∷◌, ◌++◌, length, take, drop, get_or, map, cond, ◌⊎◌, inl, inr}
 use Rattle.std.proofs.Common.{Result, Ok, Err, Option, Some, None, Bor, refl, sym, ap, subst, ◌∙◌, append_assoc, append-nil, add-one, drop-cons, arith, rules}
 use Rattle.std.proofs.lemmas.Bool.{lt-ltb, le-ltb, ltb-true, and_from, and_parts, and_right}
 use Rattle.std.proofs.lemmas.Bool.Decides.{nat_tests}
 use Rattle.std.proofs.lemmas.List.{drop_all, map-append}
+use Rattle.std.proofs.lemmas.Option.{none-some, same_Some}
 use Rattle.std.specs.Char.{is_digit}
 use Rattle.std.specs.List.{list_all}
 use Rattle.std.specs.Str.Parse.{IsNumeral, digits_value}
 use Rattle.std.specs.declared.alloc.Global.{Global}
 use Rattle.cip_values.proofs.ParsingLemmas.{digits-from_all, all-from_digits}
 use Rattle.json.specs.Json.{Json}
+use Rattle.json.specs.Strict.{HasUniqueKeys}
 use Rattle.json.specs.Value.{value_view, items_view, members_view}
 use Rattle.json.specs.Json as json
 use Rattle.json.specs.declared.value.Value.{Value, Number, the_lemmas}
@@ -17,7 +19,8 @@ use Rattle.enip_owner.specs.declared.owner_fault.RequestKey.{RequestKey}
 use Rattle.enip_owner.specs.declared.owner_fault.OwnerFault.{OwnerFault}
 use Rattle.enip_owner.specs.declared.owner_fault.OwnerFault.TheVariants as faults
 use Rattle.enip_owner.specs.declared.request.GivenValue.{GivenValue}
-use Rattle.enip_owner.specs.Requests.{Given, given_in, Request, ◌>>=◌, is_numeral, number_spelled, value_given, items_given, is_known, are_known, member_in, only_member, Gives, Fails}
+use Rattle.enip_owner.specs.Requests.{Given, given_in, Request, ◌>>=◌, is_numeral, number_spelled, value_given, items_given, is_known, are_known, member_in, only_member, request_of, Gives, Fails}
+use Rattle.enip_owner.specs.Requests.{IsNotJson, IsJsonText, Says}
 
 -- ---- numbers
 
@@ -141,3 +144,26 @@ pub also_fails : {A B : Type 0} (fault : OwnerFault) (said : Result A OwnerFault
     → (said ≡ Err fault → other ≡ Err fault) → Fails fault other
 also_fails faults.Memory said other is more = tt
 also_fails fault said other is more = more is
+
+-- ---- one line says one thing
+
+never_both : (line : List ℕ) (j : Json) → IsNotJson line → IsJsonText line j → ⊥
+never_both line j (inl never) is = never is.0
+never_both line j (inr none) is = none-some j (sym none ∙ is.1)
+
+same_value : (line : List ℕ) (j k : Json) → IsJsonText line j → IsJsonText line k → j ≡ k
+same_value line j k is too = same_Some j k (sym is.1 ∙ too.1)
+
+pub one_reading : (line : List ℕ) → (one other : Result Request OwnerFault) → Says line one → Says line other → one ≡ other
+one_reading line one other (inl is) (inl too) = is.1 ∙ sym too.1
+one_reading line one other (inl is) (inr (inl too)) = absurd (never_both line too.0 is.0 too.1.0)
+one_reading line one other (inl is) (inr (inr too)) = absurd (never_both line too.0 is.0 too.1.0)
+one_reading line one other (inr (inl is)) (inl too) = absurd (never_both line is.0 too.0 is.1.0)
+one_reading line one other (inr (inr is)) (inl too) = absurd (never_both line is.0 too.0 is.1.0)
+one_reading line one other (inr (inl is)) (inr (inl too)) = is.1.2 ∙ sym too.1.2
+one_reading line one other (inr (inl is)) (inr (inr too)) =
+    absurd (is.1.1 (subst HasUniqueKeys (same_value line too.0 is.0 too.1.0 is.1.0) too.1.1))
+one_reading line one other (inr (inr is)) (inr (inl too)) =
+    absurd (too.1.1 (subst HasUniqueKeys (same_value line is.0 too.0 is.1.0 too.1.0) is.1.1))
+one_reading line one other (inr (inr is)) (inr (inr too)) =
+    is.1.2 ∙ ap request_of (same_value line is.0 too.0 is.1.0 too.1.0) ∙ sym too.1.2

@@ -28,10 +28,12 @@ use Rattle.cip_values.specs.Values.{Value, value_in, AreBytesOf}
 use Rattle.cip_values.specs.declared.element.ValueType.{ValueType}
 use Rattle.cip_values.specs.declared.value.Value.{Value as ValueInCode}
 use Rattle.enip_owner.specs.declared.attribute_ref.AttributeRef.{AttributeRef}
+use Rattle.enip_owner.specs.declared.event.AskedEvent.{AskedEvent}
 use Rattle.enip_owner.specs.declared.event.ChangedEvent.{ChangedEvent}
 use Rattle.enip_owner.specs.declared.event.ValueEvent.{ValueEvent}
-use Rattle.enip_owner.specs.Events.{IsNumberJson, IsScalarJson, IsShownAs, EachShownAs, AreShownAs, changed_json, value_json}
-use Rattle.enip_owner.specs.Shown.{AddsOne, AddsValues, AddsShown, list_tokens, shown_tokens, attribute_head}
+use Rattle.enip_owner.specs.Events.{IsNumberJson, IsScalarJson, IsShownAs, EachShownAs, AreShownAs, named, count, hexadecimal, with_attribute, with_values, with_address, asked_json, changed_json, value_json}
+use Rattle.enip_owner.specs.Shown.{AddsOne, AddsValues, AddsShown, list_tokens, shown_tokens, attribute_head, asked_front, asked_head, number_of_attribute}
+use Rattle.enip_owner.specs.Parts.{text_member}
 use Rattle.enip_owner.proofs.PartLemmas.{AreAdded}
 
 -- ---- one value
@@ -234,3 +236,49 @@ pub value_shallow : (e : ValueEvent) (shown : Option (List Json)) → AreShownAs
 value_shallow e None are = omega arith
 value_shallow e (Some js) are =
     let flat = list_shallow e.value_type e.«data».now js are in omega (arith, flat)
+
+-- with this attribute
+abbrev asked_head_by : Option ℕ → AskedEvent → List Token
+asked_head_by attribute e =
+    asked_front e ++ (number_of_attribute attribute ++ text_member (codes "data") (encode_lower e.«data».now))
+
+abbrev asked_json_by : Option ℕ → AskedEvent → Option (List Json) → Json
+asked_json_by attribute e values =
+    named (codes "asked")
+    (json.member (codes "question") (count e.question)
+    (json.member (codes "class") (count e.class)
+    (json.member (codes "instance") (count e.instance)
+    (json.member (codes "service") (count e.service)
+    (with_attribute attribute
+    (json.member (codes "data") (hexadecimal e.«data».now) (with_values values (with_address (Some e.by) json.no_members))))))))
+
+asked_shown : (attribute : Option ℕ) (e : AskedEvent) (shown : Option (List Json))
+    → asked_head_by attribute e
+    ++ (shown_tokens shown ++ key (codes "by") ∷ string (ip_text e.by) ∷ end_object ∷ end_object ∷ [])
+    ≡ json_tokens (asked_json_by attribute e shown)
+asked_shown None e None = refl
+asked_shown (Some a) e None = refl
+asked_shown None e (Some js) =
+    ap (λ l. asked_head_by None e ++ key (codes "values") ∷ begin_array ∷ l)
+    (sym (append_assoc (items_tokens (items_of js)) (key (codes "by") ∷ string (ip_text e.by) ∷ end_object ∷ []) (end_object ∷ [])))
+asked_shown (Some a) e (Some js) =
+    ap (λ l. asked_head_by (Some a) e ++ key (codes "values") ∷ begin_array ∷ l)
+    (sym (append_assoc (items_tokens (items_of js)) (key (codes "by") ∷ string (ip_text e.by) ∷ end_object ∷ []) (end_object ∷ [])))
+
+pub asked_tokens : (e : AskedEvent) (shown : Option (List Json))
+    → asked_head e ++ (shown_tokens shown ++ key (codes "by") ∷ string (ip_text e.by) ∷ end_object ∷ end_object ∷ [])
+    ≡ json_tokens (asked_json e shown)
+asked_tokens e shown = asked_shown e.attribute e shown
+
+asked_flat : (attribute : Option ℕ) (e : AskedEvent) (shown : Option (List Json))
+    → AreShownAs e.value_type e.«data».now shown → depth (asked_json_by attribute e shown) ≤ 128
+asked_flat None e None are = omega arith
+asked_flat (Some a) e None are = omega arith
+asked_flat None e (Some js) are =
+    let flat = list_shallow e.value_type e.«data».now js are in omega (arith, flat)
+asked_flat (Some a) e (Some js) are =
+    let flat = list_shallow e.value_type e.«data».now js are in omega (arith, flat)
+
+pub asked_shallow : (e : AskedEvent) (shown : Option (List Json)) → AreShownAs e.value_type e.«data».now shown
+    → depth (asked_json e shown) ≤ 128
+asked_shallow e shown are = asked_flat e.attribute e shown are

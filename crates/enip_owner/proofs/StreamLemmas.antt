@@ -4,7 +4,7 @@ use Rattle.std.proofs.Common.{refl, sym, ap, subst, ◌∙◌, append_assoc, app
 use Rattle.std.proofs.lemmas.Bool.{or_parts}
 use Rattle.std.proofs.lemmas.Bool.Decides.{nat_tests}
 use Rattle.std.proofs.lemmas.List.{length-append}
-use Rattle.enip_commands.specs.InputLines.{has_newline}
+use Rattle.enip_lines.specs.InputLines.{has_newline}
 use Rattle.enip_owner.specs.declared.line_buffer.TheConstants.{LINE_LIMIT}
 use Rattle.enip_owner.specs.declared.line_buffer.LineOutcome.{LineOutcome}
 use Rattle.enip_owner.specs.declared.line_buffer.LineOutcome.TheVariants.{Unfinished, Whole, TooLong}
@@ -254,3 +254,10 @@ none_ended (byte ∷ bytes) none =
 
 pub no_line_yet : (bytes : List ℕ) → has_newline bytes ≡ false → lines_of bytes ≡ []
 no_line_yet bytes none = ap (map line_of) (none_ended bytes none)
+
+-- A text without a newline and its newline are one line.
+pub line_alone : (text : List ℕ) → has_newline text ≡ false → length text ≤ LINE_LIMIT → lines_of (text ++ 10 ∷ []) ≡ Line text ∷ []
+line_alone text none fits =
+    sym (lines_of_all (text ++ 10 ∷ [])) ∙ lines_over no_line text (10 ∷ []) none ∙ lines_end (with_bytes no_line text) []
+    ∙ ap (λ (l : BufferedLine). ended_line l ∷ lines_after no_line []) (short_grows no_line text refl (omega (arith, fits)))
+    ∙ ap (λ (ls : List StreamLine). Line text ∷ ls) (lines_none no_line)

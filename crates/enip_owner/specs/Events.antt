@@ -19,23 +19,26 @@ use Rattle.cip_values.specs.Values.{Value, AreBytesOf, IsReadFault}
 use Rattle.cip_values.specs.declared.element.ValueType.{ValueType}
 use Rattle.cip_values.specs.declared.fault.ValueFault.{ValueFault}
 use Rattle.cip_values.specs.declared.fault.ValueFault.TheVariants as value_faults
-use Rattle.enip_commands.specs.Json.{IsJsonOf}
+use Rattle.enip_lines.specs.InputLines.{has_newline}
+use Rattle.enip_lines.specs.JsonValues.{IsJsonOf}
 use Rattle.enip_owner.specs.declared.attribute_ref.AttributeRef.{AttributeRef}
 use Rattle.enip_owner.specs.declared.line_buffer.TheConstants.{LINE_LIMIT}
 use Rattle.enip_owner.specs.declared.event_fault.EventFault.{EventFault}
 use Rattle.enip_owner.specs.declared.event_fault.EventFault.TheVariants as faults
 use Rattle.enip_owner.specs.declared.event.CommandEvent.{CommandEvent}
+use Rattle.enip_owner.specs.declared.event.AskedEvent.{AskedEvent}
 use Rattle.enip_owner.specs.declared.event.ChangedEvent.{ChangedEvent}
 use Rattle.enip_owner.specs.declared.event.ValueEvent.{ValueEvent}
 use Rattle.enip_owner.specs.declared.event.EndedEvent.{EndedEvent}
 
 -- ---- lines
 
--- A line has the text of a JSON value with nothing between its tokens, of at most 64 KiB, and a newline. The text reads
--- as that value.
+-- A line has the text of a JSON value with nothing between its tokens, of at most 64 KiB and without a newline, and a
+-- newline. The text reads as that value.
 pub record IsLineOf (j : Json) (line : List ℕ) : Type 0 where
   pub text : line ≡ print (json_tokens j) ++ codes "\n"
   pub short : length (print (json_tokens j)) ≤ LINE_LIMIT
+  pub one_line : has_newline (print (json_tokens j)) ≡ false
   pub reads_back : document (print (json_tokens j)) ≡ Some j
 
 abbrev pub IsUnwritten : Json → EventFault → Type 0
@@ -123,6 +126,22 @@ command_json e =
     (with_address e.by
     (member (codes "again") (json.boolean e.again) no_members)))))))
 
+-- The attribute, if the request names one.
+abbrev pub with_attribute : Option ℕ → Members → Members
+with_attribute None members = members
+with_attribute (Some number) members = member (codes "attribute") (count number) members
+
+-- A request that the owner is asked, with these values.
+abbrev pub asked_json : AskedEvent → Option (List Json) → Json
+asked_json e values =
+    named (codes "asked")
+    (member (codes "question") (count e.question)
+    (member (codes "class") (count e.class)
+    (member (codes "instance") (count e.instance)
+    (member (codes "service") (count e.service)
+    (with_attribute e.attribute
+    (member (codes "data") (hexadecimal e.«data».now) (with_values values (with_address (Some e.by) no_members))))))))
+
 -- With these values.
 abbrev pub changed_json : ChangedEvent → Option (List Json) → Json
 changed_json e values =
@@ -155,6 +174,11 @@ IsUnwrittenOne Is faults.Memory = Unit {0}
 abbrev pub IsWrittenOne : (Json → Type 0) → Result (Vec ℕ Global) EventFault → Type 0
 IsWrittenOne Is (Ok line) = (j : Json) × (Is j × IsLineOf j line.items)
 IsWrittenOne Is (Err fault) = IsUnwrittenOne Is fault
+
+-- A request that the owner is asked, with its values.
+abbrev pub IsAsked : AskedEvent → Json → Type 0
+IsAsked e j =
+    (values : Option (List Json)) × (AreShownAs e.value_type e.«data».now values × (j ≡ asked_json e values))
 
 -- A set, with its values.
 abbrev pub IsChanged : ChangedEvent → Json → Type 0

@@ -20,6 +20,11 @@ abbrev pub with_name : Option (Bor (List ℕ)) → Members → Members
 with_name None members = members
 with_name (Some name) members = member (codes "name") (json.string name.now) members
 
+-- The life of the device's command ledger, if it has one.
+abbrev pub with_life : Option ℕ → Members → Members
+with_life None members = members
+with_life (Some life) members = member (codes "life") (count life) members
+
 abbrev pub with_data : Detail → List ℕ → Members → Members
 with_data details.Values bytes members = member (codes "data") (hexadecimal bytes) members
 with_data details.Types bytes members = members
@@ -54,7 +59,8 @@ hello_json detail h =
     (member (codes "product_code") (count h.product_code)
     (member (codes "serial") (count h.serial)
     (member (codes "name") (json.string h.name.now)
-    (member (codes "objects") (array (items_of (map (object_json detail) h.objects.now))) no_members)))))
+    (with_life h.life
+    (member (codes "objects") (array (items_of (map (object_json detail) h.objects.now))) no_members))))))
 
 -- Whether a line has at most 64 KiB.
 abbrev pub fits : Json → Bool
@@ -89,9 +95,17 @@ abbrev pub name_tokens : Option (Bor (List ℕ)) → List Token
 name_tokens None = []
 name_tokens (Some name) = key (codes "name") ∷ string name.now ∷ []
 
+-- A life, or nothing.
+abbrev pub life_tokens : Option ℕ → List Token
+life_tokens None = []
+life_tokens (Some life) = key (codes "life") ∷ number (decimal life) ∷ []
+
+-- The device, up to its life.
+abbrev pub device_tokens : HelloEvent → List Token
+device_tokens h =
+    begin_object ∷ key (codes "hello") ∷ begin_object ∷ key (codes "vendor") ∷ number (decimal h.vendor) ∷ key (codes "product_code")
+    ∷ number (decimal h.product_code) ∷ key (codes "serial") ∷ number (decimal h.serial) ∷ key (codes "name") ∷ string h.name.now ∷ []
+
 -- The device, up to its objects.
 abbrev pub hello_head : HelloEvent → List Token
-hello_head h =
-    begin_object ∷ key (codes "hello") ∷ begin_object ∷ key (codes "vendor") ∷ number (decimal h.vendor) ∷ key (codes "product_code")
-    ∷ number (decimal h.product_code) ∷ key (codes "serial") ∷ number (decimal h.serial) ∷ key (codes "name") ∷ string h.name.now
-    ∷ key (codes "objects") ∷ begin_array ∷ []
+hello_head h = device_tokens h ++ (life_tokens h.life ++ key (codes "objects") ∷ begin_array ∷ [])

@@ -31,6 +31,7 @@ pub data Given : Type 0 where
 -- What a line says.
 pub data Request : Type 0 where
   Done : (ticket : ℕ) (reply : Reply) → Request
+  Answer : (question : ℕ) (reply : Reply) → Request
   WriteData : (attribute : AttributeRef) (bytes : List ℕ) → Request
   WriteValues : (attribute : AttributeRef) (values : List Given) → Request
   Read : (attribute : AttributeRef) → Request
@@ -46,6 +47,7 @@ given_in (given.Text text) = Text text.now
 -- A request of the code.
 abbrev pub request_in : OwnerRequest → Request
 request_in (requests.Done ticket reply) = Done ticket reply
+request_in (requests.Answer question reply) = Answer question reply
 request_in (requests.WriteData attribute bytes) = WriteData attribute bytes.items
 request_in (requests.WriteValues attribute values) = WriteValues attribute (map given_in values.items)
 request_in (requests.Read attribute) = Read attribute
@@ -54,11 +56,13 @@ request_in (requests.State state) = State state
 
 abbrev pub key_name : RequestKey → List ℕ
 key_name keys.Done = codes "done"
+key_name keys.Answer = codes "answer"
 key_name keys.Write = codes "write"
 key_name keys.Read = codes "read"
 key_name keys.Status = codes "status"
 key_name keys.State = codes "state"
 key_name keys.Ticket = codes "ticket"
+key_name keys.Question = codes "question"
 key_name keys.Data = codes "data"
 key_name keys.Values = codes "values"
 key_name keys.Class = codes "class"
@@ -147,6 +151,9 @@ checked request known other = Err (faults.NotObject request)
 abbrev pub done_keys : List RequestKey
 done_keys = keys.Ticket ∷ keys.Status ∷ keys.Data ∷ []
 
+abbrev pub answer_keys : List RequestKey
+answer_keys = keys.Question ∷ keys.Status ∷ keys.Data ∷ []
+
 abbrev pub read_keys : List RequestKey
 read_keys = keys.Class ∷ keys.Instance ∷ keys.Attribute ∷ []
 
@@ -178,6 +185,14 @@ done_in j = do
   status ← number_at 256 keys.Status j
   content ← bytes_found most_replied (get (key_name keys.Data) j)
   Ok (Done ticket (record { status = status; content = content }))
+
+unfoldable pub answer_in : Json → Result Request OwnerFault
+answer_in j = do
+  known ← checked keys.Answer answer_keys j
+  question ← number_at (2 ^ 32) keys.Question j
+  status ← number_at 256 keys.Status j
+  content ← bytes_found most_replied (get (key_name keys.Data) j)
+  Ok (Answer question (record { status = status; content = content }))
 
 unfoldable pub content_in : AttributeRef → Option Json → Option Json → Result Request OwnerFault
 content_in attribute None None = Err (faults.Missing keys.Data)
@@ -215,6 +230,7 @@ state_in j = do
 unfoldable pub member_in : List ℕ → Json → Result Request OwnerFault
 member_in name j =
     if bytes_eq name (codes "done") then done_in j
+    else if bytes_eq name (codes "answer") then answer_in j
     else if bytes_eq name (codes "write") then write_in j
     else if bytes_eq name (codes "read") then read_in j
     else if bytes_eq name (codes "status") then status_in j

@@ -7,9 +7,11 @@ use Rattle.json.specs.Value.{items_of}
 use Rattle.json.specs.Written.{Written}
 use Rattle.hex.specs.Hex.{encode_lower}
 use Rattle.enip_owner.specs.declared.attribute_ref.AttributeRef.{AttributeRef}
+use Rattle.enip_owner.specs.declared.event.AskedEvent.{AskedEvent}
 use Rattle.cip_values.specs.Values.{Value}
 use Rattle.cip_values.specs.declared.element.ValueType.{ValueType}
 use Rattle.enip_owner.specs.Events.{EachShownAs, AreShownAs}
+use Rattle.enip_owner.specs.Parts.{number_member, text_member}
 
 -- One of these JSON values is written after the others, unless memory is refused.
 pub record AddsOne {E : Type 0} (r : Result (Unit {0}) E) (old new : Written) (Is : Json → Type 0) : Type 0 where
@@ -40,3 +42,18 @@ attribute_head name a bytes =
     begin_object ∷ key name ∷ begin_object ∷ key (codes "class") ∷ number (decimal a.class) ∷ key (codes "instance")
     ∷ number (decimal a.instance) ∷ key (codes "attribute") ∷ number (decimal a.attribute) ∷ key (codes "data")
     ∷ string (encode_lower bytes) ∷ []
+
+-- The number of an attribute, if there is one.
+abbrev pub number_of_attribute : Option ℕ → List Token
+number_of_attribute None = []
+number_of_attribute (Some n) = number_member (codes "attribute") n
+
+-- The beginning of the line of a request, up to `data`.
+abbrev pub asked_front : AskedEvent → List Token
+asked_front e =
+    begin_object ∷ key (codes "asked") ∷ begin_object ∷ key (codes "question") ∷ number (decimal e.question)
+    ∷ key (codes "class") ∷ number (decimal e.class) ∷ key (codes "instance") ∷ number (decimal e.instance)
+    ∷ key (codes "service") ∷ number (decimal e.service) ∷ []
+
+abbrev pub asked_head : AskedEvent → List Token
+asked_head e = asked_front e ++ (number_of_attribute e.attribute ++ text_member (codes "data") (encode_lower e.«data».now))

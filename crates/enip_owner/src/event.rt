@@ -1,12 +1,12 @@
 //! The lines of the device about commands, sets and connections, and its answers to lines of the owner.
 
 ghost use Rattle.enip_owner.specs.Parts.{Adds};
-ghost use Rattle.enip_owner.specs.Shown.{attribute_head};
-ghost use Rattle.enip_owner.specs.Events.{IsWritten, IsWrittenOne, command_json, ended_json, ok_json, error_json, IsChanged, IsValue};
+ghost use Rattle.enip_owner.specs.Shown.{asked_front, asked_head, attribute_head, number_of_attribute};
+ghost use Rattle.enip_owner.specs.Events.{IsWritten, IsWrittenOne, command_json, ended_json, ok_json, error_json, IsAsked, IsChanged, IsValue};
 
 use crate::attribute_ref::AttributeRef;
 use crate::event_fault::EventFault;
-use crate::part::{Part, begin_line, line_from, write_line, write_parts};
+use crate::part::{Part, begin_line, line_from, write_line, write_part, write_parts};
 use crate::shown_values::write_shown;
 use cip_values::ValueType;
 use json::Writer;
@@ -30,6 +30,27 @@ pub struct CommandEvent<'a> {
     pub by: Option<IpAddr>,
     /// Whether it was handed over before.
     pub again: bool,
+}
+
+/// A request that the owner is asked while its peer waits: an own service, or a set of a checked attribute.
+#[derive(Clone, Copy, Debug)]
+pub struct AskedEvent<'a> {
+    /// The number of the question.
+    pub question: u32,
+    /// The class of the object.
+    pub class: u16,
+    /// The instance number of the object.
+    pub instance: u32,
+    /// The service code.
+    pub service: u8,
+    /// The number of the attribute, if the request names one. That of a set always does.
+    pub attribute: Option<u16>,
+    /// The type of its value, if that is known and the request sets it.
+    pub value_type: Option<ValueType>,
+    /// The data of the service, or the bytes of the value.
+    pub data: &'a [u8],
+    /// The address of the peer.
+    pub by: IpAddr,
 }
 
 /// An attribute that a peer set.
@@ -102,6 +123,87 @@ pub fn write_command(alloc: Global, event: &CommandEvent<'_>) -> Result<Vec<u8>,
             Part::Close,
         ],
     )
+}
+
+/// The line of a request that the owner is asked, with its newline. If the type is known and the bytes are values of it,
+/// it has the values.
+///
+/// ```
+/// write_asked(alloc, &AskedEvent {
+///     question: 3,
+///     class: 768,
+///     instance: 1,
+///     service: 50,
+///     attribute: None,
+///     value_type: None,
+///     data: &[5, 0],
+///     by: address,
+/// })?;
+/// // {"asked":{"question":3,"class":768,"instance":1,"service":50,"data":"0500","by":"10.0.0.5"}}
+/// ```
+///
+/// # Errors
+///
+/// `TooLong` if the line has more than 64 KiB, `Memory` if memory is refused.
+pub fn write_asked(alloc: Global, event: &AskedEvent<'_>) -> Result<Vec<u8>, EventFault>
+    ensures { IsWrittenOne (IsAsked event.now) result }
+{
+    let mut writer = begin_line(alloc)?;
+    write_asked_head(alloc, &mut writer, event)?;
+    write_shown(alloc, &mut writer, event.value_type, event.data)?;
+    let by = Part::MaybeAddress("by", Some(event.by));
+    write_parts(alloc, &mut writer, &[by, Part::Close, Part::Close])?;
+    line_from(writer)
+}
+
+/// Writes the beginning of the line of a request, up to `data`.
+fn write_asked_head(
+    alloc: Global,
+    writer: &mut Writer,
+    event: &AskedEvent<'_>,
+) -> Result<(), AllocError>
+    ensures { Adds result writer.old writer.new (asked_head event.now) }
+{
+    write_asked_front(alloc, writer, event)?;
+    write_number_of(alloc, writer, event.attribute)?;
+    write_part(alloc, writer, Part::Bytes("data", event.data))
+}
+
+/// Writes the beginning of the line of a request, up to `service`.
+fn write_asked_front(
+    alloc: Global,
+    writer: &mut Writer,
+    event: &AskedEvent<'_>,
+) -> Result<(), AllocError>
+    ensures { Adds result writer.old writer.new (asked_front event.now) }
+{
+    let service = u64::from(event.service);
+    write_parts(
+        alloc,
+        writer,
+        &[
+            Part::Open,
+            Part::OpenAt("asked"),
+            Part::Number("question", u64::from(event.question)),
+            Part::Number("class", u64::from(event.class)),
+            Part::Number("instance", u64::from(event.instance)),
+            Part::Number("service", service),
+        ],
+    )
+}
+
+/// Writes the number of an attribute, if there is one.
+fn write_number_of(
+    alloc: Global,
+    writer: &mut Writer,
+    attribute: Option<u16>,
+) -> Result<(), AllocError>
+    ensures { Adds result writer.old writer.new (number_of_attribute attribute) }
+{
+    match attribute {
+        Some(number) => write_part(alloc, writer, Part::Number("attribute", u64::from(number))),
+        None => Ok(()),
+    }
 }
 
 /// The line of a set, with its newline. If the type is known and the bytes are values of it, it has the values.

@@ -27,7 +27,7 @@ pub struct DescribedAttribute<'a> {
 
 /// An object as the first line describes it.
 #[derive(Clone, Copy, Debug)]
-pub struct DescribedObject<'a> {
+pub struct DescribedObject<'a, 'b> {
     /// Its class.
     pub class: u16,
     /// Its instance number.
@@ -35,12 +35,12 @@ pub struct DescribedObject<'a> {
     /// A name for people.
     pub name: Option<&'a str>,
     /// Its attributes.
-    pub attributes: &'a [DescribedAttribute<'a>],
+    pub attributes: &'b [DescribedAttribute<'a>],
 }
 
 /// The device, as the first line describes it.
 #[derive(Clone, Copy, Debug)]
-pub struct HelloEvent<'a> {
+pub struct HelloEvent<'a, 'b, 'c> {
     /// The vendor ID.
     pub vendor: u16,
     /// The product code.
@@ -49,8 +49,10 @@ pub struct HelloEvent<'a> {
     pub serial: u32,
     /// The product name.
     pub name: &'a str,
+    /// The life of its command ledger, which tells apart the tickets of two runs. `None` if it has no ledger.
+    pub life: Option<u64>,
     /// The objects.
-    pub objects: &'a [DescribedObject<'a>],
+    pub objects: &'c [DescribedObject<'a, 'b>],
 }
 
 /// How much of the attributes the first line has.
@@ -75,16 +77,17 @@ pub(crate) enum Detail {
 ///     product_code: 7,
 ///     serial: 42,
 ///     name: "Demo",
+///     life: Some(9),
 ///     objects: &[conveyor],
 /// })?;
-/// // {"hello":{"vendor":1,"product_code":7,"serial":42,"name":"Demo","objects":[{"class":768,"instance":1,
+/// // {"hello":{"vendor":1,"product_code":7,"serial":42,"name":"Demo","life":9,"objects":[{"class":768,"instance":1,
 /// // "name":"conveyor","attributes":[{"attribute":3,"name":"speed","type":"UINT","data":"dc05"}]}]}}
 /// ```
 ///
 /// # Errors
 ///
 /// `TooLong` if it has more than 64 KiB without attributes, `Memory` if memory is refused.
-pub fn write_hello(alloc: Global, hello: &HelloEvent<'_>) -> Result<Vec<u8>, EventFault>
+pub fn write_hello(alloc: Global, hello: &HelloEvent<'_, '_, '_>) -> Result<Vec<u8>, EventFault>
     ensures { IsWritten (hello_json (hello_detail hello.now) hello.now) result }
 {
     match write_with(alloc, Detail::Values, hello) {
@@ -95,7 +98,7 @@ pub fn write_hello(alloc: Global, hello: &HelloEvent<'_>) -> Result<Vec<u8>, Eve
 }
 
 /// The first line without `data`, or, if that is too long, without `attributes`.
-fn write_without_data(alloc: Global, hello: &HelloEvent<'_>) -> Result<Vec<u8>, EventFault>
+fn write_without_data(alloc: Global, hello: &HelloEvent<'_, '_, '_>) -> Result<Vec<u8>, EventFault>
     ensures { IsWritten (hello_json (shorter_detail hello.now) hello.now) result }
 {
     match write_with(alloc, Detail::Types, hello) {
@@ -106,7 +109,11 @@ fn write_without_data(alloc: Global, hello: &HelloEvent<'_>) -> Result<Vec<u8>, 
 }
 
 /// The first line with this much of the attributes.
-fn write_with(alloc: Global, detail: Detail, hello: &HelloEvent<'_>) -> Result<Vec<u8>, EventFault>
+fn write_with(
+    alloc: Global,
+    detail: Detail,
+    hello: &HelloEvent<'_, '_, '_>,
+) -> Result<Vec<u8>, EventFault>
     ensures { IsWritten (hello_json detail hello.now) result }
 {
     let mut writer = begin_line(alloc)?;
@@ -124,7 +131,7 @@ fn write_with(alloc: Global, detail: Detail, hello: &HelloEvent<'_>) -> Result<V
 fn write_device(
     alloc: Global,
     writer: &mut Writer,
-    hello: &HelloEvent<'_>,
+    hello: &HelloEvent<'_, '_, '_>,
 ) -> Result<(), AllocError>
     ensures { Adds result writer.old writer.new (hello_head hello.now) }
 {
@@ -138,6 +145,7 @@ fn write_device(
             Part::Number("product_code", u64::from(hello.product_code)),
             Part::Number("serial", u64::from(hello.serial)),
             Part::Text("name", hello.name),
+            Part::MaybeNumber("life", hello.life),
             Part::ListAt("objects"),
         ],
     )
@@ -148,7 +156,7 @@ fn write_objects(
     alloc: Global,
     writer: &mut Writer,
     detail: Detail,
-    objects: &[DescribedObject<'_>],
+    objects: &[DescribedObject<'_, '_>],
 ) -> Result<(), AllocError>
     ensures { Adds result writer.old writer.new (flat_map (λ o. json_tokens (object_json detail o)) objects.now) }
 {
@@ -163,7 +171,7 @@ fn write_object(
     alloc: Global,
     writer: &mut Writer,
     detail: Detail,
-    object: &DescribedObject<'_>,
+    object: &DescribedObject<'_, '_>,
 ) -> Result<(), AllocError>
     ensures { Adds result writer.old writer.new (json_tokens (object_json detail object.now)) }
 {
@@ -177,7 +185,7 @@ fn write_object(
 fn write_numbers(
     alloc: Global,
     writer: &mut Writer,
-    object: &DescribedObject<'_>,
+    object: &DescribedObject<'_, '_>,
 ) -> Result<(), AllocError>
     ensures { Adds result writer.old writer.new (object_head object.now) }
 {

@@ -1,10 +1,16 @@
 //! What follows from the definitions of this crate. The functions do nothing: their clauses are the laws.
 
-ghost use Rattle.std.specs.Prelude.{◌≡◌, ℕ, List, [], false};
+ghost use Rattle.std.specs.Prelude.{◌≡◌, ℕ, List, [], ◌∷◌, false, Result};
 ghost use Rattle.std.specs.List.{flat_map};
-ghost use Rattle.enip_commands.specs.InputLines.{has_newline};
+ghost use Rattle.json.specs.Json.{Json};
+ghost use Rattle.json.specs.Print.{print};
+ghost use Rattle.json.specs.Tree.{json_tokens};
+ghost use Rattle.enip_lines.specs.InputLines.{has_newline};
+ghost use Rattle.enip_owner.specs.declared.owner_fault.OwnerFault.{OwnerFault};
+ghost use Rattle.enip_owner.specs.Events.{IsLineOf};
 ghost use Rattle.enip_owner.specs.HandOvers.{order_law, session_law, none_skipped_law, again_law, done_law};
-ghost use Rattle.enip_owner.specs.Streams.{no_line, lines_of, lines_of_pieces};
+ghost use Rattle.enip_owner.specs.Requests.{Request, Says};
+ghost use Rattle.enip_owner.specs.Streams.{Line, no_line, lines_of, lines_of_pieces};
 
 /// However a stream is cut, the same lines come out of it.
 pub fn cuts_do_not_matter()
@@ -14,6 +20,16 @@ pub fn cuts_do_not_matter()
 /// A line that has not ended is not a line: bytes without a newline have none.
 pub fn unended_line_is_none()
     ensures { (bytes : List ℕ) → has_newline bytes ≡ false → lines_of bytes ≡ [] }
+{}
+
+/// A line that the device writes is one line of its stream, and has the text that was written.
+pub fn written_line_is_one()
+    ensures { (j : Json) → (line : List ℕ) → IsLineOf j line → lines_of line ≡ Line (print (json_tokens j)) ∷ [] }
+{}
+
+/// A line of an owner says one thing: one request, or one reason why it is refused.
+pub fn line_says_one_thing()
+    ensures { (line : List ℕ) → (one other : Result Request OwnerFault) → Says line one → Says line other → one ≡ other }
 {}
 
 /// In a session, commands are handed over in the order of their tickets, each once.

@@ -4,8 +4,8 @@
 //! - A [`LineBuffer`] takes the bytes of a stream, however they are cut, and gives its lines.
 //! - [`read_request`] reads a line of the owner as an [`OwnerRequest`], or says why it is refused. [`values_as_bytes`]
 //!   gives the bytes of values in such a line.
-//! - [`write_hello`], [`write_changed`], [`write_command`], [`write_ended`], [`write_value`], [`write_ok`] and
-//!   [`write_error`] write the lines of the device.
+//! - [`write_hello`], [`write_changed`], [`write_command`], [`write_asked`], [`write_ended`], [`write_value`],
+//!   [`write_ok`] and [`write_error`] write the lines of the device.
 //! - [`is_token`] compares the first line of an owner with the token that it must have.
 //! - A [`HandOver`] says which of the waiting commands the owner is handed next.
 //!
@@ -43,8 +43,8 @@ mod written_values;
 
 pub use attribute_ref::AttributeRef;
 pub use event::{
-    ChangedEvent, CommandEvent, EndedEvent, ValueEvent, write_changed, write_command, write_ended,
-    write_error, write_ok, write_value,
+    AskedEvent, ChangedEvent, CommandEvent, EndedEvent, ValueEvent, write_asked, write_changed,
+    write_command, write_ended, write_error, write_ok, write_value,
 };
 pub use event_fault::EventFault;
 pub use hand_over::{HandOver, HandedOver};

@@ -96,14 +96,26 @@ impl LineBuffer {
         self.text.as_slice()
     }
 
+    /// Begins another stream: what was fed of a line is dropped.
+    ///
+    /// ```
+    /// buffer.feed(b"{\"sta"); // the owner leaves, and another one comes
+    /// buffer.clear();
+    /// ```
+    pub fn clear(&mut self)
+        ensures { self.new ≡ no_line }
+    {
+        self.text.clear();
+        self.is_long = false;
+        self.has_ended = false;
+    }
+
     /// Begins the next line, if this one has ended.
     fn begin(&mut self)
         ensures { self.new ≡ begun self.old }
     {
         if self.has_ended {
-            self.text.clear();
-            self.is_long = false;
-            self.has_ended = false;
+            self.clear();
         }
     }
 

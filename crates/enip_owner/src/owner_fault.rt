@@ -12,16 +12,20 @@ use thiserror::Error;
 pub enum RequestKey {
     /// `done`: a command was executed.
     Done,
+    /// `answer`: the reply to a request that was asked.
+    Answer,
     /// `write`: an attribute gets a value.
     Write,
     /// `read`: the value of an attribute is wanted.
     Read,
-    /// `status`: the status word of the device, or the general status of a command.
+    /// `status`: the status word of the device, or the general status of a reply.
     Status,
     /// `state`: the state of the device.
     State,
     /// `ticket`: which command.
     Ticket,
+    /// `question`: which request that was asked.
+    Question,
     /// `data`: bytes in hexadecimal.
     Data,
     /// `values`: values of the attribute's type.
@@ -41,11 +45,13 @@ impl RequestKey {
     {
         match self {
             RequestKey::Done => "done",
+            RequestKey::Answer => "answer",
             RequestKey::Write => "write",
             RequestKey::Read => "read",
             RequestKey::Status => "status",
             RequestKey::State => "state",
             RequestKey::Ticket => "ticket",
+            RequestKey::Question => "question",
             RequestKey::Data => "data",
             RequestKey::Values => "values",
             RequestKey::Class => "class",
@@ -74,13 +80,13 @@ pub enum OwnerFault {
     /// An object has a key twice.
     #[error("an object has a key twice")]
     DoubledKey,
-    /// The line is not an object with one of the five keys and no other.
-    #[error("expected an object with one key: done, write, read, status or state")]
+    /// The line is not an object with one of the six keys and no other.
+    #[error("expected an object with one key: done, answer, write, read, status or state")]
     NotRequest,
-    /// The value of `done`, `write` or `read` is not an object.
+    /// The value of `done`, `answer`, `write` or `read` is not an object.
     #[error("{0}: expected an object")]
     NotObject(RequestKey),
-    /// The object of `done`, `write` or `read` has a key that is not known there.
+    /// The object of `done`, `answer`, `write` or `read` has a key that is not known there.
     #[error("{0}: unknown key")]
     UnknownKey(RequestKey),
     /// A key is missing.

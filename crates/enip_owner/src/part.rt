@@ -36,6 +36,8 @@ pub(crate) enum Part<'a> {
     EndList,
     /// A number, as the value of a key.
     Number(&'a str, u64),
+    /// The same, or nothing.
+    MaybeNumber(&'a str, Option<u64>),
     /// A text, as the value of a key.
     Text(&'a str, &'a str),
     /// The same, or nothing.
@@ -112,15 +114,17 @@ pub(crate) fn write_part(
         Part::ListAt(name) => write_member(writer, name, Token::BeginArray),
         Part::EndList => write_token(writer, Token::EndArray),
         Part::Number(name, number) => write_number(writer, name, number),
+        Part::MaybeNumber(name, Some(number)) => write_number(writer, name, number),
         Part::Text(name, text) => write_member(writer, name, Token::String(text)),
         Part::MaybeText(name, Some(text)) => write_member(writer, name, Token::String(text)),
         Part::Bytes(name, bytes) => write_bytes(alloc, writer, name, bytes),
         Part::MaybeBytes(name, Some(bytes)) => write_bytes(alloc, writer, name, bytes),
         Part::Truth(name, truth) => write_member(writer, name, Token::Bool(truth)),
         Part::MaybeAddress(name, Some(address)) => write_address(alloc, writer, name, address),
-        Part::MaybeText(_, None) | Part::MaybeBytes(_, None) | Part::MaybeAddress(_, None) => Ok(
-            (),
-        ),
+        Part::MaybeNumber(_, None)
+        | Part::MaybeText(_, None)
+        | Part::MaybeBytes(_, None)
+        | Part::MaybeAddress(_, None) => Ok(()),
     }
 }
 

@@ -6,7 +6,7 @@ ghost use Rattle.json.specs.Value.{value_view, items_view, members_view};
 ghost use Rattle.enip_owner.specs.Requests.{Says, IsRefusal, Gives, request_in, given_in, key_name};
 ghost use Rattle.enip_owner.specs.Requests.{number_in, number_at, bytes_in, bytes_found};
 ghost use Rattle.enip_owner.specs.Requests.{value_given, items_given, values_given, is_known, are_known, checked, attribute_in};
-ghost use Rattle.enip_owner.specs.Requests.{done_in, content_in, write_in, read_in, status_in, state_in, member_in, only_member, request_of};
+ghost use Rattle.enip_owner.specs.Requests.{done_in, answer_in, content_in, write_in, read_in, status_in, state_in, member_in, only_member, request_of};
 ghost use Rattle.enip_owner.specs.Reading.{IsParsed};
 
 use crate::attribute_ref::AttributeRef;
@@ -14,7 +14,7 @@ use crate::owner_fault::{OwnerFault, RequestKey};
 use crate::request::{GivenValue, OwnerRequest};
 use cip_application::VALUE_LIMIT;
 use cip_owner::{OWNER_REPLY_LIMIT, OwnerReply};
-use enip_commands::decimal;
+use enip_lines::decimal;
 use hex::FromHexError;
 use json::{Error, Scratch, Value};
 use std::alloc::Global;
@@ -97,6 +97,7 @@ fn member_of<'a>(
 {
     match name {
         "done" => done_of(alloc, value),
+        "answer" => answer_of(alloc, value),
         "write" => write_of(alloc, value),
         "read" => read_of(value),
         "status" => status_of(value),
@@ -120,6 +121,25 @@ fn done_of<'a>(alloc: Global, value: &Value<'a>) -> Result<OwnerRequest<'a>, Own
     let bytes = reply_bytes(alloc, value)?;
     match OwnerReply::new(status, bytes.as_slice()) {
         Some(reply) => Ok(OwnerRequest::Done { ticket, reply }),
+        None => Err(OwnerFault::TooManyBytes),
+    }
+}
+
+/// What the value of `answer` says.
+#[tactic(auto, unfolding(crate::specs::Requests::answer_in))]
+fn answer_of<'a>(alloc: Global, value: &Value<'a>) -> Result<OwnerRequest<'a>, OwnerFault>
+    ensures { Gives request_in result (answer_in (value_view value.now)) }
+{
+    check(
+        RequestKey::Answer,
+        &[RequestKey::Question, RequestKey::Status, RequestKey::Data],
+        value,
+    )?;
+    let question = number_at(RequestKey::Question, u32::MAX, value)?;
+    let status = number_at(RequestKey::Status, 255, value)? as u8;
+    let bytes = reply_bytes(alloc, value)?;
+    match OwnerReply::new(status, bytes.as_slice()) {
+        Some(reply) => Ok(OwnerRequest::Answer { question, reply }),
         None => Err(OwnerFault::TooManyBytes),
     }
 }

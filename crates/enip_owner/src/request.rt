@@ -13,6 +13,13 @@ pub enum OwnerRequest<'a> {
         /// The general status, and the data.
         reply: OwnerReply,
     },
+    /// The request that was asked has this reply: `{"answer":{"question":3,"status":0,"data":"05"}}`.
+    Answer {
+        /// The number of the question.
+        question: u32,
+        /// The general status, and the data.
+        reply: OwnerReply,
+    },
     /// An attribute gets a value: `{"write":{"class":4,"instance":100,"attribute":3,"data":"dc05"}}`.
     WriteData {
         /// The attribute.

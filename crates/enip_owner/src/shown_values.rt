@@ -7,7 +7,7 @@ ghost use Rattle.enip_owner.specs.Events.{IsShownAs, IsScalarJson, IsNumberJson}
 ghost use Rattle.enip_owner.specs.Shown.{AddsOne, AddsValues, AddsShown};
 
 use cip_values::{Value, ValueFault, ValueType, read_values};
-use enip_commands::json_of;
+use enip_lines::json_of;
 use json::Writer;
 use serde_json::{Number, Value as Scalar};
 use std::alloc::{AllocError, Global};

@@ -10,7 +10,7 @@ use Rattle.cip_bytes.specs.declared.protocol.TheConstants.{UNCONNECTED_LIMIT}
 use Rattle.cip_message.specs.PathReading.{path_of, class_of, instance_of, attribute_of, member_of, whole_of, segment_of}
 use Rattle.cip_message.specs.Request.{Request, request_of}
 use Rattle.cip_ledger.specs.declared.service.TheConstants as services
-use Rattle.cip_ledger.specs.Device.{exec_device, run}
+use Rattle.cip_ledger.specs.Device.{exec_device, run, owned_standing}
 use Rattle.cip_ledger.specs.Runs.{Request as LedgerRequest, next, node_after}
 use Rattle.cip_ledger.proofs.Devices.{run-ends}
 use Rattle.cip_owner.specs.Owned.{OwnedState}
@@ -490,7 +490,7 @@ device-ended a peer = device-same a (Ends_peer peer) tt refl
 
 -- The device after a call that is no write of its own: a run of the requests in its frames.
 pub device-run : (a : AdapterState) (call : Call) → IsNoWrite call → (after_call a call).state.shared.objects
-    ≡ node_after objects_after objects_answer a.state.shared.objects (requests_of_calls a (call ∷ []))
+    ≡ node_after objects_after objects_answer owned_standing a.state.shared.objects (requests_of_calls a (call ∷ []))
 device-run a call free =
     calls-run a (call ∷ []) (free, tt) ∙ run-ends a.state.shared.objects (requests_of_calls a (call ∷ []))
 
@@ -499,8 +499,8 @@ abbrev pub others_requests : List LedgerRequest → List Event
 others_requests requests = map (λ request. Other request.0 request.1) requests
 
 pub others-run : (ends : BothEnds OwnedState) (requests : List LedgerRequest) →
-    fold (ends_step objects_after objects_answer) ends (others_requests requests)
-    ≡ record ends { device = node_after objects_after objects_answer ends.device requests }
+    fold (ends_step objects_after objects_answer owned_standing) ends (others_requests requests)
+    ≡ record ends { device = node_after objects_after objects_answer owned_standing ends.device requests }
 others-run ends [] = refl
 others-run ends (request ∷ requests) =
-    others-run (record ends { device = next objects_after objects_answer ends.device request }) requests
+    others-run (record ends { device = next objects_after objects_answer owned_standing ends.device request }) requests

@@ -18,10 +18,12 @@ use Rattle.cip_commander.proofs.Images.{IsSound, image, step-sound, opening-soun
 use Rattle.cip_commander.proofs.Logged.{IsExecuted, after-logged}
 use Rattle.cip_commander.proofs.Numbered.{after-numbered}
 use Rattle.cip_commander.proofs.Rising.{all_second}
+use Rattle.cip_ledger.specs.Device.{owned_standing}
 use Rattle.cip_ledger.specs.Ledger.{LedgerState}
 use Rattle.cip_ledger.specs.Requests.{Command, is_barred}
 use Rattle.cip_ledger.specs.Runs.{answer_to}
 use Rattle.cip_ledger.specs.Services.{KEPT_LIMIT, HEAD_SIZE}
+use Rattle.cip_ledger.proofs.Finals.{final-embedded}
 use Rattle.cip_message.specs.Reply.{reply_of}
 use Rattle.cip_ledger.specs.Turn.{Turn, embedded_reply}
 use Rattle.cip_owner.specs.Owned.{OwnedState}
@@ -31,6 +33,7 @@ use Rattle.enip_adapter.proofs.ListLemmas.{both}
 use Rattle.enip_reconnect.specs.Laws.{MessageEvent, message_ends, numbered_world, opening_in_messages}
 use Rattle.enip_reconnect.specs.Retry.{HasSlotFor}
 use Rattle.enip_reconnect.specs.World.{Opening}
+use Rattle.enip_reconnect.proofs.Finals.{opening-final}
 
 -- The reply to an embedded request is short.
 embedded-short : (objects : OwnedState) (request : List ℕ) →
@@ -102,31 +105,31 @@ module _ (opening : Opening) (range : IsInRange opening.commander) where
   own = opening.commander.originator
 
   abbrev device_of : NumberedWorld → Device OwnedState
-  device_of world = device_after objects_after objects_answer start world.log
+  device_of world = device_after objects_after objects_answer owned_standing start world.log
 
   executed-not-later : (events : List MessageEvent) (number : ℕ) (reply : List ℕ) →
-      IsExecuted objects_after objects_answer start (numbered_world opening events).log number reply →
+      IsExecuted objects_after objects_answer owned_standing start (numbered_world opening events).log number reply →
       (number ≤ (numbered_world opening events).commander.last_number) × (length reply ≤ KEPT_LIMIT)
   executed-not-later events number reply is =
       let world : NumberedWorld = numbered_world opening events in
-      let numbered = after-numbered objects_after objects_answer start events in
+      let numbered = after-numbered objects_after objects_answer owned_standing start events in
       let later = all_second (WasGiven world.given) is.earlier (Own number is.request ∷ is.later)
       (subst (AllByRecursion (WasGiven world.given)) is.place numbered.log) in (
         among-below world.commander.last_number world.given number is.request numbered.given.below later.0,
         subst (λ r. length r ≤ KEPT_LIMIT) (sym is.reply_is)
-            (embedded-short (device_after objects_after objects_answer start is.earlier).router is.request),
+            (embedded-short (device_after objects_after objects_answer owned_standing start is.earlier).router is.request),
       )
 
   -- The last number of the device is that of the log.
   abbrev IsLast : Option (ℕ × List ℕ) → List Entry → Type 0
   IsLast None log = numbers_in log ≡ []
-  IsLast (Some last) log = IsExecuted objects_after objects_answer start log last.0 last.1
+  IsLast (Some last) log = IsExecuted objects_after objects_answer owned_standing start log last.0 last.1
       × AllByRecursion (λ other. other ≤ last.0) (numbers_in log)
 
   not-later : (events : List MessageEvent) →
       IsNotLater (numbered_world opening events).commander.last_number (device_of (numbered_world opening events)).last
   not-later events = by (device_of (numbered_world opening events)).last
-      (after-logged objects_after objects_answer start events).last
+      (after-logged objects_after objects_answer owned_standing start events).last
     where
       log : List Entry
       log = (numbered_world opening events).log
@@ -136,13 +139,13 @@ module _ (opening : Opening) (range : IsInRange opening.commander) where
       by None is = tt
       by (Some last) is = executed-not-later events last.0 last.1 is.0
 
-  run-sound : (events : List MessageEvent) (world : NumberedWorld) → IsSound objects_after objects_answer start range world →
+  run-sound : (events : List MessageEvent) (world : NumberedWorld) → IsSound objects_after objects_answer owned_standing start range world →
       AllByRecursion (IsOthers own) events →
-      IsSound objects_after objects_answer start range (fold (world_step objects_after objects_answer start) world events)
+      IsSound objects_after objects_answer owned_standing start range (fold (world_step objects_after objects_answer owned_standing start) world events)
   run-sound [] world sound others = sound
   run-sound (event ∷ events) world sound others =
-      run-sound events (world_step objects_after objects_answer start world event)
-      (step-sound objects_after objects_answer start range world event sound others.0) others.1
+      run-sound events (world_step objects_after objects_answer owned_standing start world event)
+      (step-sound objects_after objects_answer owned_standing start range world event sound others.0) others.1
 
 -- ---- the answer
 
@@ -155,7 +158,7 @@ done_outcome reply =
 -- The device answers the message of this request: the command is done.
 pub record IsAnsweredDone (ends : BothEnds OwnedState) (request : List ℕ) : Type 0 where
   pub reply : List ℕ
-  pub outcome : outcome_of_text (answer_to objects_after objects_answer ends.device
+  pub outcome : outcome_of_text (answer_to objects_after objects_answer owned_standing ends.device
       (UNCONNECTED_LIMIT, message_of ends.commander request)) ≡ Done reply
 
 -- It does so by what happens when the command arrives.
@@ -181,7 +184,7 @@ module _ (opening : Opening) (range : IsInRange opening.commander) (events : Lis
   its_device = device_of opening range world
 
   abbrev both_ends : BothEnds OwnedState
-  both_ends = image objects_after objects_answer (opening_in_messages opening) range world
+  both_ends = image objects_after objects_answer owned_standing (opening_in_messages opening) range world
 
   -- The message as a command of the opening's life and originator.
   abbrev as_given : Command
@@ -192,9 +195,9 @@ module _ (opening : Opening) (range : IsInRange opening.commander) (events : Lis
     request = request;
   }
 
-  sound : IsSound objects_after objects_answer (opening_in_messages opening) range world
+  sound : IsSound objects_after objects_answer owned_standing (opening_in_messages opening) range world
   sound = run-sound opening range events (world_at (opening_in_messages opening))
-      (opening-sound objects_after objects_answer (opening_in_messages opening) range) others
+      (opening-sound objects_after objects_answer owned_standing (opening_in_messages opening) range (opening-final opening)) others
 
   same-message : message_of world.commander request ≡ do_once as_given
   same-message =
@@ -224,11 +227,13 @@ module _ (opening : Opening) (range : IsInRange opening.commander) (events : Lis
       record {
         reply = said.reply;
         outcome =
-            ap (λ message. outcome_of_text (answer_to objects_after objects_answer both_ends.device
+            ap (λ message. outcome_of_text (answer_to objects_after objects_answer owned_standing both_ends.device
             (UNCONNECTED_LIMIT, message))) same-message
             ∙ (ap (λ (done : Turn OwnedState). outcome_of_text done.answer)
-            (arrival-turn objects_after objects_answer its_device.ledger its_device.router opening.commander.life own number
-            request UNCONNECTED_LIMIT its_device.last sound.placed (is-command pending))
+            (arrival-turn objects_after objects_answer owned_standing its_device.ledger its_device.router opening.commander.life own number
+            request UNCONNECTED_LIMIT
+            (final-embedded objects_after objects_answer owned_standing its_device.router request sound.final)
+            its_device.last sound.placed (is-command pending))
             ∙ said.outcome);
       }
 
@@ -237,7 +242,8 @@ module _ (opening : Opening) (range : IsInRange opening.commander) (events : Lis
       HasSlotFor opening.commander.originator ledger → IsAnsweredDone (message_ends opening events) request
   answered-done ledger pending ledger_is life slot =
       let same : message_ends opening events ≡ both_ends =
-      worlds-image objects_after objects_answer (opening_in_messages opening) range events others in
+      worlds-image objects_after objects_answer owned_standing (opening_in_messages opening) range events
+      (opening-final opening) others in
       let found : Some ledger ≡ Some (filled_by opening.commander.originator its_device.last its_device.ledger) =
       sym ledger_is ∙ ap (λ (x : BothEnds OwnedState). x.device.ledger) same in
       let it : ledger ≡ filled_by opening.commander.originator its_device.last its_device.ledger = cc in

@@ -8,6 +8,7 @@ use Rattle.cip_commander.specs.CommanderRule.{do_once}
 use Rattle.cip_commander.specs.Laws.{request_in}
 use Rattle.cip_commander.specs.Worlds.{BothEnds, ends_reach}
 use Rattle.cip_commander.specs.Worlds as messages
+use Rattle.cip_ledger.specs.Device.{owned_standing}
 use Rattle.cip_ledger.specs.Requests.{Command}
 use Rattle.cip_owner.specs.Owned.{OwnedState}
 use Rattle.enip_adapter.specs.Calls.{AdapterState, Call, call_answer, after_call}
@@ -49,7 +50,7 @@ reach-image : (ends : Ends) (sent back : List (ℕ × List ℕ)) (position : ℕ
     slice_get sent position ≡ Some (command.number, do_once command) →
     message_run (in_messages ends sent back) (messages.Reach position UNCONNECTED_LIMIT ∷ []) ≡ reached ends sent back command
 reach-image ends sent back position command at =
-    ap (ends_reach objects_after objects_answer (in_messages ends sent back) UNCONNECTED_LIMIT) at
+    ap (ends_reach objects_after objects_answer owned_standing (in_messages ends sent back) UNCONNECTED_LIMIT) at
 
 -- After a call of the adapter that has this message reach the device.
 reaches : (own : ℕ) (before after : Ends) (call : Call) (sent back : List (ℕ × List ℕ)) (position : ℕ) (command : Command) →

@@ -2,6 +2,9 @@
 use Rattle.std.proofs.Common.{◌≡◌, ℕ, ◌+◌, ◌*◌, ◌≤◌, nat_lt, Bool, true, false, if◌then◌else◌, List, [], ◌∷◌, length}
 use Rattle.std.proofs.Common.{slice_index, Option, Some, None, Result, Ok, Err, refl, sym, ap, subst, ◌∙◌, arith}
 use Rattle.std.proofs.lemmas.Bool.{le-ltb, ltb-false}
+use Rattle.cip_application.specs.declared.config.ServiceKind.{ServiceKind}
+use Rattle.cip_application.specs.declared.config.ServiceKind.TheVariants as kinds
+use Rattle.cip_bytes.specs.Numbers.{le}
 use Rattle.cip_bytes.specs.Reading.{◌>>=◌}
 use Rattle.cip_bytes.specs.Protocol.{general_status_number}
 use Rattle.cip_message.specs.Reply.{Reply, reply_of, reply_of_fields, reply_service}
@@ -13,9 +16,12 @@ use Rattle.cip_objects.specs.Status.{completion_status, refusal_status}
 use Rattle.cip_objects.specs.declared.status.Refusal.{Refusal}
 use Rattle.cip_objects.specs.OwnRequests.{Asked, own_request}
 use Rattle.cip_owner.specs.Replies.{Reply as OwnReply}
-use Rattle.cip_owner.specs.Owned.{OwnedState, Executed as Done, exec_owned, by_owner, given, is_fit, NOT_PREPARED}
-use Rattle.cip_ledger.specs.Device.{Device, exec_device}
-use Rattle.cip_ledger.specs.Services.{Replies, Executes, Frees}
+use Rattle.cip_owner.specs.Owned.{OwnedState, Executed as Done, exec_owned, by_owner, of_kind, given, is_fit, queued, result_answer, outcome_answer, answer_with}
+use Rattle.cip_owner.specs.Owned.{NOT_PREPARED, RESOURCE_UNAVAILABLE, UNKNOWN_OBJECT}
+use Rattle.cip_owner.specs.Queue.{QueueState, QueueOutcome, takes, result_of}
+use Rattle.cip_owner.specs.Queue as queues
+use Rattle.cip_ledger.specs.Device.{Device, owned_standing, exec_device}
+use Rattle.cip_ledger.specs.Services.{Replies, Executes, Queues, Frees}
 use Rattle.cip_ledger.specs.Status.{status_number}
 use Rattle.cip_ledger.specs.Turn.{Fate, Passed, Served, fate, turn_by}
 use Rattle.cip_ledger.proofs.Devices.{after, answer, exec_device-begins, exec_device-within}
@@ -60,24 +66,44 @@ given-plain w service asked (Some reply) =
     (record { service = reply_service service; status = reply.status; content = reply.content; spelled = refl })
     (record { service = reply_service service; status = NOT_PREPARED; content = []; spelled = refl })
 
+plain-with : (service status : ℕ) (content : List ℕ) → IsPlain (answer_with service status content)
+plain-with service status content =
+    record { service = reply_service service; status = status; content = content; spelled = refl }
+
+queued-plain : (w : OwnedState) (service : ℕ) (asked : Asked) (queue : Option QueueState) →
+    IsPlain (queued w service asked queue).answer
+queued-plain w service asked None = plain-with service RESOURCE_UNAVAILABLE []
+queued-plain w service asked (Some queue) =
+    both (λ (done : Done). IsPlain done.answer) (takes queue asked) _ _ (plain-with service 0 (le 4 queue.next))
+    (plain-with service RESOURCE_UNAVAILABLE [])
+
+outcome-plain : (max_size service : ℕ) (outcome : QueueOutcome) → IsPlain (outcome_answer max_size service outcome)
+outcome-plain max_size service queues.Pending = plain-with service 0 (1 ∷ [])
+outcome-plain max_size service (queues.Done result) =
+    both IsPlain (nat_lt max_size (6 + length result.content)) _ _ (plain-with service REPLY_TOO_LARGE [])
+    (plain-with service 0 (0 ∷ result.status ∷ result.content))
+outcome-plain max_size service queues.Unknown = plain-with service UNKNOWN_OBJECT []
+
+result-plain : (max_size service : ℕ) (asked : Asked) (queue : Option QueueState) →
+    IsPlain (result_answer max_size service asked queue)
+result-plain max_size service asked None = plain-with service UNKNOWN_OBJECT []
+result-plain max_size service asked (Some queue) = outcome-plain max_size service (result_of queue asked)
+
+kind-plain : (kind : ServiceKind) (w : OwnedState) (max_size service : ℕ) (asked : Asked) →
+    IsPlain (of_kind kind w max_size service asked).answer
+kind-plain kinds.Asked w max_size service asked =
+    both (λ (done : Done). IsPlain done.answer) (nat_lt max_size (4 + asked.reply_limit)) _ _
+    (plain-with service REPLY_TOO_LARGE []) (given-plain w service asked w.prepared)
+kind-plain kinds.Queued w max_size service asked = queued-plain w service asked w.queue
+kind-plain kinds.Result w max_size service asked = result-plain max_size service asked w.queue
+
 by-owner-plain : (w : OwnedState) (max_size : ℕ) (request : List ℕ) (own : Option (Result Asked Refusal)) →
     IsPlain (by_owner w max_size request own).answer
 by-owner-plain w max_size request None = exec-plain w.objects max_size request
-by-owner-plain w max_size request (Some (Err why)) = record {
-  service = reply_service (slice_index request 0);
-  status = general_status_number (refusal_status why);
-  content = [];
-  spelled = refl;
-}
+by-owner-plain w max_size request (Some (Err why)) =
+    plain-with (slice_index request 0) (general_status_number (refusal_status why)) []
 by-owner-plain w max_size request (Some (Ok asked)) =
-    both (λ (done : Done). IsPlain done.answer) (nat_lt max_size (4 + asked.reply_limit)) _ _
-    (record {
-      service = reply_service (slice_index request 0);
-      status = REPLY_TOO_LARGE;
-      content = [];
-      spelled = refl;
-    })
-    (given-plain w (slice_index request 0) asked w.prepared)
+    kind-plain asked.kind w max_size (slice_index request 0) asked
 
 owned-plain : (w : OwnedState) (max_size : ℕ) (request : List ℕ) → IsPlain (answer w max_size request)
 unfolding exec_owned
@@ -94,6 +120,8 @@ turn-plain (Served service (Replies reply)) device max_size request =
       spelled = refl;
     }
 turn-plain (Served service (Executes command)) device max_size request =
+    record { service = reply_service service; status = 0; content = _; spelled = refl }
+turn-plain (Served service (Queues command ticket)) device max_size request =
     record { service = reply_service service; status = 0; content = _; spelled = refl }
 turn-plain (Served service (Frees originator)) device max_size request =
     record { service = reply_service service; status = 0; content = []; spelled = refl }
@@ -137,6 +165,6 @@ pub exec_device-taken : (device : Device) (request : List ℕ) → 2 ≤ length 
     IsTaken (slice_index request 0) (exec_device device 504 request).answer
 exec_device-taken device request long =
     plain-taken (slice_index request 0) (exec_device device 504 request).answer
-    (turn-plain (fate device.ledger 504 request) device 504 request)
+    (turn-plain (fate owned_standing device.ledger device.router 504 request) device 504 request)
     (exec_device-begins device 504 request (omega arith) long).service
     (exec_device-within device 504 request (omega arith))

@@ -10,7 +10,7 @@ use Rattle.cip_commander.proofs.Journals.{log-journal}
 use Rattle.cip_commander.proofs.Logged.{IsExecuted, after-logged, grows_above, once}
 use Rattle.cip_commander.proofs.Numbered.{after-numbered}
 use Rattle.cip_commander.proofs.Rising.{all_at, all_map}
-use Rattle.cip_ledger.specs.Device.{Device}
+use Rattle.cip_ledger.specs.Device.{Device, owned_standing}
 use Rattle.cip_ledger.specs.Runs.{journal}
 use Rattle.cip_owner.specs.Owned.{OwnedState}
 use Rattle.enip_adapter.specs.DeviceRuns.{objects_after, objects_answer}
@@ -20,6 +20,7 @@ use Rattle.enip_reconnect.specs.Laws.{opening_in_messages}
 use Rattle.enip_reconnect.specs.Laws.{messages_law, worlds_law, journal_law, rising_law, given_law, accepted_law}
 use Rattle.enip_reconnect.specs.Laws.{accepted_once_law, never_again_law}
 use Rattle.enip_reconnect.specs.World.{Ends, Opening, device_at, ends_at, ends_after}
+use Rattle.enip_reconnect.proofs.Finals.{opening-final}
 
 -- ---- both worlds
 
@@ -34,7 +35,8 @@ worlds opening events message_events range amounts =
     ∙ (ap (λ commander. seen in_messages.device.router commander ends.accepted) amounts.commander
     ∙ (ap (λ accepted. seen in_messages.device.router in_messages.commander accepted) amounts.accepted
     ∙ ap (λ (s : messages.Seen OwnedState). seen s.machine s.commander s.accepted)
-    (worlds-agree objects_after objects_answer (opening_in_messages opening) range message_events amounts.others)))
+    (worlds-agree objects_after objects_answer owned_standing (opening_in_messages opening) range message_events
+    (opening-final opening) amounts.others)))
 
 -- The replies that were accepted are those of the numbered world.
 same_accepted : (opening : Opening) (events : List Event) (message_events : List MessageEvent) →
@@ -48,17 +50,18 @@ same_accepted opening events message_events range amounts =
 pub journals : journal_law
 journals opening events message_events range amounts =
     ap (λ requests. executions_in opening.commander.originator
-    (journal objects_after objects_answer (device_at opening) requests)) amounts.reached
-    ∙ log-journal objects_after objects_answer (opening_in_messages opening) range message_events amounts.others
+    (journal objects_after objects_answer owned_standing (device_at opening) requests)) amounts.reached
+    ∙ log-journal objects_after objects_answer owned_standing (opening_in_messages opening) range message_events
+    (opening-final opening) amounts.others
 
 pub rising : rising_law
 rising opening events message_events amounts =
-    (after-logged objects_after objects_answer (opening_in_messages opening) message_events).rises
+    (after-logged objects_after objects_answer owned_standing (opening_in_messages opening) message_events).rises
 
 pub given : given_law
 given opening events message_events amounts =
     let world : NumberedWorld = numbered_world opening message_events in
-    let is = after-numbered objects_after objects_answer (opening_in_messages opening) message_events in
+    let is = after-numbered objects_after objects_answer owned_standing (opening_in_messages opening) message_events in
     let P : List (ℕ × List ℕ) → Type 0 = λ given. Rises (map (λ (command : ℕ × List ℕ). command.0) given)
     × AllByRecursion (WasGiven given) world.log in
     subst P (sym amounts.given) (is.given.rises, is.log)
@@ -69,11 +72,11 @@ pub accepted : accepted_law
 accepted opening events message_events range amounts =
     let world : NumberedWorld = numbered_world opening message_events in
     let start = opening_in_messages opening in
-    let logged = after-logged objects_after objects_answer start message_events in
-    let One : ℕ × List ℕ → Type 0 = λ a. IsExecuted objects_after objects_answer start world.log a.0 a.1 in
-    let Once : ℕ × List ℕ → Type 0 = λ a. IsExecutedOnce objects_after objects_answer start world.log a.0 a.1 in
+    let logged = after-logged objects_after objects_answer owned_standing start message_events in
+    let One : ℕ × List ℕ → Type 0 = λ a. IsExecuted objects_after objects_answer owned_standing start world.log a.0 a.1 in
+    let Once : ℕ × List ℕ → Type 0 = λ a. IsExecutedOnce objects_after objects_answer owned_standing start world.log a.0 a.1 in
     subst (AllByRecursion Once) (sym (same_accepted opening events message_events range amounts))
-    (all_map One Once world.accepted (λ a is. once objects_after objects_answer start world.log a.0 a.1 logged.rises is)
+    (all_map One Once world.accepted (λ a is. once objects_after objects_answer owned_standing start world.log a.0 a.1 logged.rises is)
     logged.accepted)
 
 pub accepted_once : messages_law → accepted_once_law
@@ -82,7 +85,7 @@ accepted_once amount opening events range others =
     (subst (AreOfOthers opening.commander.originator (ends_at opening)) (sym (append-nil events)) others) in
     let P : List (ℕ × List ℕ) → Type 0 = λ accepted. Rises (map (λ (a : ℕ × List ℕ). a.0) accepted) in
     subst P (sym (same_accepted opening events to.0 range to.1.1.0))
-    (after-numbered objects_after objects_answer (opening_in_messages opening) to.0).rises
+    (after-numbered objects_after objects_answer owned_standing (opening_in_messages opening) to.0).rises
 
 pub never_again : never_again_law
 never_again opening events message_events more position number reply range amounts is =
@@ -91,7 +94,7 @@ never_again opening events message_events more position number reply range amoun
     let found : slice_get world.accepted position ≡ Some (number, reply) =
     ap (λ accepted. slice_get accepted position) (sym (same_accepted opening events message_events range amounts))
     ∙ is in
-    let One : ℕ × List ℕ → Type 0 = λ a. IsExecuted objects_after objects_answer start world.log a.0 a.1 in
-    grows_above objects_after objects_answer start message_events more number reply
+    let One : ℕ × List ℕ → Type 0 = λ a. IsExecuted objects_after objects_answer owned_standing start world.log a.0 a.1 in
+    grows_above objects_after objects_answer owned_standing start message_events more number reply
     (all_at One world.accepted position (number, reply)
-    (after-logged objects_after objects_answer start message_events).accepted found)
+    (after-logged objects_after objects_answer owned_standing start message_events).accepted found)

@@ -1,3 +1,4 @@
+pub mod Finals
 pub mod AdapterSide
 pub mod Answering
 pub mod Arriving

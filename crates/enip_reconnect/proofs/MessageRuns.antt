@@ -13,6 +13,7 @@ use Rattle.cip_commander.specs.Worlds.{BothEnds, awaits}
 use Rattle.cip_commander.specs.Worlds as messages
 use Rattle.cip_commander.proofs.Images.{IsSound, image, step-image, step-sound, opening-sound}
 use Rattle.cip_commander.proofs.Rising.{all_append}
+use Rattle.cip_ledger.specs.Device.{owned_standing}
 use Rattle.cip_owner.specs.Owned.{OwnedState}
 use Rattle.enip_adapter.specs.DeviceRuns.{objects_after, objects_answer, requests_of_calls}
 use Rattle.enip_adapter.proofs.SoundLemmas.{sound-shared}
@@ -22,6 +23,7 @@ use Rattle.enip_reconnect.specs.Laws.{IsOfOthers, AreOfOthers, MessageEvent, ope
 use Rattle.enip_reconnect.specs.Laws.{decisions_in_messages, requests_in, AmountsTo, messages_law}
 use Rattle.enip_reconnect.specs.World.{Ends, Opening, device_at, ends_at, calls_at, ends_step, ends_run}
 use Rattle.enip_reconnect.proofs.Arriving.{arrives}
+use Rattle.enip_reconnect.proofs.Finals.{opening-final}
 use Rattle.enip_reconnect.proofs.Connecting.{connects, registers-session, sends-message, inquires}
 use Rattle.enip_reconnect.proofs.Others.{breaks, end, others-call}
 use Rattle.enip_reconnect.proofs.Receiving.{receives}
@@ -51,20 +53,20 @@ record RunsTo (own : ℕ) (ends : Ends) (events : List Event) (sent back : List 
     (new_sent new_back : List (ℕ × List ℕ)) : Type 0 where
   tracks : Tracks own (ends_run ends events) new_sent new_back
   image : message_run (in_messages ends sent back) more ≡ in_messages (ends_run ends events) new_sent new_back
-  reached : requests_in ends events ≡ requests_of objects_after objects_answer (in_messages ends sent back) more
+  reached : requests_in ends events ≡ requests_of objects_after objects_answer owned_standing (in_messages ends sent back) more
   decided : decisions_in events ≡ decisions_in_messages more
   given : (ends_run ends events).given ≡ ends.given ++ given_by (in_messages ends sent back) more
   others : AllByRecursion (IsOthers own) more
 
 requests-append : (events more : List MessageEvent) (ends : BothEnds OwnedState) →
-    requests_of objects_after objects_answer ends (events ++ more)
-    ≡ requests_of objects_after objects_answer ends events
-    ++ requests_of objects_after objects_answer (message_run ends events) more
+    requests_of objects_after objects_answer owned_standing ends (events ++ more)
+    ≡ requests_of objects_after objects_answer owned_standing ends events
+    ++ requests_of objects_after objects_answer owned_standing (message_run ends events) more
 requests-append [] more ends = refl
 requests-append (event ∷ events) more ends =
-    ap (λ rest. request_of objects_after objects_answer ends event ++ rest)
+    ap (λ rest. request_of objects_after objects_answer owned_standing ends event ++ rest)
     (requests-append events more (message_step ends event))
-    ∙ sym (append_assoc (request_of objects_after objects_answer ends event) _ _)
+    ∙ sym (append_assoc (request_of objects_after objects_answer owned_standing ends event) _ _)
 
 given-append : (events more : List MessageEvent) (ends : BothEnds OwnedState) →
     given_by ends (events ++ more) ≡ given_by ends events ++ given_by (message_run ends events) more
@@ -124,8 +126,8 @@ runs-two own ends events later sent back more further new_sent new_back last_sen
           ∙ (second.image ∙ ap (λ (x : Ends). in_messages x last_sent last_back) (sym joined)));
       reached = requests_in-append events later ends
           ∙ (ap (λ r. r ++ requests_in (ends_run ends events) later) first.reached
-          ∙ (ap (λ r. requests_of objects_after objects_answer start more ++ r)
-          (second.reached ∙ ap (λ (x : BothEnds OwnedState). requests_of objects_after objects_answer x further) (sym first.image))
+          ∙ (ap (λ r. requests_of objects_after objects_answer owned_standing start more ++ r)
+          (second.reached ∙ ap (λ (x : BothEnds OwnedState). requests_of objects_after objects_answer owned_standing x further) (sym first.image))
           ∙ sym (requests-append more further start)));
       decided = decisions-append events later
           ∙ (ap (λ d. d ++ decisions_in later) first.decided
@@ -191,12 +193,12 @@ module _ (opening : Opening) (range : IsInRange opening.commander) where
   own = opening.commander.originator
 
   reach-gives : (world : NumberedWorld) (max_size : ℕ) (found : Option (ℕ × List ℕ)) →
-      (world_reach objects_after objects_answer start world max_size found).given ≡ world.given
+      (world_reach objects_after objects_answer owned_standing start world max_size found).given ≡ world.given
   reach-gives world max_size None = refl
   reach-gives world max_size (Some message) = by _
     where
-      by : (what : Arrival) → (arrived objects_after objects_answer what world
-          (device_after objects_after objects_answer start world.log) message.0 message.1).given ≡ world.given
+      by : (what : Arrival) → (arrived objects_after objects_answer owned_standing what world
+          (device_after objects_after objects_answer owned_standing start world.log) message.0 message.1).given ≡ world.given
       by Appended = refl
       by (Answered said) = refl
 
@@ -210,8 +212,8 @@ module _ (opening : Opening) (range : IsInRange opening.commander) where
       by false what = refl
 
   step-gives : (world : NumberedWorld) (event : MessageEvent) →
-      (world_step objects_after objects_answer start world event).given
-      ≡ world.given ++ given_at (image objects_after objects_answer start range world) event
+      (world_step objects_after objects_answer owned_standing start world event).given
+      ≡ world.given ++ given_at (image objects_after objects_answer owned_standing start range world) event
   step-gives world (messages.NewCommand request) = refl
   step-gives world messages.Abandon = sym (append-nil world.given)
   step-gives world messages.Send = sym (append-nil world.given)
@@ -222,17 +224,17 @@ module _ (opening : Opening) (range : IsInRange opening.commander) where
   step-gives world (messages.Other max_size request) = sym (append-nil world.given)
 
   run-gives : (events : List MessageEvent) (world : NumberedWorld) →
-      IsSound objects_after objects_answer start range world → AllByRecursion (IsOthers own) events →
-      (fold (world_step objects_after objects_answer start) world events).given
-      ≡ world.given ++ given_by (image objects_after objects_answer start range world) events
+      IsSound objects_after objects_answer owned_standing start range world → AllByRecursion (IsOthers own) events →
+      (fold (world_step objects_after objects_answer owned_standing start) world events).given
+      ≡ world.given ++ given_by (image objects_after objects_answer owned_standing start range world) events
   run-gives [] world sound others = sym (append-nil world.given)
   run-gives (event ∷ events) world sound others =
-      let next : NumberedWorld = world_step objects_after objects_answer start world event in
-      let ends : BothEnds OwnedState = image objects_after objects_answer start range world in
-      run-gives events next (step-sound objects_after objects_answer start range world event sound others.0) others.1
-      ∙ (ap (λ g. g ++ given_by (image objects_after objects_answer start range next) events) (step-gives world event)
+      let next : NumberedWorld = world_step objects_after objects_answer owned_standing start world event in
+      let ends : BothEnds OwnedState = image objects_after objects_answer owned_standing start range world in
+      run-gives events next (step-sound objects_after objects_answer owned_standing start range world event sound others.0) others.1
+      ∙ (ap (λ g. g ++ given_by (image objects_after objects_answer owned_standing start range next) events) (step-gives world event)
       ∙ (ap (λ (x : BothEnds OwnedState). (world.given ++ given_at ends event) ++ given_by x events)
-      (sym (step-image objects_after objects_answer start range world event sound others.0))
+      (sym (step-image objects_after objects_answer owned_standing start range world event sound others.0))
       ∙ append_assoc world.given (given_at ends event) _))
 
   -- A run amounts to its messages.
@@ -244,7 +246,7 @@ module _ (opening : Opening) (range : IsInRange opening.commander) where
     commander = ap (λ (x : BothEnds OwnedState). x.commander) (sym runs.image);
     decisions = runs.decided;
     given = runs.given
-        ∙ sym (run-gives more (world_at start) (opening-sound objects_after objects_answer start range) runs.others);
+        ∙ sym (run-gives more (world_at start) (opening-sound objects_after objects_answer owned_standing start range (opening-final opening)) runs.others);
     accepted = ap (λ (x : BothEnds OwnedState). x.accepted) (sym runs.image);
     others = runs.others;
   }

@@ -6,6 +6,7 @@ use Rattle.std.specs.List.{AllByRecursion}
 use Rattle.cip_commander.specs.Laws.{IsOthers, requests_of}
 use Rattle.cip_commander.specs.Worlds.{BothEnds}
 use Rattle.cip_commander.specs.Worlds as messages
+use Rattle.cip_ledger.specs.Device.{owned_standing}
 use Rattle.cip_ledger.specs.Laws.{IsOfAnother}
 use Rattle.cip_ledger.specs.Runs.{Request}
 use Rattle.cip_owner.specs.Owned.{OwnedState}
@@ -139,7 +140,7 @@ own-stream ends peer stream found =
 
 -- What others' requests are in messages.
 reached-others : (ends : BothEnds OwnedState) (requests : List Request) →
-    requests ≡ requests_of objects_after objects_answer ends (others_requests requests)
+    requests ≡ requests_of objects_after objects_answer owned_standing ends (others_requests requests)
 reached-others ends [] = refl
 reached-others ends (request ∷ requests) =
     ap (λ more. request ∷ more)

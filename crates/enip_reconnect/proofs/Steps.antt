@@ -6,7 +6,7 @@ use Rattle.cip_commander.specs.CommanderRule.{command_refusal}
 use Rattle.cip_commander.specs.Laws.{IsOthers, requests_of}
 use Rattle.cip_commander.specs.Worlds.{BothEnds, gives}
 use Rattle.cip_commander.specs.Worlds as messages
-use Rattle.cip_ledger.specs.Device.{Device}
+use Rattle.cip_ledger.specs.Device.{Device, owned_standing}
 use Rattle.cip_owner.specs.Owned.{OwnedState}
 use Rattle.enip_adapter.specs.Calls.{AdapterState, Call, after_call}
 use Rattle.enip_adapter.specs.DeviceRuns.{objects_after, objects_answer, requests_of_calls}
@@ -19,7 +19,7 @@ use Rattle.enip_reconnect.proofs.Flights.{carries-more, carries-other}
 use Rattle.enip_reconnect.proofs.Tracking.{Tracks, IsFlying, AreFlying, in_messages}
 
 abbrev pub message_step : BothEnds OwnedState → MessageEvent → BothEnds OwnedState
-message_step ends event = messages.ends_step objects_after objects_answer ends event
+message_step ends event = messages.ends_step objects_after objects_answer owned_standing ends event
 
 abbrev pub message_run : BothEnds OwnedState → List MessageEvent → BothEnds OwnedState
 message_run ends events = fold message_step ends events
@@ -42,7 +42,7 @@ pub record Comes (own : ℕ) (before after : Ends) (calls : List Call) (decision
   pub tracks : Tracks own after new_sent new_back
   pub image : message_run (in_messages before sent back) more ≡ in_messages after new_sent new_back
   pub reached : requests_of_calls before.adapter calls
-      ≡ requests_of objects_after objects_answer (in_messages before sent back) more
+      ≡ requests_of objects_after objects_answer owned_standing (in_messages before sent back) more
   pub decided : decisions ≡ decisions_in_messages more
   pub given : after.given ≡ before.given ++ given_by (in_messages before sent back) more
   pub others : AllByRecursion (IsOthers own) more

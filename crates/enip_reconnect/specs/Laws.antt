@@ -9,6 +9,7 @@ use Rattle.cip_commander.specs.Laws.{executions_in, executions_of}
 use Rattle.cip_commander.specs.NumberedWorld.{NumberedWorld, world_after, device_after, device_at as numbered_device_at}
 use Rattle.cip_commander.specs.Worlds.{BothEnds}
 use Rattle.cip_commander.specs.Worlds as messages
+use Rattle.cip_ledger.specs.Device.{owned_standing}
 use Rattle.cip_ledger.specs.Laws.{IsOfAnother}
 use Rattle.cip_ledger.specs.Runs.{Request, journal}
 use Rattle.cip_owner.specs.Owned.{OwnedState}
@@ -45,12 +46,12 @@ abbrev pub opening_in_messages : Opening → messages.Opening OwnedState
 opening_in_messages opening = record {
   slots = opening.slots;
   life = opening.life;
-  router = record { objects = opening.objects; prepared = None };
+  router = record { objects = opening.objects; prepared = None; queue = None };
   commander = opening.commander;
 }
 
 abbrev pub message_ends : Opening → List MessageEvent → BothEnds OwnedState
-message_ends opening events = messages.ends_after objects_after objects_answer (opening_in_messages opening) events
+message_ends opening events = messages.ends_after objects_after objects_answer owned_standing (opening_in_messages opening) events
 
 -- What the originator does with its commands: gives one, or gives the pending one up.
 abbrev pub decisions_in : List Event → List MessageEvent
@@ -74,14 +75,14 @@ requests_in ends (event ∷ events) =
 
 -- the numbered world after these messages
 abbrev pub numbered_world : Opening → List MessageEvent → NumberedWorld
-numbered_world opening events = world_after objects_after objects_answer (opening_in_messages opening) events
+numbered_world opening events = world_after objects_after objects_answer owned_standing (opening_in_messages opening) events
 
 -- A run amounts to these messages: the device ends in the same state, after the same requests in the same order. The
 -- commander is the same, it gives the same commands, and it accepts the same replies. All other requests are of others.
 pub record AmountsTo (opening : Opening) (events : List Event) (message_events : List MessageEvent) : Type 0 where
   pub device : (ends_after opening events).adapter.state.shared.objects ≡ (message_ends opening message_events).device
   pub reached : requests_in (ends_at opening) events
-      ≡ requests_of objects_after objects_answer (messages.ends_at (opening_in_messages opening)) message_events
+      ≡ requests_of objects_after objects_answer owned_standing (messages.ends_at (opening_in_messages opening)) message_events
   pub commander : (ends_after opening events).commander ≡ (message_ends opening message_events).commander
   pub decisions : decisions_in events ≡ decisions_in_messages message_events
   pub given : (ends_after opening events).given ≡ (numbered_world opening message_events).given
@@ -112,7 +113,7 @@ seen_of ends = record {
 
 abbrev pub seen_of_world : Opening → NumberedWorld → Seen
 seen_of_world opening world = record {
-  machine = (device_after objects_after objects_answer (opening_in_messages opening) world.log).router;
+  machine = (device_after objects_after objects_answer owned_standing (opening_in_messages opening) world.log).router;
   commander = world.commander;
   accepted = world.accepted;
 }
@@ -128,8 +129,8 @@ abbrev pub journal_law : Type 0
 journal_law = (opening : Opening) (events : List Event) (message_events : List MessageEvent) →
     IsInRange opening.commander → AmountsTo opening events message_events →
     executions_in opening.commander.originator
-    (journal objects_after objects_answer (device_at opening) (requests_in (ends_at opening) events))
-    ≡ executions_of objects_after objects_answer opening.commander.originator
+    (journal objects_after objects_answer owned_standing (device_at opening) (requests_in (ends_at opening) events))
+    ≡ executions_of objects_after objects_answer owned_standing opening.commander.originator
     (numbered_device_at (opening_in_messages opening)) (numbered_world opening message_events).log
 
 -- No number is executed twice, and numbers are executed in the order in which they were given.
@@ -149,7 +150,7 @@ given_law = (opening : Opening) (events : List Event) (message_events : List Mes
 abbrev pub accepted_law : Type 0
 accepted_law = (opening : Opening) (events : List Event) (message_events : List MessageEvent) →
     IsInRange opening.commander → AmountsTo opening events message_events →
-    AllByRecursion (λ (accepted : ℕ × List ℕ). IsExecutedOnce objects_after objects_answer (opening_in_messages opening)
+    AllByRecursion (λ (accepted : ℕ × List ℕ). IsExecutedOnce objects_after objects_answer owned_standing (opening_in_messages opening)
     (numbered_world opening message_events).log accepted.0 accepted.1) (ends_after opening events).accepted
 
 -- No number is accepted twice.

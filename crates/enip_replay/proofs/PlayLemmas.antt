@@ -5,7 +5,7 @@ use Rattle.std.specs.Result.{IsErr, IsErrAnd}
 use Rattle.enip_adapter.specs.Calls.{AdapterState}
 use Rattle.enip_bench.specs.CountingWorld.{CountingWorld, counting_run}
 use Rattle.enip_bench.specs.Events.{Event}
-use Rattle.enip_commands.specs.InputLines.{AreAllRun, IsLineRefused, StopsAtLine, IsTakenToEnd, lines_of}
+use Rattle.enip_lines.specs.InputLines.{AreAllRun, IsLineRefused, StopsAtLine, IsTakenToEnd, lines_of}
 use Rattle.enip_faults.specs.Statuses.{IsOfDevices}
 use Rattle.enip_faults.specs.declared.fault.ProgramFault.{ProgramFault}
 use Rattle.enip_faults.specs.declared.fault.ProgramFault.TheVariants.{Line, Device, Memory}

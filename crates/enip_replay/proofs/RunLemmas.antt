@@ -4,9 +4,9 @@ use Rattle.std.specs.Io.KnownBytes.{Appends, Keeps}
 use Rattle.enip_bench.specs.CountingWorld.{CountingWorld, counting_run, counting_step}
 use Rattle.enip_bench.specs.Events.{Event}
 use Rattle.enip_bench.specs.EventResults.{event_result}
-use Rattle.enip_commands.specs.InputLines.{AreRun}
+use Rattle.enip_lines.specs.InputLines.{AreRun}
 use Rattle.enip_replay.specs.Drawing.{nothing}
-use Rattle.enip_commands.specs.Lines.{with_newline}
+use Rattle.enip_lines.specs.Lines.{with_newline}
 use Rattle.enip_replay.specs.Outcome.{outcome, outcomes}
 use Rattle.enip_replay.specs.Replay.{IsDone, IsRun}
 use Rattle.enip_replay.specs.Script.{Means, Say, is_skipped}

@@ -5,8 +5,8 @@ use Rattle.enip_adapter.specs.Calls.{AdapterState}
 use Rattle.enip_bench.specs.CountingWorld.{CountingWorld, counting_run, counting_seen}
 use Rattle.enip_bench.specs.Events.{Event}
 use Rattle.enip_bench.specs.FrameLaw.{ShowsNumbers}
-use Rattle.enip_commands.specs.InputLines.{lines_of}
-use Rattle.enip_commands.specs.Lines.{with_newline}
+use Rattle.enip_lines.specs.InputLines.{lines_of}
+use Rattle.enip_lines.specs.Lines.{with_newline}
 use Rattle.enip_replay.specs.Replay.{ending, IsStop, OnceOpened}
 use Rattle.enip_replay.specs.Script.{Say, IsRefusedAt}
 use Rattle.enip_faults.specs.declared.replay_failure.ReplayFailure.{ReplayFailure}

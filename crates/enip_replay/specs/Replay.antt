@@ -14,8 +14,8 @@ use Rattle.enip_bench.specs.declared.bench.BenchFault.TheVariants as benches
 use Rattle.enip_client.specs.Client.{new_client}
 use Rattle.enip_replay.specs.Outcome.{outcome, outcomes, counter_number, counter_line, assembly_line, final_line}
 use Rattle.enip_replay.specs.Script.{Says, Say, IsRefusedAt}
-use Rattle.enip_commands.specs.InputLines.{lines_of}
-use Rattle.enip_commands.specs.Lines.{with_newline}
+use Rattle.enip_lines.specs.InputLines.{lines_of}
+use Rattle.enip_lines.specs.Lines.{with_newline}
 use Rattle.enip_faults.specs.Statuses.{IsOfDevices}
 use Rattle.enip_commands.specs.declared.asking.TheConstants.{WANTS}
 use Rattle.enip_faults.specs.declared.fault.ProgramFault.{ProgramFault}

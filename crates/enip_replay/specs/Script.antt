@@ -4,9 +4,9 @@ use Rattle.std.specs.Prelude.{codes, ◌==◌, Option, take, drop}
 use Rattle.std.specs.List.{position}
 use Rattle.std.specs.Str.Parse.{IsNumeral, digits_value}
 use Rattle.cip_owner.specs.Replies.{Reply}
-use Rattle.enip_adapter.specs.OwnWrites.{OwnWrite, WritesData, WritesAttribute, SetsStatus, SetsState, Prepares, Settles}
+use Rattle.enip_adapter.specs.OwnWrites.{OwnWrite, WritesData, WritesAttribute, SetsStatus, SetsState, Prepares, Settles, Finishes}
 use Rattle.enip_bench.specs.Events.{Event, Submit, Resend, Reach, Back, Other, Write, Shut, GiveUp}
-use Rattle.enip_commands.specs.Digits.{bytes_spelled}
+use Rattle.enip_lines.specs.Digits.{bytes_spelled}
 
 -- An empty line or a comment.
 abbrev pub is_skipped : List ℕ → Bool
@@ -64,6 +64,7 @@ MeansWrite text (WritesAttribute class instance attribute offset bytes) = ⊥
 MeansWrite text (SetsStatus status) = ⊥
 MeansWrite text (SetsState state) = ⊥
 MeansWrite text (Settles originator number reply) = ⊥
+MeansWrite text (Finishes ticket reply) = ⊥
 MeansWrite text (Prepares None) = ⊥
 MeansWrite text (Prepares (Some reply)) = (rest : List ℕ) × (text ≡ codes "owner " ++ rest) × IsReplySpelled reply rest
 

@@ -9,7 +9,7 @@ ghost use Rattle.enip_replay.specs.Replay.{IsOpeningOf, IsUnopened, IsStopOf, Is
 ghost use Rattle.enip_replay.specs.Replay.{IsDone, IsRun, IsStopAt, ending, stop_of};
 ghost use Rattle.enip_replay.specs.Replay.{objects_printed, assembly_printed, assemblies_printed};
 ghost use Rattle.enip_replay.specs.Script.{IsRefusedLine};
-ghost use Rattle.enip_commands.specs.Lines.{with_newline};
+ghost use Rattle.enip_lines.specs.Lines.{with_newline};
 ghost use Rattle.enip_faults.specs.Statuses.{IsOfDevices};
 
 use crate::outcome::{AssemblyData, Counter, FinalState, Outcome};
@@ -20,8 +20,9 @@ use cip_objects::{Objects, ReplyBuf};
 use enip_adapter::Adapter;
 use enip_bench::{Bench, BenchFault, Event};
 use enip_client::Client;
-use enip_commands::{ProgramFault, TakeLines, WANTS, read_lines};
+use enip_commands::{ProgramFault, WANTS};
 use enip_faults::ReplayFailure;
+use enip_lines::{TakeLines, read_lines};
 use std::alloc::Global;
 use std::io::Write;
 

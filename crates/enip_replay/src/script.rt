@@ -4,7 +4,7 @@ ghost use Rattle.std.specs.Prelude.{◌≡◌, ◌<◌, ◌^◌, ◌++◌, None,
 ghost use Rattle.std.specs.Option.{SomeIff};
 ghost use Rattle.std.specs.Str.Parse.{IsNumeral, digits_value};
 ghost use Rattle.enip_bench.specs.Stored.{event_in};
-ghost use Rattle.enip_commands.specs.Digits.{bytes_spelled};
+ghost use Rattle.enip_lines.specs.Digits.{bytes_spelled};
 ghost use Rattle.enip_replay.specs.Script.{Means, IsMeaningless, IsNotAKeyword, BeginsOtherwise, is_skipped};
 ghost use Rattle.enip_replay.specs.Script.{IsReplySpelled, SpellsNoReply, IsStatus};
 ghost use Rattle.enip_replay.specs.Script.{before_space, after_space, first_space};
@@ -13,7 +13,8 @@ ghost use Rattle.enip_faults.specs.Statuses.{IsOfDevices};
 use cip_bytes::protocol::GeneralStatus;
 use cip_owner::OwnerReply;
 use enip_bench::{Event, OwnWrite};
-use enip_commands::{LineFault, ProgramFault, decimal, decode};
+use enip_commands::{LineFault, ProgramFault};
+use enip_lines::{decimal, decode};
 use std::alloc::Global;
 
 /// Whether a line is empty or a comment.

@@ -8,13 +8,14 @@ use cip_bytes::StatusText;
 use clap::ArgMatches;
 use enip_client::ClientFault;
 use enip_commands::{
-    DeviceSession, LONG_LIVED, ProgramFault, ReplyOutcome, RequestFailure, Style, TakeLines,
-    read_lines, show_refusal, show_reply,
+    DeviceSession, LONG_LIVED, ProgramFault, ReplyOutcome, RequestFailure, Style, show_refusal,
+    show_reply,
 };
 use enip_common::{
     ArgumentError, CLOCK, CommandError, ErrorKeeping, HostPort, INPUT, NamedReason, OUTPUT, Reason,
     SocketSink, SocketSource, Timeout, print_argument_error,
 };
+use enip_lines::{TakeLines, read_lines};
 use std::fmt::Display;
 use std::io::Write;
 use std::time::Instant;
@@ -26,7 +27,6 @@ const LINE_REFUSED: u8 = 4;
 const NOT_USABLE: u8 = 7;
 
 /// A batch of requests: the session in which they are sent, and what became of them.
-#[derive(Drop)]
 struct Batch<'a, 'r> {
     rt: &'r HostRuntime,
     device: Device<'a>,
@@ -41,6 +41,23 @@ struct Batch<'a, 'r> {
     refused: Option<u64>,
     /// Why the batch ended before its input.
     end: Option<CommandError<'a>>,
+}
+
+// Written out, so that each exit of a function that owns one calls it, and has no drop of every part.
+impl Drop for Batch<'_, '_> {
+    fn drop(self) {
+        let Batch {
+            rt: _,
+            device: _,
+            session: _,
+            source: _,
+            sink: _,
+            stops: _,
+            status: _,
+            refused: _,
+            end: _,
+        } = self;
+    }
 }
 
 /// `enip batch`.

@@ -2,7 +2,8 @@
 
 use crate::found_devices::DeviceForm;
 use crate::listing::{run_discovery, run_list};
-use crate::once::{OnceOptions, run_once};
+use crate::once::run_once;
+use crate::once_options::OnceOptions;
 use crate::polling::{PollOptions, run_polling};
 use crate::request::{Device, Request, run_request};
 use crate::{

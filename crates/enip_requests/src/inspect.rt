@@ -33,7 +33,6 @@ const MOST_INSTANCES: u32 = 1_000;
 const TRIED_INSTANCES: u32 = 255;
 
 /// The state of an inspection.
-#[derive(Drop)]
 struct Inspection<'a, 'r> {
     rt: &'r HostRuntime,
     device: Device<'a>,
@@ -46,6 +45,22 @@ struct Inspection<'a, 'r> {
     report: String,
     /// Whether the report has an object already.
     has_object: bool,
+}
+
+// Written out, so that each exit of a function that owns one calls it, and has no drop of every part.
+impl Drop for Inspection<'_, '_> {
+    fn drop(self) {
+        let Inspection {
+            rt: _,
+            device: _,
+            is_verbose: _,
+            session: _,
+            source: _,
+            sink: _,
+            report: _,
+            has_object: _,
+        } = self;
+    }
 }
 
 /// `enip inspect`.

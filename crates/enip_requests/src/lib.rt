@@ -15,6 +15,8 @@ mod line_request;
 mod listing;
 mod objects_help;
 mod once;
+mod once_options;
+mod pauses;
 mod polling;
 mod request;
 mod route_option;

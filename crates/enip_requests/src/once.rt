@@ -1,13 +1,15 @@
 //! `--once`: a command that the device executes once, even if connections are lost.
 //!
 //! FILE has the commander: the originator, the device's life, the last number, and the command while it is pending. A
-//! command is written to FILE before it is sent, and settled there once its reply is printed.
+//! command is written to FILE before it is sent, and settled there once its reply is printed. If the device has put the
+//! command into its queue, it is sent again until it is executed.
 
+use crate::once_options::OnceOptions;
+use crate::pauses::next_pause;
 use crate::request::{Device, Request, error_of_failure, print_refusal};
 use cip_bytes::StatusText;
 use cip_commander::{CommandOutcome, CommandRefused, Commander};
 use cip_objects::ReplyBuf;
-use clap::ArgMatches;
 use enip_cli::{LockedFile, OsArg, exists, option_file_name};
 use enip_client::ClientFault;
 use enip_commands::{
@@ -15,8 +17,8 @@ use enip_commands::{
     begin_once, check_once, exchange_with, read_commander, read_life, show_reply, write_commander,
 };
 use enip_common::{
-    ArgumentError, CLOCK, CommandError, ErrorKeeping, Fault, HostPort, NamedReason, Note,
-    NumberArgument, OwnedDigits, Reason, SocketSink, SocketSource, print_reason,
+    CLOCK, CommandError, ErrorKeeping, Fault, HostPort, NamedReason, Note, OwnedDigits, Reason,
+    SocketSink, SocketSource, print_reason,
 };
 use std::io::{self, ErrorKind};
 use std::random::RandomSource;
@@ -24,9 +26,6 @@ use std::thread;
 use std::time::{Duration, Instant};
 
 const OUTPUT: &str = "standard output";
-
-/// How many tries a request has, unless `--tries` says otherwise (ours).
-const DEFAULT_TRIES: u64 = 3;
 
 /// How long to wait before a file in use is tried again, in milliseconds (ours).
 const LOCK_INTERVAL: u64 = 20;
@@ -36,42 +35,6 @@ const RETRY_DELAY: u64 = 100;
 
 /// The bytes of a sequence count, which precedes a request on a connection. (Volume 1, transport class 3.)
 const COUNT_SIZE: usize = 2;
-
-/// The options of a command that is executed once.
-#[derive(Clone, Copy)]
-pub(crate) struct OnceOptions<'a> {
-    /// The argument that names the command file.
-    file: &'a str,
-    /// How many tries a request has. 0 is no limit.
-    tries: u64,
-    /// What becomes of a pending command.
-    choice: PendingChoice,
-}
-
-impl<'a> OnceOptions<'a> {
-    /// The options in the arguments. `None` without `--once`.
-    pub(crate) fn from_matches(
-        matches: &ArgMatches<'a>,
-    ) -> Result<Option<OnceOptions<'a>>, ArgumentError<'a>> {
-        let Some(file) = matches.get_str("once") else {
-            return Ok(None);
-        };
-        let choice = if matches.get_flag("pending") {
-            PendingChoice::Send
-        } else if matches.get_flag("abandon") {
-            PendingChoice::Abandon
-        } else {
-            PendingChoice::Same
-        };
-        Ok(Some(OnceOptions {
-            file,
-            tries: NumberArgument::TRIES
-                .value(matches)?
-                .unwrap_or(DEFAULT_TRIES),
-            choice,
-        }))
-    }
-}
 
 /// A device, and the file of the commands that it is sent.
 #[derive(Drop)]
@@ -154,31 +117,61 @@ impl<'a> OnceRun<'a, '_> {
         self.finish(&file, &mut commander)
     }
 
-    /// Sends the pending command until the device replies to it, prints the reply and settles the command.
+    /// Sends the pending command until the device has executed it, prints the reply and settles the command.
     fn finish(&self, file: &LockedFile, commander: &mut Commander) -> Result<u8, CommandError<'a>> {
-        let mut reply = ReplyBuf::new();
-        let message = commander.pending().unwrap_or(&[]);
-        let exchanged = self.exchange(message, self.device.connected, &mut reply);
-        with_note(exchanged, self.unanswered())?;
-        match commander.receive(reply.as_slice()) {
+        let mut pause = None;
+        for _ in 0..u64::MAX {
+            let mut reply = ReplyBuf::new();
+            let message = commander.pending().unwrap_or(&[]);
+            if let Err(error) = self.exchange(message, self.device.connected, &mut reply) {
+                return Err(self.error_of_exchange(error, pause.is_some()));
+            }
+            match commander.receive(reply.as_slice()) {
+                CommandOutcome::StillPending => {}
+                outcome => return self.settle(file, commander, outcome),
+            }
+            let next = next_pause(pause);
+            self.wait(next)?;
+            pause = Some(next);
+        }
+        Err(CommandError::of_reason(Reason::Named(self.device.address, NamedReason::Failed)))
+    }
+
+    /// Waits for so many milliseconds before the result of a queued command is asked for again. Fails at the deadline.
+    fn wait(&self, milliseconds: u64) -> Result<(), CommandError<'a>> {
+        let pause = Duration::from_millis(milliseconds);
+        let pause = match self.device.timeout.left(self.rt) {
+            Some(left) => pause.min(left),
+            None => pause,
+        };
+        thread::sleep(self.rt, pause);
+        match self.device.timeout.deadline_over(self.rt) {
+            Some(deadline) => Err(self.not_executed_yet(deadline)),
+            None => Ok(()),
+        }
+    }
+
+    /// Prints the reply to a command and settles the command, or reports what the device says instead.
+    fn settle(
+        &self,
+        file: &LockedFile,
+        commander: &Commander,
+        outcome: CommandOutcome<'_>,
+    ) -> Result<u8, CommandError<'a>> {
+        match outcome {
             CommandOutcome::Done(answer) => {
                 // printed first: if that fails, the command stays pending, and its reply can be asked for again
                 let status = self.print(answer)?;
                 with_note(self.write(file, commander), Note::Executed)?;
                 Ok(status)
             }
-            CommandOutcome::StillPending => {
-                let reason = Reason::Named(self.device.address, NamedReason::StillPending);
-                Err(CommandError::of_reason(reason).with_note(self.unanswered()))
-            }
             CommandOutcome::InDoubt => {
                 let reason = Reason::Named(self.device.address, NamedReason::InDoubt);
                 Err(CommandError::of_reason(reason).with_note(self.unanswered()))
             }
             CommandOutcome::Refused(status) => Err(self.error_of_ledger(status)),
-            CommandOutcome::Malformed | CommandOutcome::NotPending => {
-                Err(self.malformed().with_note(self.unanswered()))
-            }
+            CommandOutcome::Malformed | CommandOutcome::NotPending | CommandOutcome::StillPending =>
+                Err(self.malformed().with_note(self.unanswered())),
         }
     }
 
@@ -216,6 +209,14 @@ impl<'a> OnceRun<'a, '_> {
         match self.options.choice {
             PendingChoice::Abandon => Note::MaybeExecutedNew,
             PendingChoice::Same | PendingChoice::Send => Note::MaybeExecuted,
+        }
+    }
+
+    /// What is known of the command once the device has put it into its queue.
+    fn queued(&self) -> Note {
+        match self.options.choice {
+            PendingChoice::Abandon => Note::QueuedNew,
+            PendingChoice::Same | PendingChoice::Send => Note::Queued,
         }
     }
 
@@ -393,6 +394,23 @@ impl<'a> OnceRun<'a, '_> {
 
     fn no_file(&self) -> CommandError<'a> {
         self.error_of_file(io::Error::from(ErrorKind::NotFound))
+    }
+
+    /// The error of a command without a reply. `is_queued` is whether the device has put it into its queue before.
+    fn error_of_exchange(&self, error: CommandError<'a>, is_queued: bool) -> CommandError<'a> {
+        if !is_queued {
+            return error.with_note(self.unanswered());
+        }
+        match self.device.timeout.deadline_over(self.rt) {
+            Some(deadline) => self.not_executed_yet(deadline),
+            None => error.with_note(self.queued()),
+        }
+    }
+
+    /// The error of a command that is still in the queue of the device at the deadline.
+    fn not_executed_yet(&self, deadline: &'a str) -> CommandError<'a> {
+        let reason = Reason::NotExecutedYet(self.device.address, deadline);
+        CommandError::of_reason(reason).with_note(self.queued())
     }
 
     /// The error of a device whose reply has another form.

@@ -233,16 +233,24 @@ impl<'a> Poller<'a, '_, '_> {
     }
 }
 
-/// The end of a session by the error that a single request would end with. Only a lack of memory and the
-/// deadline are fatal. After any
-/// other error the device is tried again.
+/// The end of a session by the error that a single request would end with. Only a lack of memory and the deadline are
+/// fatal. After any other error the device is tried again.
 pub(crate) fn session_end_of<'a>(error: CommandError<'a>) -> SessionEnd<'a> {
-    match error.into_reason() {
-        Reason::Memory => SessionEnd::Fatal(CommandError::of_memory()),
+    let reason = error.into_reason();
+    match fatal_error(&reason) {
+        Some(error) => SessionEnd::Fatal(error),
+        None => SessionEnd::DeviceLost(reason),
+    }
+}
+
+/// The error of a command that fails for this reason, if it is fatal.
+fn fatal_error<'a>(reason: &Reason<'a>) -> Option<CommandError<'a>> {
+    match reason {
+        Reason::Memory => Some(CommandError::of_memory()),
         Reason::DeadlineOver(address, seconds) => {
             let reason = Reason::DeadlineOver(address, seconds);
-            SessionEnd::Fatal(CommandError::of_reason(reason))
+            Some(CommandError::of_reason(reason))
         }
-        reason => SessionEnd::DeviceLost(reason),
+        _ => None,
     }
 }

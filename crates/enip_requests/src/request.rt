@@ -358,8 +358,24 @@ fn exchange_in<C: Clock>(
     bytes: &[u8],
     reply: &mut ReplyBuf,
 ) -> Result<(), RequestFailure> {
-    let mut session = begun?;
-    ask(clock, &mut session, source, sink, device, bytes)?;
+    match begun {
+        Ok(mut session) => exchange_over(clock, &mut session, source, sink, device, bytes, reply),
+        Err(failure) => Err(failure),
+    }
+}
+
+/// Sends the request in a session that its caller owns, and again on the connection after each timeout. Ends the session,
+/// and keeps the reply.
+fn exchange_over<C: Clock>(
+    clock: &C,
+    session: &mut DeviceSession,
+    source: &mut SocketSource<'_, C>,
+    sink: &mut SocketSink<'_>,
+    device: Device<'_>,
+    bytes: &[u8],
+    reply: &mut ReplyBuf,
+) -> Result<(), RequestFailure> {
+    ask(clock, session, source, sink, device, bytes)?;
     reply.clear();
     let _ = reply.try_extend_from_slice(session.reply());
     session.end(source, sink)

@@ -39,7 +39,6 @@ struct WatchOptions {
 }
 
 /// The state of a watch.
-#[derive(Drop)]
 struct Watch<'a, 'r> {
     rt: &'r HostRuntime,
     device: Device<'a>,
@@ -50,6 +49,21 @@ struct Watch<'a, 'r> {
     table: Option<WatchTable>,
     /// How many rounds were taken.
     taken: u64,
+}
+
+// Written out, so that each exit of a function that owns one calls it, and has no drop of every part.
+impl Drop for Watch<'_, '_> {
+    fn drop(self) {
+        let Watch {
+            rt: _,
+            device: _,
+            options: _,
+            watched: _,
+            start: _,
+            table: _,
+            taken: _,
+        } = self;
+    }
 }
 
 /// `enip watch`.

@@ -13,7 +13,7 @@ use Rattle.enip_adapter.specs.declared.adapter.Full.{Full}
 use Rattle.enip_adapter.specs.Calls.{AdapterState, Call, after_call}
 use Rattle.enip_adapter.specs.declared.peer.Rights.{Rights}
 use Rattle.enip_adapter.specs.declared.peer.Rights.TheVariants.{Write}
-use Rattle.enip_adapter.specs.Calls.Call.{Begins_peer, Ends_peer, Writes}
+use Rattle.enip_adapter.specs.Calls.Call.{Begins_peer, Ends_peer, Ticks, Writes}
 use Rattle.enip_adapter.specs.OwnWrites.{OwnWrite}
 use Rattle.enip_adapter.specs.Runs.{after_calls, IsForOther}
 use Rattle.enip_server.specs.declared.peer_io.PeerIo.{PeerIo}
@@ -25,7 +25,7 @@ use Rattle.enip_server.specs.Rounds.{ServerState, new_peers, new_peer_io, first_
 use Rattle.enip_server.specs.Evictions.{BeginsIn, IsAddedAt, freed, freed_of, slot_for, with_room_at}
 use Rattle.enip_server.specs.Rounds.{written_by, nobody, no_answer, same_nobody}
 use Rattle.enip_server.specs.Runs.{IsStep, IsRun, HoldsSlot, KeepsSlot, IsStill, IsStillAt, AreStill}
-use Rattle.enip_server.specs.Runs.IsStep.{Adds, Adds_as, Makes_room, MarksReady, Rounds, Rounds_alone, Writes_own, Releases}
+use Rattle.enip_server.specs.Runs.IsStep.{Adds, Adds_as, Makes_room, MarksReady, Rounds, Rounds_alone, Writes_own, Releases, Takes_time}
 use Rattle.enip_server.specs.Runs.IsRun.{Still, Goes_on}
 use Rattle.enip_server.specs.Runs.KeepsSlot.{Begins, Stays_on}
 use Rattle.enip_server.proofs.ApartLemmas.{AreSound, sound_new, sound_come, sound_of, of_woken, of_freed, apart_at, below_at}
@@ -220,6 +220,9 @@ module _ {W O : Type 0} (left written : W → Option (List ℕ)) (known : W → 
   sound_step old new (Releases still is) sound =
       sound_of old new sound (of_still left written old.slots new.slots still)
       (omega (arith, ap (λ p. p.adapter.state.next_handle) is))
+  sound_step old new (Takes_time now is) sound =
+      sound_of old new sound (subst (AreOf old.slots) (sym (ap (λ p. p.slots) is)) (are_of_themselves old.slots))
+      (omega (arith, ap (λ p. p.adapter.state.next_handle) is))
 
   pub sound_run : (old new : ServerState W) → IsRun left written known counts answer next old new → AreSound old → AreSound new
   sound_run old new Still sound = sound
@@ -413,6 +416,18 @@ module _ {W O : Type 0} (left written : W → Option (List ℕ)) (known : W → 
         (subst (λ (p : ServerState W). slice_get p.slots slot ≡ Some (Some after)) is stays));
   }
 
+  kept_timed : (old new : ServerState W) (now : ℕ) → new ≡ record old { adapter = after_call old.adapter (Ticks now) }
+      → (slot : ℕ) (io after : PeerIo W) → slice_get old.slots slot ≡ Some (Some io)
+      → slice_get new.slots slot ≡ Some (Some after) → IsKept old.adapter io new.adapter after
+  kept_timed old new now is slot io after there stays = record {
+    calls = Ticks now ∷ [];
+    each = (tt, tt);
+    leads = ap (λ p. p.adapter) is;
+    same = ap (peer_state_of left written known counts new.adapter)
+        (same_line old.slots slot io after there
+        (subst (λ (p : ServerState W). slice_get p.slots slot ≡ Some (Some after)) is stays));
+  }
+
   -- marking a slot ready does not show in a peer's state
   woken_desk : (ends : Bool) (a : AdapterState) (slots : List (Option (PeerIo W))) (waken slot : ℕ) (found : Option (Option (PeerIo W)))
       → slice_get slots waken ≡ found → (io after : PeerIo W) → slice_get slots slot ≡ Some (Some io)
@@ -490,6 +505,8 @@ module _ {W O : Type 0} (left written : W → Option (List ℕ)) (known : W → 
   step_moves old new sound (Releases still is) slot io after there stays same =
       still_moves io after old.adapter new.adapter (ap (λ p. p.adapter) is)
       (still_in left written old.slots new.slots still slot io after there stays)
+  step_moves old new sound (Takes_time now is) slot io after there stays same =
+      kept_moves old.adapter io new.adapter after (kept_timed old new now is slot io after there stays)
 
   -- ---- a peer that keeps its slot
 

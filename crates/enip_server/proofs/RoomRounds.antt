@@ -37,7 +37,7 @@ use Rattle.enip_server.specs.Rounds.{first_free, new_peers, new_peer_io, nobody,
 use Rattle.enip_server.specs.Evictions.{BeginsIn, IsAddedAt, IsAddedAs, freed, freed_of, gives_way, has_handle, slot_for}
 use Rattle.enip_server.specs.Evictions.{slot_found, slot_given, with_handle, with_room, with_room_at}
 use Rattle.enip_server.specs.Runs.{IsStep, IsRun, IsStillAt, AreStill}
-use Rattle.enip_server.specs.Runs.IsStep.{Adds, Adds_as, Makes_room, MarksReady, Rounds, Rounds_alone, Writes_own, Releases}
+use Rattle.enip_server.specs.Runs.IsStep.{Adds, Adds_as, Makes_room, MarksReady, Rounds, Rounds_alone, Writes_own, Releases, Takes_time}
 use Rattle.enip_server.specs.Runs.IsRun.{Still, Goes_on}
 use Rattle.enip_server.proofs.ApartLemmas.{AreApart, AreSound, HasNone, sound_new}
 use Rattle.enip_server.proofs.EvictionLemmas.{IsFor, is_for, begins_stays, found_there}
@@ -318,6 +318,16 @@ module _ {W O : Type 0} (left written : W → Option (List ℕ)) (known : W → 
       roomy_by old new roomy
       (room_as old.adapter new.adapter old.slots new.slots (ap (λ (p : ServerState W). p.adapter) is)
       (as_still left written old.slots new.slots still) roomy.held)
+  roomy_step old new (Takes_time now is) sound roomy =
+      roomy_by old new roomy
+      (room_timed (ap (λ (p : ServerState W). p.slots) is) (ap (λ (p : ServerState W). p.adapter) is))
+    where
+      room_timed : new.slots ≡ old.slots → new.adapter ≡ after_call old.adapter (Ticks now)
+          → KeepsRoom old.adapter old.slots new.adapter new.slots
+      room_timed slots adapter =
+          subst (KeepsRoom old.adapter old.slots new.adapter) (sym slots)
+          (room_same old.adapter new.adapter old.slots (ap (λ a. handles a.state) adapter)
+          (ap (λ a. a.state.places) adapter) roomy.held)
 
   roomy_run : (old new : ServerState W) → IsRun left written known counts answer next old new → AreSound old
       → IsRoomy old → IsRoomy new

@@ -1,5 +1,6 @@
 -- Wires that hold back what is written to them, and what a release does to them and to the peers that have them.
-use Rattle.std.specs.Prelude.{ℕ, zero, suc, min, length, take, ◌-◌, ◌≡◌, ◌≢◌, ◌++◌, ◌||◌, List, [], ◌∷◌, Bool, true, false, Option, Some, None, ⊤}
+use Rattle.std.specs.Prelude.{ℕ, zero, suc, min, length, take, ◌-◌, ◌≡◌, ◌≢◌, ◌==◌, ◌++◌, ◌||◌, not, if◌then◌else◌, List, [], ◌∷◌, Bool, true, false, Option, Some, None, ⊤}
+use Rattle.std.proofs.Common.{ap}
 use Rattle.std.specs.Option.{option_map}
 use Rattle.std.specs.Io.KnownBytes.{Appends, append_known}
 use Rattle.enip_server.specs.declared.held_wire.HeldWire.{HeldWire}
@@ -49,6 +50,24 @@ pub record IsReadInside {W : Type 0} (known : W → Option KnownCalls) (counts :
   pub made : old.has_failed ≡ false → old.held ≡ [] → (new ≡ record old { wire = new.wire })
       × (counts new.wire ≡ after_read outcome (counts old.wire))
       × (known new.wire ≡ option_map (with_asked size) (known old.wire))
+
+-- No read is made of the wire inside: it has failed, or bytes are held.
+abbrev pub is_held_back : {W : Type 0} → HeldWire W → Bool
+is_held_back w = w.has_failed || not (length w.held == 0)
+
+-- The frame that waits in the wire inside, if a read would reach it once it is admitted.
+abbrev pub held_waiting : {W : Type 0} → (W → Option (List ℕ)) → HeldWire W → Option (List ℕ)
+held_waiting waiting w = if is_held_back w then None else waiting w.wire
+
+-- The frame is admitted in the wire inside. What is held stays held.
+abbrev pub held_admitted : {W : Type 0} → (W → W) → HeldWire W → HeldWire W
+held_admitted admitted w = record w { wire = admitted w.wire }
+
+-- If nothing is written to the wire inside by that, nothing is written to the held wire.
+pub held_unwritten : {W : Type 0} (written : W → Option (List ℕ)) (admitted : W → W)
+    (same : (w : W) → written (admitted w) ≡ written w) (w : HeldWire W)
+    → held_written written (held_admitted admitted w) ≡ held_written written w
+held_unwritten written admitted same w = ap (λ known. append_known known w.held) (same w.wire)
 
 -- What is known of a wire after its writing side was shut down, if a shutdown waits for the release.
 abbrev pub shut_if : Bool → Option KnownCalls → Option KnownCalls

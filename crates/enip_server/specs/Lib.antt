@@ -4,5 +4,9 @@ pub mod Transfers
 pub mod Rounds
 pub mod Evictions
 pub mod Held
+pub mod FrameEnds
+pub mod FrameWires
+pub mod Admissions
 pub mod Runs
+pub mod Watching
 pub mod Wires

@@ -186,6 +186,15 @@ IsAdded now wire old new (Err full) =
 abbrev pub written_by : {W : Type 0} → OwnWrite → ServerState W → ServerState W
 written_by write p = record p { adapter = after_call p.adapter (Writes write) }
 
+-- Several own writes, the first of them first.
+abbrev pub written_all : {W : Type 0} → List OwnWrite → ServerState W → ServerState W
+written_all [] p = p
+written_all (write ∷ writes) p = written_all writes (written_by write p)
+
+-- Between these two states the device made own writes, and nothing else changed.
+abbrev pub IsWritten : {W : Type 0} → ServerState W → ServerState W → Type 0
+IsWritten old new = (writes : List OwnWrite) × (new ≡ written_all writes old)
+
 -- The wire of a slot may be ready, and the end of its stream may be reported at the same time.
 abbrev pub marked_ready_in : {W : Type 0} → Bool → PeerIo W → PeerIo W
 marked_ready_in ends io = record io { ready = true; end_reported = if ends then true else io.end_reported }

@@ -5,6 +5,8 @@ use Rattle.cip_objects.specs.OwnRequests.{Asked}
 use Rattle.cip_owner.specs.Replies.{Reply}
 use Rattle.enip_adapter.specs.declared.adapter.Full.{Full}
 use Rattle.enip_adapter.specs.declared.peer.Rights.{Rights}
+use Rattle.enip_adapter.specs.Calls.{after_call}
+use Rattle.enip_adapter.specs.Calls.Call.{Ticks}
 use Rattle.enip_adapter.specs.OwnWrites.{OwnWrite}
 use Rattle.enip_server.specs.declared.peer_io.PeerIo.{PeerIo}
 use Rattle.enip_server.specs.declared.wire_counts.WireCounts.{WireCounts}
@@ -36,7 +38,8 @@ AreStill left written (io ∷ slots) (slot ∷ places) =
 
 -- One call: a peer is added, or refused, with rights and a group or without; room is made for a client; a wire may be
 -- ready, or at the end of its stream; a round that asks the owner of the device, in any state, or one that asks nobody;
--- the device's own write; or a release of all wires, if they hold back what is written to them.
+-- the device's own write; a release of all wires, if they hold back what is written to them; or the adapter takes the time
+-- into account.
 pub data IsStep {W O : Type 0} (left written : W → Option (List ℕ)) (known : W → Option KnownCalls)
     (counts : W → WireCounts) (answer : O → Asked → Option Reply) (next : O → Asked → O)
     : ServerState W → ServerState W → Type 0 where
@@ -60,6 +63,8 @@ pub data IsStep {W O : Type 0} (left written : W → Option (List ℕ)) (known :
       → IsStep left written known counts answer next old new
   Releases : {old new : ServerState W} → AreStill left written old.slots new.slots
       → new ≡ record old { slots = new.slots }
+      → IsStep left written known counts answer next old new
+  Takes_time : {old new : ServerState W} (now : ℕ) → new ≡ record old { adapter = after_call old.adapter (Ticks now) }
       → IsStep left written known counts answer next old new
 
 -- Calls, one after the other.

@@ -1,6 +1,6 @@
 -- What the calls of a wire do to the bytes that are left to read and those that were written, if they are known, and to
 -- the counts of how they went.
-use Rattle.std.specs.Prelude.{Bool, true, ℕ, zero, suc, ◌+◌, ◌%◌, ◌^◌, ◌≡◌, ◌<◌, ◌≤◌, List, [], take, length, Option, Some, None}
+use Rattle.std.specs.Prelude.{Bool, true, false, ℕ, zero, suc, ◌+◌, ◌%◌, ◌^◌, ◌≡◌, ◌<◌, ◌≤◌, List, [], take, length, Option, Some, None}
 use Rattle.std.specs.Io.KnownBytes.{Consumes, Keeps, IsAtEnd}
 use Rattle.enip_server.specs.declared.wire_counts.WireCounts.{WireCounts}
 use Rattle.enip_server.specs.declared.wire.ReadOutcome.{ReadOutcome}
@@ -28,6 +28,14 @@ IsRead before after (Drained size) into = (0 < size) × (size ≤ length into) �
 IsRead before after WouldBlock into = Keeps before after
 IsRead before after End into = Keeps before after × IsAtEnd after
 IsRead before after Failed into = Keeps before after
+
+-- The read gave bytes.
+abbrev pub has_given : ReadOutcome → Bool
+has_given (Bytes size) = true
+has_given (Drained size) = true
+has_given WouldBlock = false
+has_given End = false
+has_given Failed = false
 
 -- The number of bytes that a write took.
 abbrev pub size_taken : Option ℕ → ℕ

@@ -4,6 +4,7 @@ ghost use Rattle.std.specs.Prelude.{◌≡◌, ◌≤◌, ◌<◌, [], IfSome, t
 ghost use Rattle.std.specs.Io.KnownBytes.{Appends};
 ghost use Rattle.std.specs.Option.{option_map};
 
+use crate::gated_wire::GatedWire;
 use crate::io_buffer::IoBuffer;
 use crate::peer_io::{PeerIo, Turn, write_front};
 use crate::wire::{ReadOutcome, Wire};
@@ -15,6 +16,9 @@ use crate::wire_counts::WireCounts;
 /// While bytes are held, a read would block, and so would a write for which there is no capacity left. The writing side
 /// of the wire inside is shut down at the release after which nothing is held. If the wire inside fails to take bytes,
 /// all later reads and writes fail. Bytes that are held when the wire is dropped are never sent.
+///
+/// If the wire inside gives out a frame only once it is admitted (`FrameWire`), so does this one. While bytes are held, no
+/// frame is reported as waiting: a frame that is admitted can be read in the next round.
 ///
 /// ```
 /// let mut peers = Peers::new(alloc, adapter, NO_IDLE_TIMEOUT)?;
@@ -67,10 +71,17 @@ impl<W> HeldWire<W> {
             counts: WireCounts::new(),
         }
     }
+
+    /// The wire inside.
+    pub fn inner(&self) -> &W
+        ensures { result.now ≡ self.now.wire }
+    {
+        &self.wire
+    }
 }
 
 impl<W: Wire> HeldWire<W> {
-    ghost use Rattle.enip_server.specs.Held.{IsReadInside, IsReleased, after_hold, held_unless, shut_if, size_held};
+    ghost use Rattle.enip_server.specs.Held.{IsReadInside, IsReleased, after_hold, held_unless, is_held_back, shut_if, size_held};
     ghost use Rattle.enip_server.specs.Wires.{IsRead};
 
     /// Writes what is held to the wire inside, until that would block or fails. What it does not take stays held. Once
@@ -107,6 +118,13 @@ impl<W: Wire> HeldWire<W> {
         let was_deferred = self.was_deferred;
         self.was_deferred = false;
         was_deferred
+    }
+
+    /// Whether a read makes no read of the wire inside: that has failed, or bytes are held.
+    fn is_held_back(&self) -> bool
+        ensures { result ≡ is_held_back self.now }
+    {
+        self.has_failed || !self.held.is_empty()
     }
 
     /// Reads from the wire inside, unless that has failed or bytes are held.
@@ -208,4 +226,27 @@ impl<W: Wire> Wire for HeldWire<W> {
         self.is_shut = true;
         self.shut_waits = true;
     }
+}
+
+impl<W: GatedWire> GatedWire for HeldWire<W> {
+    ghost use Rattle.enip_server.specs.Held.{held_admitted, held_unwritten, held_waiting};
+
+    ghost waiting = { held_waiting W.waiting };
+
+    ghost admitted = { held_admitted W.admitted };
+
+    fn frame_waiting(&self) -> Option<&[u8]> {
+        if self.is_held_back() {
+            return None;
+        }
+        self.wire.frame_waiting()
+    }
+
+    fn admit(&mut self) {
+        self.wire.admit();
+    }
+
+    ghost unread = { λ w. W.unread w.wire };
+
+    ghost unwritten = { held_unwritten W.written W.admitted W.unwritten };
 }

@@ -1,7 +1,8 @@
 //! A buffer for the input or the output of a peer.
 
 ghost use Rattle.std.specs.Prelude.{◌≡◌, ◌≤◌, ◌-◌, ◌==◌, ◌++◌, [], length, take, drop, min};
-ghost use Rattle.std.specs.Io.KnownBytes.{Consumes};
+ghost use Rattle.std.specs.Io.KnownBytes.{Consumes, IsAtEnd};
+ghost use Rattle.enip_server.specs.declared.wire.ReadOutcome.TheVariants.{End};
 ghost use Rattle.std.specs.Option.{option_map};
 ghost use Rattle.enip_server.specs.Wires.{AreReadBy, after_read, with_asked};
 
@@ -99,6 +100,7 @@ impl IoBuffer {
     pub(crate) fn fill<W: Wire>(&mut self, wire: &mut W) -> ReadOutcome
         ensures read { Consumes (W.left wire.old) (W.left wire.new) self.new }
         ensures bytes { AreReadBy result self.new }
+        ensures end { result ≡ End → IsAtEnd (W.left wire.new) }
         ensures few { length self.new ≤ IO_BUFFER_SIZE }
         ensures written { W.written wire.new ≡ W.written wire.old }
         ensures known { W.known wire.new ≡ option_map (with_asked IO_BUFFER_SIZE) (W.known wire.old) }

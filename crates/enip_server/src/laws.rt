@@ -9,13 +9,17 @@ ghost use Rattle.enip_adapter.specs.declared.adapter.Full.{Full};
 ghost use Rattle.enip_adapter.specs.declared.peer.Rights.{Rights};
 ghost use Rattle.enip_server.specs.declared.held_wire.HeldWire.{HeldWire};
 ghost use Rattle.enip_server.specs.declared.peer_io.PeerIo.{PeerIo};
+ghost use Rattle.enip_server.specs.Admissions.{AreShown};
 ghost use Rattle.enip_server.specs.PeerStates.{PeerState, IsTurn, peer_state_of};
 ghost use Rattle.enip_server.specs.Transfers.{Transfers, IsTurnCall, GoesOnWith, AreAsked};
 ghost use Rattle.enip_server.specs.Rounds.{ServerState, IsRound, new_peers, new_peer_io};
 ghost use Rattle.enip_server.specs.Evictions.{IsAddedAs, is_registered, slot_for, with_room};
 ghost use Rattle.enip_server.specs.Held.{AreReleased};
 ghost use Rattle.enip_server.specs.Runs.{IsRun, IsStep, KeepsSlot};
+ghost use Rattle.enip_server.specs.Watching.{AreFrames, IsChanged};
 
+use crate::gate::Gate;
+use crate::gated_wire::GatedWire;
 use crate::held_wire::HeldWire;
 use crate::wire::Wire;
 use cip_owner::Owner;
@@ -36,6 +40,16 @@ pub fn rounds_ask_in_order<W: Wire, O: Owner>()
     ensures { (now : ℕ) (first last : O) (old new : ServerState W) →
         IsRound W.left W.written W.known W.counts O.answer O.after now first old last new →
         AreAsked O.answer O.after first old.adapter last new.adapter }
+{}
+
+/// A round changes the device by frames of peers, one after the other, and by nothing else. No other call changes it but
+/// a write of the device itself. So a watcher that is passed to each round sees each change that a peer makes.
+pub fn frames_change_the_device<W: Wire, O: Owner>()
+    ensures round { (now : ℕ) (first last : O) (old new : ServerState W) →
+        IsRound W.left W.written W.known W.counts O.answer O.after now first old last new →
+        AreFrames old.adapter.state.shared.objects new.adapter.state.shared.objects }
+    ensures step { (old new : ServerState W) → IsStep W.left W.written W.known W.counts O.answer O.after old new →
+        IsChanged old.adapter.state.shared.objects new.adapter.state.shared.objects }
 {}
 
 /// Peers are served apart, whatever calls are made, with the device's own writes and the owner's replies among them,
@@ -69,6 +83,14 @@ pub fn releases_lose_nothing<W: Wire, O: Owner>()
     ensures { (old new : ServerState (HeldWire W)) → AreReleased W.left W.written W.known W.counts old new →
         IsStep ⟦<HeldWire<W> as Wire>⟧.left ⟦<HeldWire<W> as Wire>⟧.written ⟦<HeldWire<W> as Wire>⟧.known
         ⟦<HeldWire<W> as Wire>⟧.counts O.answer O.after old new }
+{}
+
+/// An admission of frames is made of calls of which `peers_are_served_apart` speaks: no byte is lost, doubled or mixed up by
+/// it. The adapter takes the time into account, and nothing of it changes otherwise.
+pub fn admissions_lose_nothing<W: GatedWire, O: Owner, G: Gate<W>>()
+    ensures { (now : ℕ) (gate next : G) (old new : ServerState W) →
+        AreShown W.waiting W.admitted G.shows now gate old next new →
+        IsRun W.left W.written W.known W.counts O.answer O.after old new }
 {}
 
 /// Nobody with a session gives way to a new client, and nobody from whom a byte arrived in the last 10 seconds: such a

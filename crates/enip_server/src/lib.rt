@@ -14,9 +14,14 @@
 //!   the next frame is fed.
 //! - `round_asking` does the same, and asks the owner of the device (`cip_owner::Owner`) about each request to it: its
 //!   reply is the answer to that frame. In `round` such a request is answered "device state conflict" (0x10).
+//! - `round_watched` does the same, and shows the device to a `Watcher` after each frame, before the next one is fed.
 //! - `release` lets the answers of a round leave, if each wire is a `HeldWire`, which holds back what is written to it.
-//! - Between rounds, `adapter` reads the objects and connections, and `write_data`, `write_attribute`,
-//!   `set_device_status` and `set_device_state` write on behalf of the device itself.
+//! - `admit_frames` admits the frames of a round that wait, if each wire is a `GatedWire`: a `FrameWire`, alone or inside a
+//!   `HeldWire`. A `Gate` decides about each request to the owner. So one peer can wait for the owner's answer while others
+//!   are served.
+//! - Between rounds, `adapter` reads the objects, connections and queued commands, `write_data`, `write_attribute`,
+//!   `set_device_status` and `set_device_state` write on behalf of the device itself, and `finish` finishes a queued
+//!   command.
 //!
 //! No call after `Peers::new` allocates memory.
 //!
@@ -73,6 +78,19 @@
 //! }
 //! ```
 //!
+//! A program that must learn of each change, and not only of the last one, passes a watcher:
+//!
+//! ```
+//! fn serve_watched<W: Wire + Drop, T: Watcher<W>>(
+//!     peers: &mut Peers<W>,
+//!     now: u64,
+//!     log: &mut T,
+//! ) -> RoundEnd {
+//!     // after each frame of a peer, `log` sees the device and the wire of that peer
+//!     peers.round_watched(now, &mut NoOwner, log)
+//! }
+//! ```
+//!
 //! A server that stores what a round changed before its answers leave has a `HeldWire` around each wire:
 //!
 //! ```
@@ -90,19 +108,29 @@
 //! ```
 #![tactic(auto)]
 
+mod admissions;
 mod evictions;
+mod frame_cursor;
+mod frame_wire;
+mod gate;
+mod gated_wire;
 mod held_wire;
 mod io_buffer;
 pub mod laws;
 mod peer_io;
 mod peers;
+mod watcher;
 mod wire;
 mod wire_counts;
 
 pub use evictions::EVICTION_SILENCE;
+pub use frame_wire::FrameWire;
+pub use gate::Gate;
+pub use gated_wire::GatedWire;
 pub use held_wire::HeldWire;
 pub use io_buffer::IO_BUFFER_SIZE;
 pub use peer_io::LINGER;
 pub use peers::{NO_IDLE_TIMEOUT, Peers, RoundEnd};
+pub use watcher::{NoWatcher, Watcher};
 pub use wire::{ReadOutcome, Wire};
 pub use wire_counts::WireCounts;

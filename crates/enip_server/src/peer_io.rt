@@ -4,6 +4,7 @@
 ghost use Rattle.std.specs.Prelude.{◌≡◌, ◌≢◌, ◌≤◌, ◌<◌, [], length, take, Some, None, true, false, IfSome, IfNone, IfErr, IfOk};
 ghost use Rattle.std.specs.Io.KnownBytes.{Appends};
 ghost use Rattle.enip_adapter.specs.Calls.{AdapterState};
+ghost use Rattle.enip_server.specs.Admissions.{has_bytes};
 ghost use Rattle.enip_server.specs.Evictions.{may_give_way};
 ghost use Rattle.enip_server.specs.Rounds.{timeout_at, IsServedPeer};
 ghost use Rattle.enip_server.specs.PeerStates.{peer_state_of, fed_once, owner_fed, closed_at, IsFlushed, AreFed, IsDiscarded, IsTurn, FitsBuffers, FitsCounts, IsWaiting};
@@ -11,6 +12,7 @@ ghost use Rattle.enip_server.specs.PeerStates.{IsFetched, IsByRead, IsThrough, G
 
 use crate::evictions::EVICTION_SILENCE;
 use crate::io_buffer::{IO_BUFFER_SIZE, IoBuffer};
+use crate::watcher::Watcher;
 use crate::wire::{ReadOutcome, Wire};
 use cip_owner::Owner;
 use enip_adapter::{Adapter, Peer};
@@ -103,6 +105,13 @@ impl<W: Wire> PeerIo<W> {
         }
     }
 
+    /// Whether bytes were read and not fed, or are of an answer and were not written.
+    pub(crate) fn has_bytes(&self) -> bool
+        ensures { result ≡ has_bytes self.now }
+    {
+        !self.inbox.is_empty() || !self.outbox.is_empty()
+    }
+
     /// When the last byte arrived, or when the peer began.
     pub(crate) fn last_byte_at(&self) -> u64
         ensures { result ≡ self.now.last_byte_at }
@@ -123,15 +132,18 @@ impl<W: Wire> PeerIo<W> {
 
     /// Gives the peer a turn if its wire may be ready. Returns whether the peer goes on: not if it timed out, and not
     /// if its stream is over.
-    pub(crate) fn serve<O: Owner>(
+    pub(crate) fn serve<O: Owner, T: Watcher<W>>(
         &mut self,
         adapter: &mut Adapter,
         owner: &mut O,
+        watcher: &mut T,
         now: u64,
         idle_timeout: u64,
     ) -> bool
-        ensures { IsServedPeer W.left W.written W.known W.counts O.answer O.after now idle_timeout
+        ensures served { IsServedPeer W.left W.written W.known W.counts O.answer O.after now idle_timeout
             owner.old adapter.old self.old owner.new adapter.new self.new result }
+        ensures watched { T.has_seen watcher.old adapter.old.state.shared.objects →
+            T.has_seen watcher.new adapter.new.state.shared.objects }
     {
         if now >= self.timeout_at(idle_timeout) {
             return false;
@@ -139,16 +151,24 @@ impl<W: Wire> PeerIo<W> {
         if !self.ready {
             return true;
         }
-        let turn = self.turn(adapter, owner, now);
+        let turn = self.turn(adapter, owner, watcher, now);
         self.ready = turn == Turn::More;
         turn != Turn::Finished
     }
 
     /// One turn: writes what is left of an answer; once all of it is written, makes one read and feeds it.
-    fn turn<O: Owner>(&mut self, adapter: &mut Adapter, owner: &mut O, now: u64) -> Turn
+    fn turn<O: Owner, T: Watcher<W>>(
+        &mut self,
+        adapter: &mut Adapter,
+        owner: &mut O,
+        watcher: &mut T,
+        now: u64,
+    ) -> Turn
         ensures turn { IsTurn O.answer O.after now self.old.peer
             owner.old (peer_state_of W.left W.written W.known W.counts adapter.old self.old)
             owner.new (peer_state_of W.left W.written W.known W.counts adapter.new self.new) }
+        ensures watched { T.has_seen watcher.old adapter.old.state.shared.objects →
+            T.has_seen watcher.new adapter.new.state.shared.objects }
         ensures fits_buffers { FitsBuffers (peer_state_of W.left W.written W.known W.counts adapter.new self.new) result }
         ensures fits_counts { FitsCounts self.old.end_reported (is_closed_now self.old.closed self.new.closed) result
             (W.counts self.old.wire) (W.counts self.new.wire) }
@@ -165,7 +185,7 @@ impl<W: Wire> PeerIo<W> {
         if self.inbox.is_empty() {
             return turn;
         }
-        if let Some(cut_short) = self.feed_all(adapter, owner, now) {
+        if let Some(cut_short) = self.feed_all(adapter, owner, watcher, now) {
             return cut_short;
         }
         turn
@@ -195,12 +215,20 @@ impl<W: Wire> PeerIo<W> {
 
     /// Feeds the inbox, frame by frame. Returns `None` if nothing is left. Otherwise it returns the outcome of the
     /// turn: an answer is not written to its end, or the adapter closed the peer.
-    fn feed_all<O: Owner>(&mut self, adapter: &mut Adapter, owner: &mut O, now: u64) -> Option<Turn>
+    fn feed_all<O: Owner, T: Watcher<W>>(
+        &mut self,
+        adapter: &mut Adapter,
+        owner: &mut O,
+        watcher: &mut T,
+        now: u64,
+    ) -> Option<Turn>
         requires out { self.old.outbox ≡ [] }
         requires open { self.old.closed ≡ None }
         ensures fed { AreFed O.answer O.after now self.old.peer
             owner.old (peer_state_of W.left W.written W.known W.counts adapter.old self.old)
             owner.new (peer_state_of W.left W.written W.known W.counts adapter.new self.new) }
+        ensures watched { T.has_seen watcher.old adapter.old.state.shared.objects →
+            T.has_seen watcher.new adapter.new.state.shared.objects }
         ensures out { IfNone result ((self.new.outbox ≡ []) × (self.new.inbox ≡ [])) }
         ensures fits_buffers { IfSome result (FitsBuffers (peer_state_of W.left W.written W.known W.counts adapter.new self.new)) }
         ensures goes_on { IfNone result (GoesOn (W.counts self.old.wire) (W.counts self.new.wire)) }
@@ -210,7 +238,7 @@ impl<W: Wire> PeerIo<W> {
         ensures end_reported { self.new.end_reported ≡ self.old.end_reported }
     {
         while !self.inbox.is_empty() {
-            if let Some(unsent) = self.feed_once(adapter, owner, now) {
+            if let Some(unsent) = self.feed_watched(adapter, owner, watcher, now) {
                 return Some(unsent);
             }
             if self.closed.is_some() {
@@ -218,6 +246,38 @@ impl<W: Wire> PeerIo<W> {
             }
         }
         None
+    }
+
+    /// Feeds the inbox as `feed_once` does, and shows the device to the watcher.
+    fn feed_watched<O: Owner, T: Watcher<W>>(
+        &mut self,
+        adapter: &mut Adapter,
+        owner: &mut O,
+        watcher: &mut T,
+        now: u64,
+    ) -> Option<Turn>
+        requires out { self.old.outbox ≡ [] }
+        requires open { self.old.closed ≡ None }
+        ensures fed { IsFlushed (fed_once O.answer O.after now self.old.peer owner.old
+            (peer_state_of W.left W.written W.known W.counts adapter.old self.old))
+            (peer_state_of W.left W.written W.known W.counts adapter.new self.new) }
+        ensures owner { owner.new ≡ owner_fed O.answer O.after now self.old.peer owner.old
+            (peer_state_of W.left W.written W.known W.counts adapter.old self.old) }
+        ensures watched { T.has_seen watcher.old adapter.old.state.shared.objects →
+            T.has_seen watcher.new adapter.new.state.shared.objects }
+        ensures out { IfNone result (self.new.outbox ≡ []) }
+        ensures waits { IfSome result (λ turn. (self.new.outbox ≢ []) × IsWaiting turn) }
+        ensures goes_on { IfNone result (GoesOn (W.counts self.old.wire) (W.counts self.new.wire)) }
+        ensures fits_counts { IfSome result (λ turn.
+            IsCutShort self.new.closed turn (W.counts self.old.wire) (W.counts self.new.wire)) }
+        ensures peer { self.new.peer ≡ self.old.peer }
+        ensures end_reported { self.new.end_reported ≡ self.old.end_reported }
+        ensures progress { 0 < length self.old.inbox → self.new.closed ≡ None →
+            length self.new.inbox < length self.old.inbox }
+    {
+        let unsent = self.feed_once(adapter, owner, now);
+        watcher.served(&self.wire, adapter);
+        unsent
     }
 
     /// Feeds the inbox up to the end of one frame, and writes the answer. The owner is asked if the frame is a request to

@@ -4,6 +4,7 @@
 ghost use Rattle.std.specs.Prelude.{◌≡◌, ◌≤◌, ◌<◌, length, IfOk, IfSome, is_ok, is_some};
 ghost use Rattle.std.specs.List.{list_any};
 ghost use Rattle.std.specs.Option.{option_map};
+ghost use Rattle.cip_ledger.specs.Device.{finished_in};
 ghost use Rattle.cip_objects.specs.DeviceWrites.{device_write};
 ghost use Rattle.enip_adapter.specs.Discovery.{discovered};
 ghost use Rattle.enip_adapter.specs.OwnWrites.{OwnWrite, attribute_write};
@@ -12,13 +13,18 @@ ghost use Rattle.enip_server.specs.Rounds.{state_of, new_peers, first_free, IsAd
 ghost use Rattle.enip_server.specs.Rounds.{due_with, due_by, moment_or_none, written_by};
 ghost use Rattle.enip_server.specs.Rounds.{nobody, no_answer, same_nobody};
 ghost use Rattle.enip_server.specs.Evictions.{IsAddedAs, freed, gives_way, slot_for, slot_found, with_room};
+ghost use Rattle.enip_server.specs.Admissions.{AreShown};
 ghost use Rattle.enip_server.specs.Held.{IsSlotReleased, AreSlotsReleased, AreReleased};
 
+use crate::admissions::admit_slots;
 use crate::evictions::longest_silent;
+use crate::gate::Gate;
+use crate::gated_wire::GatedWire;
 use crate::held_wire::HeldWire;
 use crate::peer_io::{PeerIo, Turn};
+use crate::watcher::{NoWatcher, Watcher};
 use crate::wire::Wire;
-use cip_owner::{NoOwner, Owner};
+use cip_owner::{NoOwner, Owner, OwnerReply};
 use enip_adapter::{Adapter, DiscoveryBuffer, Full, LONGEST_ANSWER, Rights};
 use std::alloc::{AllocError, Global};
 use std::boxed::BoxedSlice;
@@ -56,12 +62,22 @@ struct Due {
 /// }
 /// let end = peers.round(now);
 /// ```
-#[derive(Drop)]
 pub struct Peers<W> {
     adapter: Adapter,
     /// For how long a peer may send nothing, in microseconds.
     idle_timeout: u64,
     slots: BoxedSlice<Option<PeerIo<W>>>,
+}
+
+// Written out, so that each exit of a function that owns one calls it, and has no drop of every part.
+impl<W: Drop> Drop for Peers<W> {
+    fn drop(self) {
+        let Peers {
+            adapter: _,
+            idle_timeout: _,
+            slots: _,
+        } = self;
+    }
 }
 
 impl<W: Wire + Drop> Peers<W> {
@@ -258,6 +274,30 @@ impl<W: Wire + Drop> Peers<W> {
         ensures ready { result.ready ≡ list_any is_ready (state_of self.new).slots }
         ensures next { result.next ≡ next_moment (state_of self.new) }
     {
+        self.round_watched(now, owner, &mut NoWatcher)
+    }
+
+    /// Serves one round at the time `now`, as `round_asking` does, and shows the device to a watcher: after each frame of
+    /// a peer, before the next one is fed. If the watcher had seen all that led to the device before the round, it has seen
+    /// all that led to the device after it. Between rounds, nothing but the device's own calls changes the device.
+    ///
+    /// ```
+    /// let end = peers.round_watched(now, &mut NoOwner, &mut log);
+    /// ```
+    pub fn round_watched<O: Owner, T: Watcher<W>>(
+        &mut self,
+        now: u64,
+        owner: &mut O,
+        watcher: &mut T,
+    ) -> RoundEnd
+        ensures round { IsRound W.left W.written W.known W.counts O.answer O.after now
+            owner.old (state_of self.old) owner.new (state_of self.new) }
+        ensures watched { T.has_seen watcher.old (state_of self.old).adapter.state.shared.objects →
+            T.has_seen watcher.new (state_of self.new).adapter.state.shared.objects }
+        ensures ended { result.ended ≡ ended_in (state_of self.old).slots (state_of self.new).slots }
+        ensures ready { result.ready ≡ list_any is_ready (state_of self.new).slots }
+        ensures next { result.next ≡ next_moment (state_of self.new) }
+    {
         let mut due = Due {
             ready: false,
             moment: u64::MAX,
@@ -267,6 +307,7 @@ impl<W: Wire + Drop> Peers<W> {
             &mut self.slots,
             &mut self.adapter,
             owner,
+            watcher,
             now,
             self.idle_timeout,
             &mut due,
@@ -347,6 +388,24 @@ impl<W: Wire + Drop> Peers<W> {
         self.adapter.set_device_state(state);
     }
 
+    /// Finishes a queued command, by its ticket, with the owner's reply: it waits no longer, and peers that are served later
+    /// get its result. The commands that wait are in the queue of the adapter (`Adapter::queue`).
+    ///
+    /// Returns `false`, and changes nothing, if no command with this ticket waits, or if the reply cannot be given to it
+    /// (`Adapter::finish`). No slot, wire, buffer or idle timeout changes.
+    ///
+    /// ```
+    /// let finished = peers.finish(ticket, &reply);
+    /// ```
+    pub fn finish(&mut self, ticket: u32, reply: &OwnerReply) -> bool
+        ensures call { state_of self.new
+            ≡ written_by (OwnWrite.Finishes ticket reply.now) (state_of self.old) }
+        ensures told { result
+            ≡ is_some (finished_in ticket reply.now (state_of self.old).adapter.state.shared.objects) }
+    {
+        self.adapter.finish(ticket, reply)
+    }
+
     /// The answer to a datagram, written into `room`. A datagram is answered if it is exactly one ListIdentity,
     /// ListServices or ListInterfaces. `None` for any other datagram. No peer, session or connection changes.
     pub fn discover<'a>(&self, datagram: &[u8], room: &'a mut DiscoveryBuffer) -> Option<&'a [u8]>
@@ -401,6 +460,27 @@ impl<W: Wire + Drop> Peers<HeldWire<W>> {
     }
 }
 
+impl<W: GatedWire + Drop> Peers<W> {
+    /// Admits the frames that wait, after a round at the time `now`: each that asks nothing of the owner of the device, and
+    /// of the others those that the gate admits. A frame waits once its last bytes were read, and is looked at once all
+    /// bytes before it were fed and answered. Its peer has a turn in the next round once it is admitted. No peer is ended,
+    /// and nothing is fed: the adapter takes the time into account, and nothing else changes.
+    ///
+    /// Returns whether a wire may be ready now, in place of `RoundEnd::ready` of the round before.
+    ///
+    /// ```
+    /// let end = peers.round_asking(now, &mut replies);
+    /// let ready = peers.admit_frames(now, &mut gate);
+    /// let end = RoundEnd { ready, ..end };
+    /// ```
+    pub fn admit_frames<G: Gate<W>>(&mut self, now: u64, gate: &mut G) -> bool
+        ensures shown { AreShown W.waiting W.admitted G.shows now gate.old (state_of self.old) gate.new (state_of self.new) }
+        ensures ready { result ≡ list_any is_ready (state_of self.new).slots }
+    {
+        admit_slots(&mut self.slots, &mut self.adapter, now, gate)
+    }
+}
+
 /// Releases the wires in these slots. Returns whether one of the peers may have a turn now.
 fn release_slots<W: Wire + Drop>(slots: &mut [Option<PeerIo<HeldWire<W>>>]) -> bool
     ensures released { AreSlotsReleased W.left W.written W.known W.counts slots.old slots.new }
@@ -439,16 +519,19 @@ fn moment_or_none(moment: u64) -> Option<u64>
 
 /// Serves the slots of a round, one after the other. Returns the number of peers that ended. When the others are due
 /// again is added to `due`.
-fn serve_slots<W: Wire + Drop, O: Owner>(
+fn serve_slots<W: Wire + Drop, O: Owner, T: Watcher<W>>(
     places: &mut [Option<PeerIo<W>>],
     adapter: &mut Adapter,
     owner: &mut O,
+    watcher: &mut T,
     now: u64,
     idle_timeout: u64,
     due: &mut Due,
 ) -> usize
     ensures served { AreSlotsServed W.left W.written W.known W.counts O.answer O.after now idle_timeout
         owner.old adapter.old places.old owner.new adapter.new places.new }
+    ensures watched { T.has_seen watcher.old adapter.old.state.shared.objects →
+        T.has_seen watcher.new adapter.new.state.shared.objects }
     ensures ended { result ≡ ended_in places.old places.new }
     ensures few { result ≤ length places.old }
     ensures due { due.new ≡ due_by idle_timeout due.old places.new }
@@ -456,28 +539,31 @@ fn serve_slots<W: Wire + Drop, O: Owner>(
     let Some((slot, others)) = places.split_first_mut() else {
         return 0;
     };
-    let ended = serve_slot(slot, adapter, owner, now, idle_timeout, due);
-    usize::from(ended) + serve_slots(others, adapter, owner, now, idle_timeout, due)
+    let ended = serve_slot(slot, adapter, owner, watcher, now, idle_timeout, due);
+    usize::from(ended) + serve_slots(others, adapter, owner, watcher, now, idle_timeout, due)
 }
 
 /// Serves one slot of a round. Returns whether its peer ended. If not, when it is due again is added to `due`.
-fn serve_slot<W: Wire + Drop, O: Owner>(
+fn serve_slot<W: Wire + Drop, O: Owner, T: Watcher<W>>(
     slot: &mut Option<PeerIo<W>>,
     adapter: &mut Adapter,
     owner: &mut O,
+    watcher: &mut T,
     now: u64,
     idle_timeout: u64,
     due: &mut Due,
 ) -> bool
     ensures served { IsSlotServed W.left W.written W.known W.counts O.answer O.after now idle_timeout
         owner.old adapter.old slot.old owner.new adapter.new slot.new }
+    ensures watched { T.has_seen watcher.old adapter.old.state.shared.objects →
+        T.has_seen watcher.new adapter.new.state.shared.objects }
     ensures ended { result ≡ has_ended slot.old slot.new }
     ensures due { due.new ≡ due_with idle_timeout due.old slot.new }
 {
     let Some(io) = slot else {
         return false;
     };
-    if io.serve(adapter, owner, now, idle_timeout) {
+    if io.serve(adapter, owner, watcher, now, idle_timeout) {
         due.ready = due.ready || io.ready;
         due.moment = due.moment.min(io.timeout_at(idle_timeout));
         return false;

@@ -4,7 +4,7 @@ ghost use Rattle.std.specs.Option.{option_map};
 ghost use Rattle.std.specs.Prelude.{ℕ, List, Option, ◌≡◌, ◌<◌, ◌≤◌, length, take, IfSome};
 ghost use Rattle.std.specs.Io.KnownBytes.{Appends};
 ghost use Rattle.enip_server.specs.declared.wire_counts.WireCounts.{WireCounts};
-ghost use Rattle.enip_server.specs.Wires.{KnownCalls, IsRead, size_taken, after_read, after_write, with_asked, with_shut};
+ghost use Rattle.enip_server.specs.Wires.{KnownCalls, IsRead, has_given, size_taken, after_read, after_write, with_asked, with_shut};
 
 /// The outcome of a read.
 #[derive(Clone, Copy, Debug, PartialEq, Eq)]
@@ -20,6 +20,18 @@ pub enum ReadOutcome {
     End,
     /// The read failed.
     Failed,
+}
+
+impl ReadOutcome {
+    /// Whether the read gave bytes.
+    pub(crate) fn has_given(self) -> bool
+        ensures { result ≡ has_given self }
+    {
+        match self {
+            ReadOutcome::Bytes(_) | ReadOutcome::Drained(_) => true,
+            ReadOutcome::WouldBlock | ReadOutcome::End | ReadOutcome::Failed => false,
+        }
+    }
 }
 
 /// A stream to and from a peer. No call blocks.

@@ -1,8 +1,11 @@
 //! The completion script of bash.
 
-use crate::names::{HELP, write_help_topics, write_list, write_names, write_services, write_types};
+use crate::names::{
+    HELP, Layout, write_class_attributes, write_help_topics, write_list, write_names,
+    write_services, write_texts, write_types,
+};
 use crate::tables::{Argument, Command, Program, Takes};
-use cip_names::{CLASS_ATTRIBUTES, CLASSES, attribute_names};
+use cip_names::{CLASS_ATTRIBUTES, CLASSES};
 use std::io::{self, Write};
 
 /// Writes the completion script of bash. It depends on nothing but bash 4.2.
@@ -11,8 +14,9 @@ use std::io::{self, Write};
 ///
 /// Those of the writer.
 pub fn write_bash<W: Write>(output: &mut W, program: &Program) -> io::Result<()> {
-    writeln!(output, "# bash completion of enip {}", program.version)?;
-    output.write_all(b"# Written by: enip completions bash\n")?;
+    let start = "# bash completion of enip ";
+    let end = "\n# Written by: enip completions bash\n";
+    write_texts(output, &[start, program.version, end])?;
     write_commands(output, program)?;
     write_options(output, program)?;
     write_values(output, program)?;
@@ -51,9 +55,9 @@ _enip_attributes() {
 fn write_commands<W: Write>(output: &mut W, program: &Program) -> io::Result<()> {
     output.write_all(b"\n_enip_commands() {\n    words='")?;
     for command in &program.commands {
-        write!(output, "{} ", command.name)?;
+        write_texts(output, &[command.name, " "])?;
     }
-    writeln!(output, "{HELP}'\n}}")
+    write_texts(output, &[HELP, "'\n}\n"])
 }
 
 /// Writes the function that gives the options of a command.
@@ -62,15 +66,21 @@ fn write_options<W: Write>(output: &mut W, program: &Program) -> io::Result<()> 
         b"\n# The options of a command.\n_enip_options() {\n    words=\n    case $1 in\n",
     )?;
     for command in &program.commands {
-        write!(output, "    {}) words='", command.name)?;
-        for argument in &command.arguments {
-            if let Some(option) = argument.option {
-                write!(output, "--{option} ")?;
-            }
-        }
+        write_texts(output, &["    ", command.name, ") words='"])?;
+        write_option_names(output, command)?;
         output.write_all(b"-h --help' ;;\n")?;
     }
     output.write_all(b"    '') words='-h --help -V --version' ;;\n    esac\n}\n")
+}
+
+/// Writes the options of a command with a space after each.
+fn write_option_names<W: Write>(output: &mut W, command: &Command) -> io::Result<()> {
+    for argument in &command.arguments {
+        if let Some(option) = argument.option {
+            write_texts(output, &["--", option, " "])?;
+        }
+    }
+    Ok(())
 }
 
 /// Writes the function that gives what an option takes.
@@ -78,14 +88,18 @@ fn write_values<W: Write>(output: &mut W, program: &Program) -> io::Result<()> {
     output.write_all(VALUE.as_bytes())?;
     for command in &program.commands {
         for argument in &command.arguments {
-            write_value(output, command, argument)?;
+            write_value(output, command.name, argument)?;
         }
     }
     output.write_all(b"    esac\n}\n")
 }
 
 /// Writes what an option of a command takes. Nothing for an argument or a flag.
-fn write_value<W: Write>(output: &mut W, command: &Command, argument: &Argument) -> io::Result<()> {
+fn write_value<W: Write>(
+    output: &mut W,
+    command: &'static str,
+    argument: &Argument,
+) -> io::Result<()> {
     let Some(option) = argument.option else {
         return Ok(());
     };
@@ -93,7 +107,7 @@ fn write_value<W: Write>(output: &mut W, command: &Command, argument: &Argument)
         return Ok(());
     }
     let end = if argument.is_optional { "=" } else { "" };
-    write!(output, "    {}--{option}{end}) kind=", command.name)?;
+    write_texts(output, &["    ", command, "--", option, end, ") kind="])?;
     write_kind(output, argument.takes)?;
     output.write_all(b" ;;\n")
 }
@@ -120,33 +134,40 @@ fn write_kind<W: Write>(output: &mut W, takes: Takes) -> io::Result<()> {
 fn write_arguments<W: Write>(output: &mut W, program: &Program) -> io::Result<()> {
     output.write_all(ARGUMENTS.as_bytes())?;
     for command in &program.commands {
-        write!(output, "    {}) kinds=(", command.name)?;
-        for argument in &command.arguments {
-            if argument.option.is_none() {
-                write_kind(output, argument.takes)?;
-                output.write_all(b" ")?;
-            }
-        }
+        write_texts(output, &["    ", command.name, ") kinds=("])?;
+        write_kinds(output, command)?;
         output.write_all(b") ;;\n")?;
     }
-    write!(output, "    {HELP}) kinds=('names")?;
+    write_texts(output, &["    ", HELP, ") kinds=('names"])?;
     write_help_topics(output, program)?;
     output.write_all(b"') ;;\n    esac\n}\n")
 }
+
+/// Writes what each argument of a command takes, with a space after each.
+fn write_kinds<W: Write>(output: &mut W, command: &Command) -> io::Result<()> {
+    for argument in &command.arguments {
+        if argument.option.is_none() {
+            write_kind(output, argument.takes)?;
+            output.write_all(b" ")?;
+        }
+    }
+    Ok(())
+}
+
+/// The texts around a class and its attributes.
+const CLASS_LAYOUT: Layout = Layout {
+    start: "    ",
+    between: " | ",
+    middle: ") words='",
+    end: "' ;;\n",
+};
 
 /// Writes the function that gives the attributes of a class.
 fn write_attributes<W: Write>(output: &mut W) -> io::Result<()> {
     output.write_all(ATTRIBUTES.as_bytes())?;
     write_names(output, &CLASS_ATTRIBUTES)?;
     output.write_all(b"'\n        return\n        ;;\n    esac\n    case ${1,,} in\n")?;
-    for (name, class) in CLASSES {
-        write!(
-            output,
-            "    {name} | {class} | {class:#x} | {class:#04x}) words='"
-        )?;
-        write_names(output, attribute_names(class, 1))?;
-        output.write_all(b"' ;;\n")?;
-    }
+    write_class_attributes(output, &CLASS_LAYOUT)?;
     output.write_all(b"    esac\n}\n")
 }
 
@@ -156,9 +177,7 @@ fn write_completions<W: Write>(output: &mut W) -> io::Result<()> {
     output.write_all(b"    type) words='")?;
     write_types(output, "")?;
     output.write_all(b"' ;;\n    class) words='")?;
-    for (name, _) in CLASSES {
-        write!(output, " {name}")?;
-    }
+    write_names(output, &CLASSES)?;
     output.write_all(b"' ;;\n    service) words='")?;
     write_services(output)?;
     output.write_all(b"' ;;\n    esac\n    _enip_reply \"$2\" \"$3\"\n}\n")

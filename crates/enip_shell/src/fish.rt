@@ -1,8 +1,11 @@
 //! The completion script of fish.
 
-use crate::names::{HELP, write_help_topics, write_list, write_names, write_services, write_types};
+use crate::names::{
+    HELP, Layout, write_class_attributes, write_help_topics, write_list, write_names,
+    write_services, write_texts, write_types,
+};
 use crate::tables::{Argument, Command, Program, Takes};
-use cip_names::{CLASS_ATTRIBUTES, CLASSES, attribute_names};
+use cip_names::{CLASS_ATTRIBUTES, CLASSES};
 use std::fmt;
 use std::io::{self, Write};
 
@@ -13,14 +16,28 @@ struct Quoted<'a>(&'a str);
 impl fmt::Display for Quoted<'_> {
     fn fmt<W: fmt::Write>(&self, f: &mut fmt::Formatter<W>) -> fmt::Result {
         for c in self.0.chars() {
-            match c {
-                '\'' | '\\' => write!(f, "\\{c}")?,
-                '\n' => f.write_str(" ")?,
-                _ => write!(f, "{c}")?,
+            match escape(c) {
+                Some(text) => f.write_str(text)?,
+                None => f.write_char(c)?,
             }
         }
         Ok(())
     }
+}
+
+/// What is written for a character in single quotes, if not the character.
+fn escape(c: char) -> Option<&'static str> {
+    match c {
+        '\'' => Some("\\'"),
+        '\\' => Some("\\\\"),
+        '\n' => Some(" "),
+        _ => None,
+    }
+}
+
+/// Writes a text in single quotes, and the end of the line.
+fn write_quoted<W: Write>(output: &mut W, text: &str) -> io::Result<()> {
+    writeln!(output, "'{}'", Quoted(text))
 }
 
 /// Writes the completion script of fish, version 3.0 or later.
@@ -29,8 +46,9 @@ impl fmt::Display for Quoted<'_> {
 ///
 /// Those of the writer.
 pub fn write_fish<W: Write>(output: &mut W, program: &Program) -> io::Result<()> {
-    writeln!(output, "# fish completion of enip {}", program.version)?;
-    output.write_all(b"# Written by: enip completions fish\n")?;
+    let start = "# fish completion of enip ";
+    let end = "\n# Written by: enip completions fish\n";
+    write_texts(output, &[start, program.version, end])?;
     write_walk(output, program)?;
     output.write_all(CONDITIONS.as_bytes())?;
     write_lists(output)?;
@@ -44,11 +62,8 @@ pub fn write_fish<W: Write>(output: &mut W, program: &Program) -> io::Result<()>
 
 /// Writes how `help` and what it takes are completed.
 fn write_help<W: Write>(output: &mut W, program: &Program) -> io::Result<()> {
-    writeln!(
-        output,
-        "\ncomplete -c enip -n '__enip_at 0' -a {HELP} -d 'Print the help of a command'"
-    )?;
-    write!(output, "complete -c enip -n '__enip_at 1 {HELP}' -a '")?;
+    let topics = "' -a '";
+    write_texts(output, &[HELP_START, HELP, HELP_ABOUT, HELP, topics])?;
     write_help_topics(output, program)?;
     output.write_all(b"'\n")
 }
@@ -57,13 +72,19 @@ fn write_help<W: Write>(output: &mut W, program: &Program) -> io::Result<()> {
 fn write_walk<W: Write>(output: &mut W, program: &Program) -> io::Result<()> {
     output.write_all(WALK.as_bytes())?;
     for command in &program.commands {
-        for argument in &command.arguments {
-            if let (Some(option), false) = (argument.option, is_flag(argument)) {
-                write!(output, "|{option}")?;
-            }
-        }
+        write_valued(output, command)?;
     }
     output.write_all(WALK_END.as_bytes())
+}
+
+/// Writes the options of a command that have a value, with `|` before each.
+fn write_valued<W: Write>(output: &mut W, command: &Command) -> io::Result<()> {
+    for argument in &command.arguments {
+        if let (Some(option), false) = (argument.option, is_flag(argument)) {
+            write_texts(output, &["|", option])?;
+        }
+    }
+    Ok(())
 }
 
 /// Whether the argument after an option is not its value.
@@ -74,9 +95,7 @@ fn is_flag(argument: &Argument) -> bool {
 /// Writes the functions that offer the names of classes, services and types.
 fn write_lists<W: Write>(output: &mut W) -> io::Result<()> {
     output.write_all(b"\nfunction __enip_classes\n    printf '%s\\n'")?;
-    for (name, _) in CLASSES {
-        write!(output, " {name}")?;
-    }
+    write_names(output, &CLASSES)?;
     output.write_all(b"\nend\n\nfunction __enip_services\n    printf '%s\\n'")?;
     write_services(output)?;
     output.write_all(b"\nend\n\nfunction __enip_types\n    printf '%s\\n'")?;
@@ -91,33 +110,28 @@ fn write_attributes<W: Write>(output: &mut W) -> io::Result<()> {
     output.write_all(
         b"\n            return\n    end\n    switch (string lower -- \"$arguments[3]\")\n",
     )?;
-    for (name, class) in CLASSES {
-        write!(
-            output,
-            "        case {name} {class} {class:#x} {class:#04x}\n            printf '%s\\n'"
-        )?;
-        write_names(output, attribute_names(class, 1))?;
-        output.write_all(b"\n")?;
-    }
+    write_class_attributes(output, &CLASS_LAYOUT)?;
     output.write_all(b"    end\nend\n")
 }
+
+/// The texts around a class and its attributes.
+const CLASS_LAYOUT: Layout = Layout {
+    start: "        case ",
+    between: " ",
+    middle: "\n            printf '%s\\n'",
+    end: "\n",
+};
 
 /// Writes a command with its options and arguments.
 fn write_command<W: Write>(output: &mut W, command: &Command) -> io::Result<()> {
     let name = command.name;
-    writeln!(
-        output,
-        "\ncomplete -c enip -n '__enip_at 0' -a {name} -d '{}'",
-        Quoted(command.about)
-    )?;
+    let start = "\ncomplete -c enip -n '__enip_at 0' -a ";
+    write_texts(output, &[start, name, " -d "])?;
+    write_quoted(output, command.about)?;
     let mut position: u32 = 1;
     for argument in &command.arguments {
         match argument.option {
-            Some(option) => {
-                write!(output, "complete -c enip -n '__enip_in {name}' -l {option}")?;
-                write_action(output, argument)?;
-                writeln!(output, " -d '{}'", Quoted(argument.help))?;
-            }
+            Some(option) => write_option(output, name, option, argument)?,
             None => {
                 write_argument(output, name, position, argument)?;
                 position = position.saturating_add(1);
@@ -125,6 +139,20 @@ fn write_command<W: Write>(output: &mut W, command: &Command) -> io::Result<()> 
         }
     }
     Ok(())
+}
+
+/// Writes an option of a command.
+fn write_option<W: Write>(
+    output: &mut W,
+    command: &str,
+    option: &str,
+    argument: &Argument,
+) -> io::Result<()> {
+    let start = "complete -c enip -n '__enip_in ";
+    write_texts(output, &[start, command, "' -l ", option])?;
+    write_action(output, argument)?;
+    output.write_all(b" -d ")?;
+    write_quoted(output, argument.help)
 }
 
 /// Writes an argument of a command, if it can be completed.
@@ -218,6 +246,12 @@ function __enip_in -a command
     test "$arguments[1]" = $command
 end
 "#;
+
+/// How `help` is completed, up to its name.
+const HELP_START: &str = "\ncomplete -c enip -n '__enip_at 0' -a ";
+
+/// What follows the name of `help`, up to the name in the completion of what it takes.
+const HELP_ABOUT: &str = " -d 'Print the help of a command'\ncomplete -c enip -n '__enip_at 1 ";
 
 /// The options of the program, and those of each command.
 const PROGRAM: &str = r#"

@@ -1,5 +1,6 @@
 //! The man page, in roff with the macros of man(7).
 
+use crate::names::write_texts;
 use crate::tables::{Argument, Command, Program, Takes};
 use std::fmt;
 use std::io::{self, Write};
@@ -17,17 +18,25 @@ impl fmt::Display for Roff<'_> {
             f.write_str("\\&")?;
         }
         for c in self.text.chars() {
-            match c {
-                '\\' => f.write_str("\\e")?,
-                '-' => f.write_str("\\-")?,
-                '`' => f.write_str("\\(ga")?,
-                '\'' => f.write_str("\\(aq")?,
-                '^' => f.write_str("\\(ha")?,
-                '~' => f.write_str("\\(ti")?,
-                _ => write!(f, "{c}")?,
+            match escape(c) {
+                Some(text) => f.write_str(text)?,
+                None => f.write_char(c)?,
             }
         }
         Ok(())
+    }
+}
+
+/// What is written for a character, if roff would read more than the character in it.
+fn escape(c: char) -> Option<&'static str> {
+    match c {
+        '\\' => Some("\\e"),
+        '-' => Some("\\-"),
+        '`' => Some("\\(ga"),
+        '\'' => Some("\\(aq"),
+        '^' => Some("\\(ha"),
+        '~' => Some("\\(ti"),
+        _ => None,
     }
 }
 
@@ -36,12 +45,10 @@ fn is_control(c: char) -> bool {
     c == '.' || c == '\''
 }
 
-/// A text within a line.
-fn inline(text: &str) -> Roff<'_> {
-    Roff {
-        text,
-        is_line: false,
-    }
+/// Writes a text within a line, and what comes before and after it.
+fn write_inline<W: Write>(output: &mut W, start: &str, text: &str, end: &str) -> io::Result<()> {
+    let is_line = false;
+    write!(output, "{start}{}{end}", Roff { text, is_line })
 }
 
 /// Writes the man page.
@@ -50,22 +57,10 @@ fn inline(text: &str) -> Roff<'_> {
 ///
 /// Those of the writer.
 pub fn write_man<W: Write>(output: &mut W, program: &Program) -> io::Result<()> {
-    output.write_all(b".\\\" Written by: enip man\n")?;
-    writeln!(
-        output,
-        ".TH ENIP 1 {} \"enip {}\" \"User Commands\"",
-        program.date, program.version
-    )?;
-    writeln!(output, ".SH NAME\nenip \\- {}", inline(program.about))?;
+    write_title(output, program)?;
+    write_inline(output, ".SH NAME\nenip \\- ", program.about, "\n")?;
     output.write_all(SYNOPSIS.as_bytes())?;
-    for command in &program.commands {
-        writeln!(
-            output,
-            ".TP\n.B {}\n{}",
-            inline(command.name),
-            inline(command.about)
-        )?;
-    }
+    write_abouts(output, program)?;
     output.write_all(COMMANDS.as_bytes())?;
     for command in &program.commands {
         write_command(output, command)?;
@@ -76,18 +71,33 @@ pub fn write_man<W: Write>(output: &mut W, program: &Program) -> io::Result<()> 
     for command in &program.commands {
         write_examples(output, command)?;
     }
-    output.write_all(b".fi\n")?;
     output.write_all(SEE_ALSO.as_bytes())
+}
+
+/// Writes the line of the title.
+fn write_title<W: Write>(output: &mut W, program: &Program) -> io::Result<()> {
+    let start = ".\\\" Written by: enip man\n.TH ENIP 1 ";
+    let end = "\" \"User Commands\"\n";
+    write_texts(
+        output,
+        &[start, program.date, " \"enip ", program.version, end],
+    )
+}
+
+/// Writes the commands with what they do.
+fn write_abouts<W: Write>(output: &mut W, program: &Program) -> io::Result<()> {
+    for command in &program.commands {
+        write_inline(output, ".TP\n.B ", command.name, "\n")?;
+        write_inline(output, "", command.about, "\n")?;
+    }
+    Ok(())
 }
 
 /// Writes a command with its arguments and options.
 fn write_command<W: Write>(output: &mut W, command: &Command) -> io::Result<()> {
-    writeln!(output, ".SS {}", inline(command.name))?;
-    for (index, line) in command.usage.as_str().split('\n').enumerate() {
-        let request = if index == 0 { "" } else { ".br\n" };
-        writeln!(output, "{request}.B {}", inline(line.trim_start()))?;
-    }
-    writeln!(output, ".PP\n{}.", inline(command.about))?;
+    write_inline(output, ".SS ", command.name, "\n")?;
+    write_usage(output, command.usage.as_str())?;
+    write_inline(output, ".PP\n", command.about, ".\n")?;
     for argument in &command.arguments {
         write_argument(output, argument)?;
     }
@@ -99,15 +109,24 @@ fn write_command<W: Write>(output: &mut W, command: &Command) -> io::Result<()> 
     Ok(())
 }
 
+/// Writes how a command is used, one form a line.
+fn write_usage<W: Write>(output: &mut W, usage: &str) -> io::Result<()> {
+    for (index, line) in usage.split('\n').enumerate() {
+        let start = if index == 0 { ".B " } else { ".br\n.B " };
+        write_inline(output, start, line.trim_start(), "\n")?;
+    }
+    Ok(())
+}
+
 /// Writes an argument or an option.
 fn write_argument<W: Write>(output: &mut W, argument: &Argument) -> io::Result<()> {
-    writeln!(output, ".TP\n.B {}", inline(argument.usage.as_str()))?;
+    write_inline(output, ".TP\n.B ", argument.usage.as_str(), "\n")?;
     write_text(output, argument.details)?;
     if let Takes::Names(names) = argument.takes {
         write_values(output, names)?;
     }
     if let Some(default) = argument.default {
-        writeln!(output, "[default: {}]", inline(default))?;
+        write_inline(output, "[default: ", default, "]\n")?;
     }
     Ok(())
 }
@@ -115,11 +134,10 @@ fn write_argument<W: Write>(output: &mut W, argument: &Argument) -> io::Result<(
 /// Writes the values that an option takes.
 fn write_values<W: Write>(output: &mut W, names: &[&str]) -> io::Result<()> {
     output.write_all(b"[possible values:")?;
-    if let [first, rest @ ..] = names {
-        write!(output, " {}", inline(first))?;
-        for name in rest {
-            write!(output, ", {}", inline(name))?;
-        }
+    let mut start = " ";
+    for name in names {
+        write_inline(output, start, name, "")?;
+        start = ", ";
     }
     output.write_all(b"]\n")
 }
@@ -153,7 +171,7 @@ fn write_text<W: Write>(output: &mut W, text: &str) -> io::Result<()> {
 fn write_examples<W: Write>(output: &mut W, command: &Command) -> io::Result<()> {
     for line in command.examples.split('\n') {
         if let Some(example) = line.strip_prefix("  ") {
-            writeln!(output, "{}", inline(example))?;
+            write_inline(output, "", example, "\n")?;
         }
     }
     Ok(())
@@ -182,8 +200,9 @@ const COMMANDS: &str = r#".SH COMMANDS
 prints the names of classes, attributes and services, which requests can have in place of numbers.
 "#;
 
-/// The last section.
-const SEE_ALSO: &str = r#".SH SEE ALSO
+/// The end of the examples, and the last section.
+const SEE_ALSO: &str = r#".fi
+.SH SEE ALSO
 .BI "enip help " COMMAND
 and
 .B enip help objects

@@ -1,8 +1,11 @@
 //! The completion script of zsh.
 
-use crate::names::{HELP, write_help_topics, write_list, write_names, write_services, write_types};
+use crate::names::{
+    HELP, Layout, write_class_attributes, write_help_topics, write_list, write_names,
+    write_services, write_texts, write_types,
+};
 use crate::tables::{Argument, Command, Program, Takes};
-use cip_names::{CLASS_ATTRIBUTES, CLASSES, attribute_names};
+use cip_names::{CLASS_ATTRIBUTES, CLASSES};
 use std::fmt;
 use std::io::{self, Write};
 
@@ -13,15 +16,31 @@ struct Described<'a>(&'a str);
 impl fmt::Display for Described<'_> {
     fn fmt<W: fmt::Write>(&self, f: &mut fmt::Formatter<W>) -> fmt::Result {
         for c in self.0.chars() {
-            match c {
-                '\'' => f.write_str("'\\''")?,
-                '[' | ']' | ':' | '\\' => write!(f, "\\{c}")?,
-                '\n' => f.write_str(" ")?,
-                _ => write!(f, "{c}")?,
+            match escape(c) {
+                Some(text) => f.write_str(text)?,
+                None => f.write_char(c)?,
             }
         }
         Ok(())
     }
+}
+
+/// What is written for a character in a specification, if not the character.
+fn escape(c: char) -> Option<&'static str> {
+    match c {
+        '\'' => Some("'\\''"),
+        '[' => Some("\\["),
+        ']' => Some("\\]"),
+        ':' => Some("\\:"),
+        '\\' => Some("\\\\"),
+        '\n' => Some(" "),
+        _ => None,
+    }
+}
+
+/// Writes a text in a specification, and what follows it.
+fn write_described<W: Write>(output: &mut W, text: &str, end: &str) -> io::Result<()> {
+    write!(output, "{}{end}", Described(text))
 }
 
 /// Writes the completion script of zsh. It is a file `_enip` in a folder of `fpath`.
@@ -30,12 +49,9 @@ impl fmt::Display for Described<'_> {
 ///
 /// Those of the writer.
 pub fn write_zsh<W: Write>(output: &mut W, program: &Program) -> io::Result<()> {
-    writeln!(
-        output,
-        "#compdef enip\n# zsh completion of enip {}",
-        program.version
-    )?;
-    output.write_all(b"# Written by: enip completions zsh\n")?;
+    let start = "#compdef enip\n# zsh completion of enip ";
+    let end = "\n# Written by: enip completions zsh\n";
+    write_texts(output, &[start, program.version, end])?;
     write_lists(output)?;
     write_attributes(output)?;
     output.write_all(BEGINNING.as_bytes())?;
@@ -50,19 +66,15 @@ pub fn write_zsh<W: Write>(output: &mut W, program: &Program) -> io::Result<()> 
 
 /// Writes how the argument of `help` is completed.
 fn write_help<W: Write>(output: &mut W, program: &Program) -> io::Result<()> {
-    write!(
-        output,
-        "        {HELP})\n            _arguments '1:COMMAND:("
-    )?;
+    let topics = ")\n            _arguments '1:COMMAND:(";
+    write_texts(output, &["        ", HELP, topics])?;
     write_help_topics(output, program)
 }
 
 /// Writes the functions that offer the names of classes, services and types.
 fn write_lists<W: Write>(output: &mut W) -> io::Result<()> {
     output.write_all(b"\n_enip_classes() {\n    compadd --")?;
-    for (name, _) in CLASSES {
-        write!(output, " {name}")?;
-    }
+    write_names(output, &CLASSES)?;
     output.write_all(b"\n}\n\n_enip_services() {\n    compadd --")?;
     write_services(output)?;
     output.write_all(b"\n}\n\n_enip_types() {\n    compadd --")?;
@@ -75,50 +87,42 @@ fn write_attributes<W: Write>(output: &mut W) -> io::Result<()> {
     output.write_all(ATTRIBUTES.as_bytes())?;
     write_names(output, &CLASS_ATTRIBUTES)?;
     output.write_all(b"\n        return\n        ;;\n    esac\n    case ${line[2]:l} in\n")?;
-    for (name, class) in CLASSES {
-        write!(
-            output,
-            "    ({name}|{class}|{class:#x}|{class:#04x}) compadd --"
-        )?;
-        write_names(output, attribute_names(class, 1))?;
-        output.write_all(b" ;;\n")?;
-    }
+    write_class_attributes(output, &CLASS_LAYOUT)?;
     output.write_all(b"    esac\n}\n")
 }
+
+/// The texts around a class and its attributes.
+const CLASS_LAYOUT: Layout = Layout {
+    start: "    (",
+    between: "|",
+    middle: ") compadd --",
+    end: " ;;\n",
+};
 
 /// Writes the commands with what they do.
 fn write_commands<W: Write>(output: &mut W, program: &Program) -> io::Result<()> {
     for command in &program.commands {
-        writeln!(
-            output,
-            "        '{}:{}'",
-            command.name,
-            Described(command.about)
-        )?;
+        write_texts(output, &["        '", command.name, ":"])?;
+        write_described(output, command.about, "'\n")?;
     }
-    writeln!(output, "        '{HELP}:Print the help of a command'")
+    write_texts(
+        output,
+        &["        '", HELP, ":Print the help of a command'\n"],
+    )
 }
 
 /// Writes the options and arguments of a command.
 fn write_command<W: Write>(output: &mut W, command: &Command) -> io::Result<()> {
-    writeln!(
-        output,
-        "        {})\n            _arguments \\",
-        command.name
-    )?;
+    let arguments = ")\n            _arguments \\\n";
+    write_texts(output, &["        ", command.name, arguments])?;
     let mut position: u32 = 1;
     for argument in &command.arguments {
         match argument.option {
             Some(option) => write_option(output, option, argument)?,
             None => {
-                write!(
-                    output,
-                    "                '{position}:{}:",
-                    argument.value_name()
-                )?;
+                write!(output, "                '{position}:")?;
+                write_value(output, argument)?;
                 position = position.saturating_add(1);
-                write_action(output, argument.takes)?;
-                output.write_all(b"' \\\n")?;
             }
         }
     }
@@ -132,15 +136,18 @@ fn write_option<W: Write>(output: &mut W, option: &str, argument: &Argument) -> 
         (_, true) => ("=-", "::"),
         (_, false) => ("=", ":"),
     };
-    write!(
-        output,
-        "                '--{option}{equals}[{}]{colon}",
-        Described(argument.help)
-    )?;
+    write_texts(output, &["                '--", option, equals, "["])?;
+    write_described(output, argument.help, "]")?;
+    output.write_all(colon.as_bytes())?;
     if let Takes::Nothing = argument.takes {
         return output.write_all(b"' \\\n");
     }
-    write!(output, "{}:", argument.value_name())?;
+    write_value(output, argument)
+}
+
+/// Writes the name of the value of an argument, and what is offered for it.
+fn write_value<W: Write>(output: &mut W, argument: &Argument) -> io::Result<()> {
+    write_texts(output, &[argument.value_name(), ":"])?;
     write_action(output, argument.takes)?;
     output.write_all(b"' \\\n")
 }

@@ -1,14 +1,17 @@
 -- Entries that are compared one after the other.
 use Rattle.std.proofs.Common.{◌≡◌, ◌≢◌, ℕ, zero, suc, ◌+◌, ◌<◌, ◌≤◌, List, [], ◌∷◌, ◌++◌, length, take, drop, get_or}
-use Rattle.std.proofs.Common.{Option, Some, Bool, true, false, eqb, add-one, refl, sym, ap, ◌∙◌, arith, ◌⊎◌, inl, inr}
-use Rattle.std.specs.Prelude.{slice_get}
+use Rattle.std.proofs.Common.{Option, Some, Bool, true, false, eqb, add-one, refl, sym, ap, ◌∙◌, subst, arith, ◌⊎◌, inl, inr}
+use Rattle.std.specs.Prelude.{slice_get, option_map, IfNone}
 use Rattle.std.proofs.lemmas.Bool.Decides.{eqb_tells}
 use Rattle.cip_ledger.specs.Ledger.{LedgerState}
+use Rattle.cip_owner.specs.Queue.{QueueState}
 use Rattle.enip_keep.specs.declared.entry.Entry.{Entry}
 use Rattle.enip_keep.specs.Kept.{Kept, pair_of, pairs_of}
-use Rattle.kept_adapter.specs.Keys.{ledger_key}
 use Rattle.cip_objects.specs.Contents.{Contents}
-use Rattle.kept_adapter.specs.Saved.{first_entries, ledger_bytes, saved_objects, saved_ledger, saved_device}
+use Rattle.device_state.specs.QueueEntries.{QUEUE_ENTRIES}
+use Rattle.kept_adapter.specs.Saved.{first_of, saved_objects, saved_ledger, saved_queue, saved_device}
+use Rattle.kept_adapter.specs.Saved.{first_entries, first_queue_entries, ENTRIES}
+use Rattle.kept_adapter.proofs.SavingLemmas.{take_pairs}
 
 some_is : {A : Type 0} (x y : A) → ◌≡◌ {A = Option A} (Some x) (Some y) → x ≡ y
 some_is x y e = cc
@@ -67,47 +70,48 @@ same_rest (e ∷ first) xs ys same = same_rest first xs ys (tail e e (first ++ x
     tail : (x y : ℕ × List ℕ) (xs ys : Kept) → x ∷ xs ≡ y ∷ ys → xs ≡ ys
     tail x y xs ys e = cc
 
--- ---- the entries of a ledger
+-- ---- numbered entries
 
 length_more : (xs : Kept) (y : ℕ × List ℕ) → length (xs ++ y ∷ []) ≡ suc (length xs)
 length_more [] y = refl
 length_more (x ∷ xs) y = ap suc (length_more xs y)
 
-pub length_first : (l : LedgerState) (count : ℕ) → length (first_entries l count) ≡ count
-length_first l zero = refl
-length_first l (suc count) =
-    length_more (first_entries l count) (ledger_key count, ledger_bytes l count) ∙ ap suc (length_first l count)
+pub length_first : (key : ℕ → ℕ) (content : ℕ → List ℕ) (count : ℕ) → length (first_of key content count) ≡ count
+length_first key content zero = refl
+length_first key content (suc count) =
+    length_more (first_of key content count) (key count, content count) ∙ ap suc (length_first key content count)
 
 get_end : (xs : Kept) (y : ℕ × List ℕ) → Some y ≡ slice_get (xs ++ y ∷ []) (length xs)
 get_end [] y = refl
 get_end (x ∷ xs) y = get_end xs y
 
-at_end : (l : LedgerState) (count n : ℕ) → n ≡ count
-    → Some (ledger_key n, ledger_bytes l n) ≡ slice_get (first_entries l (suc count)) n
-at_end l count n here =
-    ap (λ k. Some (ledger_key k, ledger_bytes l k)) here
-    ∙ get_end (first_entries l count) (ledger_key count, ledger_bytes l count)
-    ∙ ap (slice_get (first_entries l (suc count))) (length_first l count ∙ sym here)
+at_end : (key : ℕ → ℕ) (content : ℕ → List ℕ) (count n : ℕ) → n ≡ count
+    → Some (key n, content n) ≡ slice_get (first_of key content (suc count)) n
+at_end key content count n here =
+    ap (λ k. Some (key k, content k)) here
+    ∙ get_end (first_of key content count) (key count, content count)
+    ∙ ap (slice_get (first_of key content (suc count))) (length_first key content count ∙ sym here)
 
-before_end : (l : LedgerState) (count n : ℕ) → Some (ledger_key n, ledger_bytes l n) ≡ slice_get (first_entries l count) n
-    → Some (ledger_key n, ledger_bytes l n) ≡ slice_get (first_entries l (suc count)) n
-before_end l count n e =
-    get_front (first_entries l count) ((ledger_key count, ledger_bytes l count) ∷ []) n (ledger_key n, ledger_bytes l n) e
+before_end : (key : ℕ → ℕ) (content : ℕ → List ℕ) (count n : ℕ)
+    → Some (key n, content n) ≡ slice_get (first_of key content count) n
+    → Some (key n, content n) ≡ slice_get (first_of key content (suc count)) n
+before_end key content count n e =
+    get_front (first_of key content count) ((key count, content count) ∷ []) n (key n, content n) e
 
-ledger_by : (l : LedgerState) (count n : ℕ) → n < suc count
-    → (n < count → Some (ledger_key n, ledger_bytes l n) ≡ slice_get (first_entries l count) n)
+numbered_by : (key : ℕ → ℕ) (content : ℕ → List ℕ) (count n : ℕ) → n < suc count
+    → (n < count → Some (key n, content n) ≡ slice_get (first_of key content count) n)
     → ((eqb n count ≡ true) × (n ≡ count)) ⊎ ((eqb n count ≡ false) × (n ≡ count → ⊥))
-    → Some (ledger_key n, ledger_bytes l n) ≡ slice_get (first_entries l (suc count)) n
-ledger_by l count n less lower (inl here) = at_end l count n here.1
-ledger_by l count n less lower (inr apart) =
+    → Some (key n, content n) ≡ slice_get (first_of key content (suc count)) n
+numbered_by key content count n less lower (inl here) = at_end key content count n here.1
+numbered_by key content count n less lower (inr apart) =
     let other : n ≡ count → ⊥ = apart.1 in
-    before_end l count n (lower (omega (arith, other, less)))
+    before_end key content count n (lower (omega (arith, other, less)))
 
-pub ledger_at : (l : LedgerState) (count n : ℕ) → n < count
-    → Some (ledger_key n, ledger_bytes l n) ≡ slice_get (first_entries l count) n
-ledger_at l zero n less = absurd (omega arith)
-ledger_at l (suc count) n less =
-    ledger_by l count n less (λ below. ledger_at l count n below) (eqb_tells n count)
+pub numbered_at : (key : ℕ → ℕ) (content : ℕ → List ℕ) (count n : ℕ) → n < count
+    → Some (key n, content n) ≡ slice_get (first_of key content count) n
+numbered_at key content zero n less = absurd (omega arith)
+numbered_at key content (suc count) n less =
+    numbered_by key content count n less (λ below. numbered_at key content count n below) (eqb_tells n count)
 
 -- ---- as the calls say it
 
@@ -117,36 +121,108 @@ not_both r is_false is_true = absurd (cc)
 pub false_is : (P : Type 0) → false ≡ true → P
 false_is P e = absurd (not_both false refl e)
 
-pub ledger_differs : (entries : List Entry) (l : LedgerState) (count n i key : ℕ) (e : Entry) (bytes : List ℕ) → i ≡ n
-    → i < length entries → get_or entries i e ≡ e → n < count → key ≡ ledger_key n → bytes ≡ ledger_bytes l n
-    → (pair_of e ≡ (key, bytes) → ⊥) → pairs_of entries ≡ first_entries l count → ⊥
-ledger_differs entries l count n i key e bytes here less at below is_key is_bytes differ same =
-    differ (some_is (pair_of e) (key, bytes)
+pub numbered_differ : (entries : List Entry) (key : ℕ → ℕ) (content : ℕ → List ℕ) (count n i : ℕ) (e : Entry) → i ≡ n
+    → i < length entries → get_or entries i e ≡ e → n < count → (pair_of e ≡ (key n, content n) → ⊥)
+    → pairs_of entries ≡ first_of key content count → ⊥
+numbered_differ entries key content count n i e here less at below differ same =
+    differ (some_is (pair_of e) (key n, content n)
     (pair_at entries i e less at ∙ ap (slice_get (pairs_of entries)) here ∙ ap (λ es. slice_get es n) same
-    ∙ sym (ledger_at l count n below)
-    ∙ sym (ap (λ k. Some (k, bytes)) is_key ∙ ap (λ b. Some (ledger_key n, b)) is_bytes)))
+    ∙ sym (numbered_at key content count n below)))
 
-pub ledger_goes_on : (entries : List Entry) (l : LedgerState) (n i key : ℕ) (e : Entry) (bytes : List ℕ) → i ≡ n
-    → i < length entries → get_or entries i e ≡ e → key ≡ ledger_key n → bytes ≡ ledger_bytes l n
-    → pair_of e ≡ (key, bytes) → take n (pairs_of entries) ≡ first_entries l n
-    → take (n + 1) (pairs_of entries) ≡ first_entries l (n + 1)
-ledger_goes_on entries l n i key e bytes here less at is_key is_bytes is sofar =
+pub numbered_go_on : (entries : List Entry) (key : ℕ → ℕ) (content : ℕ → List ℕ) (n i : ℕ) (e : Entry) → i ≡ n
+    → i < length entries → get_or entries i e ≡ e → pair_of e ≡ (key n, content n)
+    → take n (pairs_of entries) ≡ first_of key content n → take (n + 1) (pairs_of entries) ≡ first_of key content (n + 1)
+numbered_go_on entries key content n i e here less at is sofar =
     ap (λ k. take k (pairs_of entries)) (add-one n)
     ∙ take_more (pairs_of entries) n (pair_of e)
     (pair_at entries i e less at ∙ ap (slice_get (pairs_of entries)) here)
     ∙ ap (λ es. es ++ pair_of e ∷ []) sofar
-    ∙ ap (λ p. first_entries l n ++ p ∷ [])
-    (is ∙ ap (λ k. (k, bytes)) is_key ∙ ap (λ b. (ledger_key n, b)) is_bytes)
-    ∙ ap (first_entries l) (sym (add-one n))
+    ∙ ap (λ p. first_of key content n ++ p ∷ []) is
+    ∙ ap (first_of key content) (sym (add-one n))
 
--- the objects, and then the ledger
-pub compared : {m n : Contents} {l k : Option LedgerState} {rest all : Kept} (r : Bool) → m ≡ n → l ≡ k
-    → all ≡ saved_objects m ++ rest → (r ≡ true → rest ≡ saved_ledger l) × (rest ≡ saved_ledger l → r ≡ true)
-    → (r ≡ true → all ≡ saved_device n k) × (all ≡ saved_device n k → r ≡ true)
-compared {m} {n} {l} {k} {rest} {all} r objects ledger first both = (
-  λ is. first ∙ ap (λ es. saved_objects m ++ es) (both.0 is) ∙ saved_alike,
-  λ same. both.1 (same_rest (saved_objects m) rest (saved_ledger l) (sym first ∙ same ∙ sym saved_alike)),
-)
-  where
-    saved_alike : saved_objects m ++ saved_ledger l ≡ saved_device n k
-    saved_alike = ap (λ x. saved_objects x ++ saved_ledger l) objects ∙ ap (λ x. saved_objects n ++ saved_ledger x) ledger
+-- as many entries, and the first of them, are all
+pub numbered_size : (entries : List Entry) (key : ℕ → ℕ) (content : ℕ → List ℕ) (count : ℕ)
+    → (length entries ≡ count → ⊥) → pairs_of entries ≡ first_of key content count → ⊥
+numbered_size entries key content count other same =
+    other (sym (length_pairs entries) ∙ ap length same ∙ length_first key content count)
+
+take_kept : (xs : Kept) (n : ℕ) → length xs ≤ n → take n xs ≡ xs
+take_kept [] zero h = refl
+take_kept [] (suc n) h = refl
+take_kept (x ∷ xs) zero h = absurd (omega arith)
+take_kept (x ∷ xs) (suc n) h = ap (λ ys. x ∷ ys) (take_kept xs n (omega arith))
+
+pub numbered_all : (entries : List Entry) (key : ℕ → ℕ) (content : ℕ → List ℕ) (count n : ℕ) → length entries ≡ count
+    → n ≡ count → take n (pairs_of entries) ≡ first_of key content n → pairs_of entries ≡ first_of key content count
+numbered_all entries key content count n size here first =
+    sym (take_kept (pairs_of entries) n (omega (arith, length_pairs entries, size, here))) ∙ first
+    ∙ ap (first_of key content) here
+
+-- ---- the entries behind the first ones
+
+pub rest_behind : (entries : List Entry) (n : ℕ) (first : Kept) → pairs_of (take n entries) ≡ first
+    → pairs_of entries ≡ first ++ pairs_of (drop n entries)
+rest_behind entries n first e =
+    first_and_rest entries n ∙ ap (λ es. es ++ pairs_of (drop n entries)) (sym (take_pairs entries n) ∙ e)
+
+first_of_both : (first rest : Kept) (n : ℕ) → n ≡ length first → take n (first ++ rest) ≡ first
+first_of_both [] rest zero e = refl
+first_of_both [] rest (suc n) e = absurd (omega arith)
+first_of_both (x ∷ first) rest zero e = absurd (omega arith)
+first_of_both (x ∷ first) rest (suc n) e = ap (λ xs. x ∷ xs) (first_of_both first rest n (omega arith))
+
+pub not_first : (entries : List Entry) (n : ℕ) (first rest : Kept) → n ≡ length first
+    → (pairs_of (take n entries) ≡ first → ⊥) → pairs_of entries ≡ first ++ rest → ⊥
+not_first entries n first rest size other same =
+    other (take_pairs entries n ∙ ap (take n) same ∙ first_of_both first rest n size)
+
+both_size : (first rest : Kept) → length first ≤ length (first ++ rest)
+both_size [] rest = omega arith
+both_size (x ∷ first) rest = let h = both_size first rest in omega (arith, h)
+
+pub too_few : (entries : List Entry) (n : ℕ) (first rest : Kept) → n ≡ length first → length entries < n
+    → pairs_of entries ≡ first ++ rest → ⊥
+too_few entries n first rest size less same =
+    let most = both_size first rest in
+    let all : length entries ≡ length (first ++ rest) = sym (length_pairs entries) ∙ ap length same in
+    absurd (omega (arith, most, all, less, size))
+
+-- ---- the objects, then the ledger, then the queue
+
+module _ {m n : Contents} {l k : Option LedgerState} {q r : Option QueueState} (objects : m ≡ n) (ledger : l ≡ k)
+    (queue : q ≡ r) where
+  saved_alike : saved_device m l q ≡ saved_device n k r
+  saved_alike =
+      ap (λ x. saved_device x l q) objects ∙ ap (λ x. saved_device n x q) ledger ∙ ap (λ x. saved_device n k x) queue
+
+  pub compared : {all behind rest : Kept} (t : Bool) → all ≡ saved_objects m ++ behind → behind ≡ saved_ledger l ++ rest
+      → (t ≡ true → rest ≡ saved_queue q) × (rest ≡ saved_queue q → t ≡ true)
+      → (t ≡ true → all ≡ saved_device n k r) × (all ≡ saved_device n k r → t ≡ true)
+  compared {all} {behind} {rest} t first second both = (
+    λ is. first ∙ ap (λ es. saved_objects m ++ es) (second ∙ ap (λ es. saved_ledger l ++ es) (both.0 is)) ∙ saved_alike,
+    λ same. both.1 (same_rest (saved_ledger l) rest (saved_queue q) (sym second
+        ∙ same_rest (saved_objects m) behind (saved_ledger l ++ saved_queue q) (sym first ∙ same ∙ sym saved_alike))),
+  )
+
+  pub other_ledger : {all behind : Kept} → all ≡ saved_objects m ++ behind
+      → ((rest : Kept) → behind ≡ saved_ledger l ++ rest → ⊥) → all ≡ saved_device n k r → ⊥
+  other_ledger {all} {behind} first other same =
+      other (saved_queue q)
+      (same_rest (saved_objects m) behind (saved_ledger l ++ saved_queue q) (sym first ∙ same ∙ sym saved_alike))
+
+-- ---- a ledger or a queue that is there
+
+pub other_behind : {A R : Type 0} (now : A → LedgerState) (ledger : Option A) (l : A) (result : Option R) (all : Kept)
+    → ledger ≡ Some l → IfNone result ((rest : Kept) → all ≢ first_entries (now l) ENTRIES ++ rest)
+    → IfNone result ((rest : Kept) → all ≢ saved_ledger (option_map now ledger) ++ rest)
+other_behind now ledger l result all is other =
+    subst (λ o. IfNone result ((rest : Kept) → all ≢ saved_ledger (option_map now o) ++ rest)) (sym is) other
+
+pub all_of_queue : {A : Type 0} (now : A → QueueState) (queue : Option A) (q : A) (t : Bool) (all : Kept)
+    → queue ≡ Some q
+    → (t ≡ true → all ≡ first_queue_entries (now q) QUEUE_ENTRIES)
+    × (all ≡ first_queue_entries (now q) QUEUE_ENTRIES → t ≡ true)
+    → (t ≡ true → all ≡ saved_queue (option_map now queue)) × (all ≡ saved_queue (option_map now queue) → t ≡ true)
+all_of_queue now queue q t all is both =
+    subst (λ o. (t ≡ true → all ≡ saved_queue (option_map now o)) × (all ≡ saved_queue (option_map now o) → t ≡ true))
+    (sym is) both

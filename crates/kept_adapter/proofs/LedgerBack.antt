@@ -125,11 +125,12 @@ taken_entry n content some =
 
 not_empty : (slot : SlotState) → (length (slot_bytes slot) == 0) ≡ false
 not_empty slot =
-    let size : length (slot_bytes slot) ≡ 12 + length (state_bytes slot.reply)
+    let state = state_bytes slot.reply slot.ticket in
+    let size : length (slot_bytes slot) ≡ 12 + length state
     = omega (
       arith,
-      length-append (le 8 slot.originator) (le 4 slot.number ++ state_bytes slot.reply),
-      length-append (le 4 slot.number) (state_bytes slot.reply),
+      length-append (le 8 slot.originator) (le 4 slot.number ++ state),
+      length-append (le 4 slot.number) state,
     ) in
     ne_eqb (length (slot_bytes slot)) 0 (λ none. omega (arith, size, none))
 
@@ -150,14 +151,14 @@ slot_goes m l n slot h is =
 has_room : (slots life : ℕ) (front : List SlotState) (slot : SlotState)
     → slot_restored slot (part slots life front) ≡ Some (part slots life (front ++ slot ∷ []))
     → length (front ++ slot ∷ []) ≤ slots
-has_room slots life front slot can = by (nat_lt (length front) slots) _ _ refl can
+has_room slots life front slot can = by (nat_lt (length front) slots) _ _ _ refl can
   where
-    by : (free a b : Bool) → nat_lt (length front) slots ≡ free
-        → (if free && a && b then Some (part slots life (front ++ slot ∷ [])) else None)
+    by : (free a b c : Bool) → nat_lt (length front) slots ≡ free
+        → (if free && a && b && c then Some (part slots life (front ++ slot ∷ [])) else None)
         ≡ Some (part slots life (front ++ slot ∷ [])) → length (front ++ slot ∷ []) ≤ slots
-    by true a b e is =
+    by true a b c e is =
         let less = ltb-true (length front) slots e in omega (arith, less, length-append front (slot ∷ []))
-    by false a b e is = absurd (cc)
+    by false a b c e is = absurd (cc)
 
 -- the progress once a slot was put back
 at_slot : (l : LedgerState) (slots n : ℕ) (slot : SlotState) (p : Progress) → suc n < 2 ^ 16 → IsSlot slot

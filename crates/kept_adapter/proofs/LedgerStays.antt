@@ -5,7 +5,7 @@ use Rattle.std.proofs.Common.{subst, arith, Result, Ok, Err}
 use Rattle.std.specs.Prelude.{⊤, option_map, IfSome}
 use Rattle.std.proofs.lemmas.Bool.{eqb-true, ltb-true, and_parts}
 use Rattle.std.proofs.lemmas.Bool.Decides.{nat_tests}
-use Rattle.std.proofs.lemmas.List.{get_or-drop}
+use Rattle.std.proofs.lemmas.List.{get_or-drop, length-map}
 use Rattle.cip_bytes.specs.Numbers.{number_at, AreBytes}
 use Rattle.cip_bytes.proofs.Bytes.{AreBytes-drop}
 use Rattle.cip_message.specs.declared.path.Path.{Path}
@@ -24,13 +24,19 @@ use Rattle.cip_ledger.specs.Ledger.{LedgerState, SlotState, slot_of, with_slot, 
 use Rattle.cip_ledger.specs.Requests.{LedgerRequest, Command, command_of, ledger_request, request_by_parts}
 use Rattle.cip_ledger.specs.Requests.{request_by_path, is_barred}
 use Rattle.cip_ledger.specs.Runs.{Request, command_given}
-use Rattle.cip_ledger.specs.Services.{Action, Replies, Executes, Frees, refuses, size_fault, unless, do_new, do_by_slot}
+use Rattle.cip_ledger.specs.Services.{Action, Replies, Executes, Queues, Frees, refuses, size_fault, unless, do_new, do_by_slot}
 use Rattle.cip_ledger.specs.Services.{forget, forget_in, action_of, KEPT_LIMIT, HEAD_SIZE}
-use Rattle.cip_ledger.specs.Turn.{Fate, Passed, Served, fate, fate_of, turn_by, with_executed, with_freed}
+use Rattle.cip_ledger.specs.Turn.{Fate, Passed, Served, fate, fate_of, turn_by, with_executed, with_queued, with_freed}
 use Rattle.cip_ledger.specs.Turn.{embedded_reply}
+use Rattle.cip_ledger.specs.declared.target.Standing.{Standing}
+use Rattle.cip_ledger.specs.declared.target.Standing.TheVariants as standings
+use Rattle.cip_ledger.specs.Device.{owned_standing}
+use Rattle.cip_ledger.specs.Pending.{completed_slot, with_completed, completed}
+use Rattle.cip_ledger.specs.Standings.{by_standing, at_router}
 use Rattle.cip_ledger.proofs.Answered.{gives}
 use Rattle.cip_ledger.proofs.Fates.{Means, fate-means}
 use Rattle.cip_ledger.proofs.KeptLemmas.{apart-with_slot, apart-without_slot, slots-with_slot, slots-without_slot}
+use Rattle.cip_ledger.proofs.CompletedSlots.{apart-completed, slots-completed}
 use Rattle.cip_ledger.proofs.SlotLemmas.{slot_of-originator}
 use Rattle.cip_owner.specs.Owned.{OwnedState}
 use Rattle.cip_owner.specs.OwnedLaws.{exec_owned_within}
@@ -38,7 +44,9 @@ use Rattle.enip_adapter.specs.DeviceRuns.{DeviceStep, Requested, WrittenBy, devi
 use Rattle.enip_adapter.specs.DeviceRuns.{objects_answer}
 use Rattle.kept_adapter.specs.Restarts.{IsOfBytes}
 use Rattle.enip_adapter.specs.OwnWrites.{OwnWrite, WritesData, WritesAttribute, SetsStatus, SetsState, Prepares}
-use Rattle.enip_adapter.specs.OwnWrites.{Settles, ledger_written}
+use Rattle.enip_adapter.specs.OwnWrites.{Settles, Finishes, ledger_written}
+use Rattle.enip_adapter.proofs.SettleLemmas.{IsFinished, Unchanged, Completed, finished-ledger}
+use Rattle.kept_adapter.proofs.GivenTickets.{StandsQueued, stands_queued, pending_narrow}
 
 -- ---- the numbers of a command fit their types
 
@@ -105,6 +113,8 @@ abbrev HasRoom : LedgerState → Action → Type 0
 HasRoom ledger (Replies answer) = ⊤
 HasRoom ledger (Executes command) =
     slot_of command.originator ledger.taken ≡ None → length ledger.taken < ledger.slots
+HasRoom ledger (Queues command ticket) =
+    slot_of command.originator ledger.taken ≡ None → length ledger.taken < ledger.slots
 HasRoom ledger (Frees originator) = ⊤
 
 room_if : (ledger : LedgerState) (is : Bool) (a b : Action) → HasRoom ledger a → HasRoom ledger b
@@ -159,14 +169,33 @@ room_action ledger max_size asked =
     (room_if ledger (asked.service == 0x0e) _ _ tt (room_if ledger (asked.service == 0x03) _ _ tt tt)))))
     tt)
 
+-- The router decides what becomes of a command, and not whether there is room for it.
+room_standing : (ledger : LedgerState) (s : Standing) (command : Command) → HasRoom ledger (Executes command)
+    → HasRoom ledger (by_standing s command)
+room_standing ledger standings.Final command room = room
+room_standing ledger (standings.Pending ticket) command room = room
+room_standing ledger standings.Refused command room = tt
+
+room_router : (ledger : LedgerState) (w : OwnedState) (action : Action) → HasRoom ledger action
+    → HasRoom ledger (at_router owned_standing w action)
+room_router ledger w (Replies answer) room = tt
+room_router ledger w (Executes command) room =
+    room_standing ledger (if is_barred command.request then standings.Final else owned_standing w command.request) command
+    room
+room_router ledger w (Queues command ticket) room =
+    room_standing ledger (if is_barred command.request then standings.Final else owned_standing w command.request) command
+    room
+room_router ledger w (Frees originator) room = tt
+
 abbrev HasRoomFor : LedgerState → Fate → Type 0
 HasRoomFor ledger Passed = ⊤
 HasRoomFor ledger (Served service action) = HasRoom ledger action
 
-room_fate : (ledger : LedgerState) (max_size : ℕ) (asked : Option LedgerRequest)
-    → HasRoomFor ledger (fate_of ledger max_size asked)
-room_fate ledger max_size None = tt
-room_fate ledger max_size (Some asked) = room_action ledger max_size asked
+room_fate : (ledger : LedgerState) (w : OwnedState) (max_size : ℕ) (asked : Option LedgerRequest)
+    → HasRoomFor ledger (fate_of owned_standing ledger w max_size asked)
+room_fate ledger w max_size None = tt
+room_fate ledger w max_size (Some asked) =
+    room_router ledger w (action_of ledger max_size asked) (room_action ledger max_size asked)
 
 -- ---- how many slots are taken
 
@@ -247,13 +276,33 @@ settled_stays ledger originator number reply is = by (can_settle ledger originat
         let both = and_parts (is_kept_reply reply) (is_in_doubt ledger originator number) e in
         let own = doubtful number (slot_of originator ledger.taken) both.1 in
         let fits = found_fits ledger.taken originator own.0 is.sized own.1 in
-        last_stays ledger (record { originator = originator; number = number; reply = Some reply }) is
+        last_stays ledger (record { originator = originator; number = number; reply = Some reply; ticket = None }) is
         (record {
           originator = subst (λ o. o < 2 ^ 64) (slot_of-originator ledger.taken originator own.0 own.1) fits.originator;
           number = subst (λ n. n < 2 ^ 32) own.2 fits.number;
           short = short_reply reply both.0;
+          ticket = omega arith;
+          one = refl;
         })
         (λ none. absurd (some_not_none own.0 (slot_of originator ledger.taken) own.1 none))
+
+completed_stays : (ledger : LedgerState) (ticket : ℕ) (reply : List ℕ) → IsLedger ledger
+    → IsLedger (completed ledger ticket reply)
+completed_stays ledger ticket reply is = by (is_kept_reply reply) refl
+  where
+    by : (kept : Bool) → is_kept_reply reply ≡ kept
+        → IsLedger (if kept then with_completed ticket reply ledger else ledger)
+    by false e = is
+    by true e =
+        let size = length-map ledger.taken (completed_slot ticket reply) in
+        let within = is.within in
+        record {
+          life = is.life;
+          few = is.few;
+          within = omega (arith, size, within);
+          apart = apart-completed ticket reply ledger.taken is.apart;
+          sized = slots-completed ticket reply ledger.taken (short_reply reply e) is.sized;
+        }
 
 -- ---- a step of the device
 
@@ -273,43 +322,69 @@ mapped_stays None change stays is = tt
 mapped_stays (Some ledger) change stays is = stays ledger refl is
 
 turn_stays : (f : Fate) (device : Device) (request : Request) → AreBytes request.1 → Means device.ledger request f
-    → ((l : LedgerState) → device.ledger ≡ Some l → HasRoomFor l f) → IfSome device.ledger IsLedger
+    → StandsQueued device.router f → ((l : LedgerState) → device.ledger ≡ Some l → HasRoomFor l f)
+    → IfSome device.ledger IsLedger
     → IfSome (turn_by objects_after objects_answer f device.ledger device.router request.0 request.1).ledger IsLedger
-turn_stays Passed device request fits means room is = is
-turn_stays (Served service (Replies reply)) device request fits means room is = is
-turn_stays (Served service (Executes command)) device request fits means room is =
+turn_stays Passed device request fits means stands room is = is
+turn_stays (Served service (Replies reply)) device request fits means stands room is = is
+turn_stays (Served service (Executes command)) device request fits means stands room is =
     let narrow = command_fits request command fits means.means.given_is in
     let reply = embedded_reply objects_after objects_answer device.router command.request in
     mapped_stays device.ledger (with_executed command reply)
     (λ l own holds. last_stays l
-    (record { originator = command.originator; number = command.number; reply = Some reply })
+    (record { originator = command.originator; number = command.number; reply = Some reply; ticket = None })
     holds (record {
       originator = narrow.originator;
       number = narrow.number;
       short = embedded_short device.router command.request;
+      ticket = omega arith;
+      one = refl;
     }) (room l own)) is
-turn_stays (Served service (Frees freed)) device request fits means room is =
+turn_stays (Served service (Queues command ticket)) device request fits means stands room is =
+    let narrow = command_fits request command fits means.means.given_is in
+    mapped_stays device.ledger (with_queued command ticket)
+    (λ l own holds. last_stays l
+    (record { originator = command.originator; number = command.number; reply = None; ticket = Some ticket })
+    holds (record {
+      originator = narrow.originator;
+      number = narrow.number;
+      short = omega arith;
+      ticket = pending_narrow device.router command.request ticket stands.1;
+      one = refl;
+    }) (room l own)) is
+turn_stays (Served service (Frees freed)) device request fits means stands room is =
     mapped_stays device.ledger (with_freed freed) (λ l own holds. freed_stays l freed holds) is
 
-fate_room : (ledger : Option LedgerState) (request : Request) (l : LedgerState) → ledger ≡ Some l
-    → HasRoomFor l (fate ledger request.0 request.1)
-fate_room ledger request l own =
-    subst (λ o. HasRoomFor l (fate o request.0 request.1)) (sym own) (room_fate l request.0 (ledger_request request.1))
+fate_room : (ledger : Option LedgerState) (w : OwnedState) (request : Request) (l : LedgerState) → ledger ≡ Some l
+    → HasRoomFor l (fate owned_standing ledger w request.0 request.1)
+fate_room ledger w request l own =
+    subst (λ o. HasRoomFor l (fate owned_standing o w request.0 request.1)) (sym own)
+    (room_fate l w request.0 (ledger_request request.1))
 
-written_stays : (write : OwnWrite) (ledger : Option LedgerState) → IfSome ledger IsLedger
-    → IfSome (ledger_written write ledger) IsLedger
-written_stays (WritesData instance offset bytes) ledger is = is
-written_stays (WritesAttribute class instance attribute offset bytes) ledger is = is
-written_stays (SetsStatus status) ledger is = is
-written_stays (SetsState state) ledger is = is
-written_stays (Prepares reply) ledger is = is
-written_stays (Settles originator number reply) ledger is =
-    mapped_stays ledger (λ l. settled l originator number reply)
+finished_stays : (ticket : ℕ) (old new : Option LedgerState) → IsFinished ticket old new → IfSome old IsLedger
+    → IfSome new IsLedger
+finished_stays ticket old new Unchanged is = is
+finished_stays ticket old new (Completed reply) is =
+    mapped_stays old (λ l. completed l ticket reply) (λ l own holds. completed_stays l ticket reply holds) is
+
+written_stays : (write : OwnWrite) (device : Device) → IfSome device.ledger IsLedger
+    → IfSome (ledger_written write device) IsLedger
+written_stays (WritesData instance offset bytes) device is = is
+written_stays (WritesAttribute class instance attribute offset bytes) device is = is
+written_stays (SetsStatus status) device is = is
+written_stays (SetsState state) device is = is
+written_stays (Prepares reply) device is = is
+written_stays (Settles originator number reply) device is =
+    mapped_stays device.ledger (λ l. settled l originator number reply)
     (λ l own holds. settled_stays l originator number reply holds) is
+written_stays (Finishes ticket reply) device is =
+    finished_stays ticket device.ledger (ledger_written (Finishes ticket reply) device)
+    (finished-ledger ticket reply device) is
 
 pub step_stays : (device : Device) (step : DeviceStep) → IsOfBytes step → IfSome device.ledger IsLedger
     → IfSome (device_after_step device step).ledger IsLedger
 step_stays device (Requested request) fits is =
-    turn_stays (fate device.ledger request.0 request.1) device request fits (fate-means device.ledger request)
-    (fate_room device.ledger request) is
-step_stays device (WrittenBy write) fits is = written_stays write device.ledger is
+    turn_stays (fate owned_standing device.ledger device.router request.0 request.1) device request fits
+    (fate-means owned_standing device.ledger device.router request)
+    (stands_queued device.router device.ledger request) (fate_room device.ledger device.router request) is
+step_stays device (WrittenBy write) fits is = written_stays write device is

@@ -1,6 +1,12 @@
 pub mod SavingLemmas
+pub mod QueueStays
+pub mod QueuePuts
+pub mod TicketSlots
+pub mod GivenTickets
 pub mod LedgerStays
 pub mod PutBack
+pub mod QueueLeaves
+pub mod QueueBack
 pub mod LedgerBack
 pub mod Restarted
 pub mod LifeLemmas

@@ -3,21 +3,26 @@ use Rattle.std.proofs.Common.{◌≡◌, ◌≢◌, ℕ, ◌<◌, true, false, i
 use Rattle.std.proofs.Common.{refl, ap, sym, ◌∙◌, subst, arith, ◌⊎◌, inl, inr, unwrap_or}
 use Rattle.std.specs.Prelude.{⊤, option_map, IfSome}
 use Rattle.std.specs.List.{AllByRecursion}
-use Rattle.cip_ledger.specs.Device.{Device}
-use Rattle.cip_ledger.specs.Doubt.{can_settle, with_last, settled}
+use Rattle.cip_ledger.specs.Device.{Device, owned_standing}
+use Rattle.cip_ledger.specs.Doubt.{can_settle, with_last, settled, is_kept_reply}
 use Rattle.cip_ledger.specs.Ledger.{LedgerState, slot_of}
 use Rattle.cip_ledger.specs.Laws.{UntilFreed, AreOfLife}
+use Rattle.cip_ledger.specs.Pending.{with_completed, completed}
 use Rattle.cip_ledger.specs.Requests.{Command}
 use Rattle.cip_ledger.specs.Runs.{Request, slot_in, Executed, Freed, Event, journal, events_by}
-use Rattle.cip_ledger.specs.Services.{Replies, Executes, Frees}
-use Rattle.cip_ledger.specs.Turn.{Fate, Passed, Served, fate, turn_by, with_executed, with_freed, embedded_reply}
+use Rattle.cip_ledger.specs.Services.{Replies, Executes, Queues, Frees, DONE, PENDING}
+use Rattle.cip_ledger.specs.Turn.{Fate, Passed, Served, fate, turn_by, with_executed, with_queued, with_freed}
+use Rattle.cip_ledger.specs.Turn.{embedded_reply}
 use Rattle.cip_ledger.proofs.Doubts.{settled-stays}
 use Rattle.cip_ledger.proofs.Fates.{Means, fate-means}
-use Rattle.cip_ledger.proofs.Settled.{Settled, next_by, settled-run, settled-command, journal-above, journal-life}
+use Rattle.cip_ledger.proofs.Pendings.{completed-stays}
+use Rattle.cip_ledger.proofs.Settled.{Settled, next_by, settled-run, settled-command, settled-queued, journal-above}
+use Rattle.cip_ledger.proofs.Settled.{journal-life}
 use Rattle.enip_adapter.specs.DeviceRuns.{Requested, WrittenBy, objects_after, objects_answer}
 use Rattle.enip_adapter.specs.OwnWrites.{OwnWrite, WritesData, WritesAttribute, SetsStatus, SetsState, Prepares}
-use Rattle.enip_adapter.specs.OwnWrites.{Settles, ledger_written, device_written}
+use Rattle.enip_adapter.specs.OwnWrites.{Settles, Finishes, ledger_written, device_written}
 use Rattle.enip_adapter.proofs.DeviceLemmas.{above-append}
+use Rattle.enip_adapter.proofs.SettleLemmas.{IsFinished, Unchanged, Completed, finished-ledger}
 use Rattle.kept_adapter.specs.declared.adapter_start.AdapterStart.{AdapterStart}
 use Rattle.kept_adapter.specs.declared.adapter_start.LedgerStart.{LedgerStart}
 use Rattle.kept_adapter.specs.Restarts.{LifeStep, Does, Restarts, restarted, after_life_step, journal_over_restarts}
@@ -41,6 +46,8 @@ turn_life (Served service (Replies reply)) device request = refl
 turn_life (Served service (Executes command)) device request =
     mapped_life device.ledger
     (with_executed command (embedded_reply objects_after objects_answer device.router command.request)) (λ l. refl)
+turn_life (Served service (Queues command ticket)) device request =
+    mapped_life device.ledger (with_queued command ticket) (λ l. refl)
 turn_life (Served service (Frees freed)) device request = mapped_life device.ledger (with_freed freed) (λ l. refl)
 
 settled_life : (ledger : LedgerState) (originator number : ℕ) (reply : List ℕ)
@@ -52,14 +59,29 @@ settled_life ledger originator number reply =
       | false ↦ refl
     ]
 
-written_life : (write : OwnWrite) (ledger : Option LedgerState) → life_of (ledger_written write ledger) ≡ life_of ledger
-written_life (WritesData instance offset bytes) ledger = refl
-written_life (WritesAttribute class instance attribute offset bytes) ledger = refl
-written_life (SetsStatus status) ledger = refl
-written_life (SetsState state) ledger = refl
-written_life (Prepares reply) ledger = refl
-written_life (Settles originator number reply) ledger =
-    mapped_life ledger (λ l. settled l originator number reply) (λ l. settled_life l originator number reply)
+completed_life : (ledger : LedgerState) (ticket : ℕ) (reply : List ℕ) → (completed ledger ticket reply).life ≡ ledger.life
+completed_life ledger ticket reply =
+    elim (is_kept_reply reply) as (λ t. (if t then with_completed ticket reply ledger else ledger).life ≡ ledger.life) [
+      | true ↦ refl
+      | false ↦ refl
+    ]
+
+finished_life : (ticket : ℕ) (old new : Option LedgerState) → IsFinished ticket old new → life_of new ≡ life_of old
+finished_life ticket old new Unchanged = refl
+finished_life ticket old new (Completed reply) =
+    mapped_life old (λ l. completed l ticket reply) (λ l. completed_life l ticket reply)
+
+written_life : (write : OwnWrite) (device : Device) → life_of (ledger_written write device) ≡ life_of device.ledger
+written_life (WritesData instance offset bytes) device = refl
+written_life (WritesAttribute class instance attribute offset bytes) device = refl
+written_life (SetsStatus status) device = refl
+written_life (SetsState state) device = refl
+written_life (Prepares reply) device = refl
+written_life (Settles originator number reply) device =
+    mapped_life device.ledger (λ l. settled l originator number reply) (λ l. settled_life l originator number reply)
+written_life (Finishes ticket reply) device =
+    finished_life ticket device.ledger (ledger_written (Finishes ticket reply) device)
+    (finished-ledger ticket reply device)
 
 -- ---- a number that is never executed again
 
@@ -67,7 +89,7 @@ written_life (Settles originator number reply) ledger =
 abbrev Blocked : ℕ → ℕ → ℕ → Option LedgerState → Type 0
 Blocked life originator number None = ⊤
 Blocked life originator number (Some l) =
-    (l.life ≢ life) ⊎ ((reply : Option (List ℕ)) × Settled number reply (slot_of originator l.taken))
+    (l.life ≢ life) ⊎ ((content : List ℕ) × Settled number content (slot_of originator l.taken))
 
 abbrev IsAbove : ℕ → ℕ → Command → Type 0
 IsAbove life number other = other.life ≡ life → number < other.number
@@ -78,10 +100,10 @@ by_life None own life originator number e other = absurd (cc)
 by_life (Some l) own life originator number e other =
     inl (λ same. other (sym (ap (λ o. unwrap_or o own) e) ∙ same))
 
-by_slot : (ledger : Option LedgerState) (life originator number : ℕ) (reply : Option (List ℕ))
-    → Settled number reply (slot_in originator ledger) → Blocked life originator number ledger
-by_slot None life originator number reply is = absurd is
-by_slot (Some l) life originator number reply is = inr (reply, is)
+by_slot : (ledger : Option LedgerState) (life originator number : ℕ) (content : List ℕ)
+    → Settled number content (slot_in originator ledger) → Blocked life originator number ledger
+by_slot None life originator number content is = absurd is
+by_slot (Some l) life originator number content is = inr (content, is)
 
 -- what is executed in another life
 of_other_life : (own life originator number : ℕ) (events : List Event) → own ≢ life → AreOfLife own events
@@ -105,7 +127,7 @@ in_any_life life originator number (Freed freed ∷ events) above =
 
 -- one request
 abbrev own_journal : Device → Request → List Event
-own_journal device request = journal objects_after objects_answer device (request ∷ [])
+own_journal device request = journal objects_after objects_answer owned_standing device (request ∷ [])
 
 abbrev own_next : Device → Request → Device
 own_next device request = after_life_step device (Does (Requested request))
@@ -117,40 +139,65 @@ requested_by : (device : Device) (request : Request) (more : List Event) (life o
     → UntilFreed originator (IsAbove life number) (own_journal device request ++ more)
 requested_by device request more life originator number None e blocked rest =
     let nothing : own_journal device request ≡ []
-    = ap (λ l. events_by objects_after objects_answer (fate l request.0 request.1) device.router ++ []) e in
+    = ap (λ l. events_by objects_after objects_answer (fate owned_standing l device.router request.0 request.1)
+    device.router ++ []) e in
     let none : (own_next device request).ledger ≡ None
-    = ap (λ l. (turn_by objects_after objects_answer (fate l request.0 request.1) l device.router request.0
-    request.1).ledger) e in
+    = ap (λ l. (turn_by objects_after objects_answer (fate owned_standing l device.router request.0 request.1) l
+    device.router request.0 request.1).ledger) e in
     subst (λ events. UntilFreed originator (IsAbove life number) (events ++ more)) (sym nothing)
     (rest (subst (Blocked life originator number) (sym none) tt))
 requested_by device request more life originator number (Some l) e (inl other) rest =
     let own : life_of device.ledger ≡ Some l.life = ap life_of e in
     above-append originator (IsAbove life number) (own_journal device request) more
     (of_other_life l.life life originator number (own_journal device request) other
-    (journal-life objects_after objects_answer (request ∷ []) device l.life own))
+    (journal-life objects_after objects_answer owned_standing (request ∷ []) device l.life own))
     (λ kept. rest (by_life (own_next device request).ledger l.life life originator number
-    (turn_life (fate device.ledger request.0 request.1) device request ∙ own) other))
-requested_by device request more life originator number (Some l) e (inr (reply, settled)) rest =
-    let there : Settled number reply (slot_in originator device.ledger)
-    = subst (λ o. Settled number reply (slot_in originator o)) (sym e) settled in
+    (turn_life (fate owned_standing device.ledger device.router request.0 request.1) device request ∙ own) other))
+requested_by device request more life originator number (Some l) e (inr (content, settled)) rest =
+    let there : Settled number content (slot_in originator device.ledger)
+    = subst (λ o. Settled number content (slot_in originator o)) (sym e) settled in
     above-append originator (IsAbove life number) (own_journal device request) more
     (in_any_life life originator number (own_journal device request)
-    (journal-above objects_after objects_answer (request ∷ []) device originator number reply there))
-    (λ kept. rest (by_slot (own_next device request).ledger life originator number reply
-    (settled-run objects_after objects_answer (request ∷ []) device originator number reply there kept)))
+    (journal-above objects_after objects_answer owned_standing (request ∷ []) device originator number content there))
+    (λ kept. rest (by_slot (own_next device request).ledger life originator number content
+    (settled-run objects_after objects_answer owned_standing (request ∷ []) device originator number content there kept)))
 
-written_blocked : (write : OwnWrite) (ledger : Option LedgerState) (life originator number : ℕ)
-    → Blocked life originator number ledger → Blocked life originator number (ledger_written write ledger)
-written_blocked (WritesData instance offset bytes) ledger life originator number is = is
-written_blocked (WritesAttribute class instance attribute offset bytes) ledger life originator number is = is
-written_blocked (SetsStatus status) ledger life originator number is = is
-written_blocked (SetsState state) ledger life originator number is = is
-written_blocked (Prepares reply) ledger life originator number is = is
-written_blocked (Settles by given reply) None life originator number is = tt
-written_blocked (Settles by given reply) (Some l) life originator number (inl other) =
+settled_blocked : (ledger : Option LedgerState) (by given : ℕ) (reply : List ℕ) (life originator number : ℕ)
+    → Blocked life originator number ledger
+    → Blocked life originator number (option_map (λ l. settled l by given reply) ledger)
+settled_blocked None by given reply life originator number is = tt
+settled_blocked (Some l) by given reply life originator number (inl other) =
     inl (λ same. other (sym (settled_life l by given reply) ∙ same))
-written_blocked (Settles by given reply) (Some l) life originator number (inr (kept, is)) =
-    inr (settled-stays l by given reply originator number kept is)
+settled_blocked (Some l) by given reply life originator number (inr (content, is)) =
+    inr (settled-stays l by given reply originator number content is)
+
+completed_blocked : (ledger : Option LedgerState) (ticket : ℕ) (reply : List ℕ) (life originator number : ℕ)
+    → Blocked life originator number ledger
+    → Blocked life originator number (option_map (λ l. completed l ticket reply) ledger)
+completed_blocked None ticket reply life originator number is = tt
+completed_blocked (Some l) ticket reply life originator number (inl other) =
+    inl (λ same. other (sym (completed_life l ticket reply) ∙ same))
+completed_blocked (Some l) ticket reply life originator number (inr (content, is)) =
+    inr (completed-stays l ticket reply originator number content is)
+
+finished_blocked : (ticket : ℕ) (old new : Option LedgerState) (life originator number : ℕ) → IsFinished ticket old new
+    → Blocked life originator number old → Blocked life originator number new
+finished_blocked ticket old new life originator number Unchanged is = is
+finished_blocked ticket old new life originator number (Completed reply) is =
+    completed_blocked old ticket reply life originator number is
+
+written_blocked : (write : OwnWrite) (device : Device) (life originator number : ℕ)
+    → Blocked life originator number device.ledger → Blocked life originator number (ledger_written write device)
+written_blocked (WritesData instance offset bytes) device life originator number is = is
+written_blocked (WritesAttribute class instance attribute offset bytes) device life originator number is = is
+written_blocked (SetsStatus status) device life originator number is = is
+written_blocked (SetsState state) device life originator number is = is
+written_blocked (Prepares reply) device life originator number is = is
+written_blocked (Settles by given reply) device life originator number is =
+    settled_blocked device.ledger by given reply life originator number is
+written_blocked (Finishes ticket reply) device life originator number is =
+    finished_blocked ticket device.ledger (ledger_written (Finishes ticket reply) device) life originator number
+    (finished-ledger ticket reply device) is
 
 new_blocked : (ledger : Option LedgerStart) (life originator number : ℕ) → IfSome ledger (λ l. l.life ≢ life)
     → Blocked life originator number (new_ledger ledger)
@@ -179,7 +226,7 @@ blocked_until (Does (Requested request) ∷ steps) device life originator number
 blocked_until (Does (WrittenBy write) ∷ steps) device life originator number is fit others blocked =
     blocked_until steps (device_written write device) life originator number
     (device_stays device (Does (WrittenBy write)) fit.0 is) fit.1 others.1
-    (written_blocked write device.ledger life originator number blocked)
+    (written_blocked write device life originator number blocked)
 blocked_until (Restarts start ∷ steps) device life originator number is fit others blocked =
     blocked_until steps (restarted start device) life originator number
     (device_stays device (Restarts start) fit.0 is) fit.1 others.1
@@ -214,8 +261,17 @@ once_by (Served service (Executes command)) device request events means up once 
     let next = next_by objects_after objects_answer (Served service (Executes command)) device request in (
       not_again command.life command.originator command.number command events refl refl
           (up command own (by_slot next.ledger command.life command.originator command.number
-          (Some (embedded_reply objects_after objects_answer device.router command.request))
+          (DONE ∷ embedded_reply objects_after objects_answer device.router command.request)
           (settled-command objects_after objects_answer device request service command means))),
+      once,
+    )
+once_by (Served service (Queues command ticket)) device request events means up once =
+    let own : life_of device.ledger ≡ Some command.life
+    = ap life_of means.ledger_is ∙ ap (λ n. Some n) (sym means.means.life) in
+    let next = next_by objects_after objects_answer (Served service (Queues command ticket)) device request in (
+      not_again command.life command.originator command.number command events refl refl
+          (up command own (by_slot next.ledger command.life command.originator command.number (PENDING ∷ [])
+          (settled-queued objects_after objects_answer device request service command ticket means))),
       once,
     )
 once_by (Served service (Frees freed)) device request events means up once = once
@@ -261,7 +317,7 @@ later device (Does (Requested request)) steps are = record {
   begin = record {
     first = own_lives (Does (Requested request)) steps (life_of device.ledger)
         (life_of (own_next device request).ledger)
-        (turn_life (fate device.ledger request.0 request.1) device request) are.begin.first;
+        (turn_life (fate owned_standing device.ledger device.router request.0 request.1) device request) are.begin.first;
     others = are.begin.others;
   };
 }
@@ -270,7 +326,7 @@ later device (Does (WrittenBy write)) steps are = record {
   fit = are.fit.1;
   begin = record {
     first = own_lives (Does (WrittenBy write)) steps (life_of device.ledger)
-        (life_of (ledger_written write device.ledger)) (written_life write device.ledger) are.begin.first;
+        (life_of (ledger_written write device)) (written_life write device) are.begin.first;
     others = are.begin.others;
   };
 }
@@ -298,11 +354,12 @@ once_in_lives device steps is fit begin = all device steps (record { is = is; fi
     all device (Does (Requested request) ∷ steps) are =
         let next = own_next device request in
         let more = later device (Does (Requested request)) steps are in
-        once_by (fate device.ledger request.0 request.1) device request (journal_over_restarts next steps)
-        (fate-means device.ledger request)
+        once_by (fate owned_standing device.ledger device.router request.0 request.1) device request
+        (journal_over_restarts next steps) (fate-means owned_standing device.ledger device.router request)
         (λ command own blocked. blocked_until steps next command.life command.originator command.number more.is more.fit
         (begins_other (life_of next.ledger) command.life steps
-        (turn_life (fate device.ledger request.0 request.1) device request ∙ own) more.begin.first) blocked)
+        (turn_life (fate owned_standing device.ledger device.router request.0 request.1) device request ∙ own)
+        more.begin.first) blocked)
         (all next steps more)
     all device (Does (WrittenBy write) ∷ steps) are =
         all (device_written write device) steps (later device (Does (WrittenBy write)) steps are)

@@ -160,7 +160,7 @@ entries_leave p (entry ∷ entries) h =
       lost = rest.lost ∙ first.lost;
     }
 
-values_narrow : (m : Contents) (names : List AttributeName) → AllByRecursion IsNarrow names
+pub values_narrow : (m : Contents) (names : List AttributeName) → AllByRecursion IsNarrow names
     → AllByRecursion (λ (entry : ℕ × List ℕ). entry.0 < 2 ^ 48) (map pair_of (map (value_entry m) names))
 values_narrow m [] h = tt
 values_narrow m (name ∷ names) h =

@@ -2,7 +2,7 @@
 use Rattle.std.proofs.Common.{◌≡◌, ℕ, zero, suc, ◌+◌, ◌==◌, ◌&&◌, nat_lt, not, Bool, true, false, if◌then◌else◌, Option}
 use Rattle.std.proofs.Common.{Some}
 use Rattle.std.proofs.Common.{None, List, [], ◌∷◌, ◌++◌, map, length, take, drop, Result, Ok, Err, refl, sym, subst}
-use Rattle.std.proofs.Common.{lit<}
+use Rattle.std.proofs.Common.{lit<, ap, ◌∙◌}
 use Rattle.std.specs.Prelude.{⊤, find, option_map}
 use Rattle.std.specs.List.{AllByRecursion}
 use Rattle.cip_bytes.specs.Numbers.{number_at, AreBytes}
@@ -46,10 +46,11 @@ use Rattle.enip_adapter.specs.Turn.Output.{NoReply, Sends, Begins, Refuses}
 use Rattle.enip_keep.specs.Lives.{Executed, Restarted}
 use Rattle.kept_adapter.specs.Restarts.{LifeStep, Does, AdapterStep, steps_over_restarts, IsOfBytes, IsStep}
 use Rattle.kept_adapter.specs.Restarts.{FeedsBytes, HoldsBytes, IsHeldInBytes, IsAdapterStep}
-use Rattle.kept_adapter.specs.Restarts.{IsGoingOn, RestartsGoOn, IsConfiguration, slots_of}
+use Rattle.kept_adapter.specs.Restarts.{Sizes, sizes_of, configured_sizes, slots_of, places_of, IsGoingOn, RestartsGoOn}
+use Rattle.kept_adapter.specs.Restarts.{IsConfiguration}
 use Rattle.kept_adapter.specs.RestartLaws.{GoOn}
 use Rattle.kept_adapter.specs.Saved.{saved_adapter}
-use Rattle.kept_adapter.specs.Started.{started, new_ledger}
+use Rattle.kept_adapter.specs.Started.{started, new_ledger, new_queue}
 use Rattle.kept_adapter.specs.declared.adapter_start.AdapterStart.{AdapterStart}
 use Rattle.kept_adapter.specs.declared.adapter_start.LedgerStart.{LedgerStart}
 use Rattle.kept_adapter.proofs.Restarted.{first_device}
@@ -390,34 +391,47 @@ steps_fit a (Executed calls ∷ steps) holds fit =
 steps_fit a (Restarted start ∷ steps) holds fit =
     (fit.0, steps_fit (started start (saved_adapter a)) steps tt fit.1)
 
-does_going : (count : Option ℕ) (steps : List DeviceStep) (more : List LifeStep)
-    → AllByRecursion (IsGoingOn count) more → AllByRecursion (IsGoingOn count) (map Does steps ++ more)
-does_going count [] more rest = rest
-does_going count (step ∷ steps) more rest = (tt, does_going count steps more rest)
+does_going : (own : Sizes) (steps : List DeviceStep) (more : List LifeStep)
+    → AllByRecursion (IsGoingOn own) more → AllByRecursion (IsGoingOn own) (map Does steps ++ more)
+does_going own [] more rest = rest
+does_going own (step ∷ steps) more rest = (tt, does_going own steps more rest)
 
-all_going : (count : Option ℕ) (a : AdapterState) (steps : List AdapterStep)
-    → AllByRecursion (RestartsGoOn count) steps → AllByRecursion (IsGoingOn count) (steps_over_restarts a steps)
-all_going count a [] on = tt
-all_going count a (Executed calls ∷ steps) on =
-    does_going count (steps_of_calls a calls) (steps_over_restarts (after_calls a calls) steps)
-    (all_going count (after_calls a calls) steps on.1)
-all_going count a (Restarted start ∷ steps) on =
-    (on.0, all_going count (started start (saved_adapter a)) steps on.1)
+all_going : (own : Sizes) (a : AdapterState) (steps : List AdapterStep)
+    → AllByRecursion (RestartsGoOn own) steps → AllByRecursion (IsGoingOn own) (steps_over_restarts a steps)
+all_going own a [] on = tt
+all_going own a (Executed calls ∷ steps) on =
+    does_going own (steps_of_calls a calls) (steps_over_restarts (after_calls a calls) steps)
+    (all_going own (after_calls a calls) steps on.1)
+all_going own a (Restarted start ∷ steps) on =
+    (on.0, all_going own (started start (saved_adapter a)) steps on.1)
 
 new_slots : (ledger : Option LedgerStart) → slots_of (new_ledger ledger) ≡ option_map (λ l. l.originators) ledger
 new_slots None = refl
 new_slots (Some l) = refl
 
+new_places : (queue : Option ℕ) → places_of (new_queue queue) ≡ queue
+new_places None = refl
+new_places (Some n) = refl
+
+-- the sizes of an adapter that starts from nothing
+abbrev sized : Option ℕ → Option ℕ → Sizes
+sized slots places = record { slots = slots; places = places }
+
+first_sizes : (start : AdapterStart) → sizes_of (started start []).state.shared.objects ≡ configured_sizes start
+first_sizes start =
+    ap (λ n. sized n (places_of (new_queue start.queue))) (new_slots start.ledger)
+    ∙ ap (sized (option_map (λ l. l.originators) start.ledger)) (new_places start.queue)
+
 -- An adapter that starts from nothing, over any calls and restarts.
 pub from_nothing : (start : AdapterStart) (steps : List AdapterStep) → IsConfiguration start
     → AllByRecursion IsAdapterStep steps
-    → AllByRecursion (RestartsGoOn (option_map (λ l. l.originators) start.ledger)) steps
+    → AllByRecursion (RestartsGoOn (configured_sizes start)) steps
     → GoOn (started start []).state.shared.objects (steps_over_restarts (started start []) steps)
 from_nothing start steps configuration fit on =
     let a = started start [] in
     record {
       is = first_device start configuration;
       fit = steps_fit a steps tt fit;
-      on = all_going (slots_of a.state.shared.objects.ledger) a steps
-          (subst (λ count. AllByRecursion (RestartsGoOn count) steps) (sym (new_slots start.ledger)) on);
+      on = all_going (sizes_of a.state.shared.objects) a steps
+          (subst (λ own. AllByRecursion (RestartsGoOn own) steps) (sym (first_sizes start)) on);
     }

@@ -3,6 +3,7 @@ use Rattle.std.proofs.Common.{◌≡◌, ℕ, suc, ◌<◌, ◌≤◌, ◌^◌, 
 use Rattle.std.proofs.Common.{Some, None, List, [], ◌∷◌, length, refl, ap, sym, ◌∙◌, subst, arith, inl, inr}
 use Rattle.std.specs.Prelude.{option_map, IfSome}
 use Rattle.std.specs.List.{AllByRecursion}
+use Rattle.std.proofs.lemmas.Bool.{and_parts}
 use Rattle.cip_application.specs.declared.object.AttributeName.{AttributeName}
 use Rattle.cip_bytes.specs.declared.protocol.TheConstants.{IDENTITY}
 use Rattle.cip_ledger.specs.declared.request.TheConstants.{LEDGER}
@@ -11,6 +12,7 @@ use Rattle.cip_ledger.specs.Kept.{IsLedger}
 use Rattle.cip_ledger.specs.Ledger.{LedgerState}
 use Rattle.cip_objects.specs.Contents.{Contents}
 use Rattle.cip_objects.specs.Kept.{kept_names}
+use Rattle.cip_owner.specs.Queue.{QueueState}
 use Rattle.device_state.specs.Keys.{name_in}
 use Rattle.device_state.specs.Restored.{Done, by_name}
 use Rattle.device_state.specs.Saved.{State, state_of}
@@ -18,58 +20,122 @@ use Rattle.enip_keep.specs.Kept.{Kept}
 use Rattle.kept_adapter.specs.declared.adapter_start.AdapterStart.{AdapterStart}
 use Rattle.kept_adapter.specs.declared.adapter_start.LedgerStart.{LedgerStart}
 use Rattle.kept_adapter.specs.declared.progress.Progress.{Progress}
+use Rattle.kept_adapter.specs.declared.queue_progress.QueueProgress.{QueueProgress}
 use Rattle.kept_adapter.specs.Keys.{device_key}
 use Rattle.kept_adapter.specs.Restarts.{LifeStep, Does, Restarts, restarted, after_life_step, IsNarrow, IsRestartable}
-use Rattle.kept_adapter.specs.Restarts.{IsConfiguration, IsStep, GoesOn, slots_of, IsLedgerAfter}
+use Rattle.kept_adapter.specs.Restarts.{IsConfiguration, IsStep, GoesOn, Sizes, sizes_of, slots_of, IsLedgerAfter}
+use Rattle.kept_adapter.specs.Restarts.{IsQueueAfter}
 use Rattle.kept_adapter.specs.SameKeys.{step_alike}
 use Rattle.kept_adapter.specs.Saved.{saved_objects, saved_device, first_entries, ENTRIES}
 use Rattle.kept_adapter.specs.Started.{is_free_slot, by_device_key, after_entry, beginning, put_back, put_all_back}
-use Rattle.kept_adapter.specs.Started.{new_ledger, configured, put_back_in, trusted_ledger, started}
+use Rattle.kept_adapter.specs.Started.{new_ledger, new_queue, configured, put_back_in, queue_back_in, has_given_all}
+use Rattle.kept_adapter.specs.Started.{is_trusted, trusted_ledger, trusted_queue, started}
 use Rattle.kept_adapter.proofs.LedgerStays.{step_stays}
 use Rattle.kept_adapter.proofs.LedgerBack.{part, IsAt, IsAtOrLost, first_at, first_or_lost, take_all}
-use Rattle.kept_adapter.proofs.PutBack.{put_two, shapes_back, LeavesLedger, objects_leave}
+use Rattle.kept_adapter.proofs.PutBack.{shapes_back, LeavesLedger, objects_leave}
+use Rattle.kept_adapter.proofs.QueueBack.{queue_kept, queue_after, after_is_queue, new_is_queue}
+use Rattle.kept_adapter.proofs.QueueLeaves.{all_entries}
+use Rattle.kept_adapter.proofs.GivenTickets.{step_given, step_queue}
 
 -- ---- which ledger is trusted
+
+abbrev trusted_by : AdapterStart → Option LedgerState → Bool → Option LedgerState
+trusted_by start own trusted = if trusted then own else new_ledger start.ledger
+
+five : (a b c d e : Bool) → a ≡ true → b ≡ false → c ≡ false → d ≡ true → e ≡ false
+    → a && (not b && (not c && (d && not e))) ≡ true
+five a b c d e ea eb ec ed ee = rw (ea, eb, ec, ed, ee) refl
 
 and_false : (a : Bool) → a && false ≡ false
 and_false true = refl
 and_false false = refl
 
-abbrev trusted_by : AdapterStart → Option LedgerState → Bool → Option LedgerState
-trusted_by start own trusted = if trusted then own else new_ledger start.ledger
+first_fails : (a b c d e : Bool) → a ≡ false → a && (not b && (not c && (d && not e))) ≡ false
+first_fails a b c d e f = rw f refl
 
-trusted_all : (start : AdapterStart) (p : Progress) → p.has_life ≡ true → p.has_lost ≡ false
-    → start.begins_life ≡ false → trusted_ledger start p ≡ p.ledger
-trusted_all start p life lost same =
-    ap (λ t. trusted_by start p.ledger (t && (not p.has_lost && not start.begins_life))) life
-    ∙ ap (λ t. trusted_by start p.ledger (not t && not start.begins_life)) lost
-    ∙ ap (λ t. trusted_by start p.ledger (not t)) same
+second_fails : (a b c d e : Bool) → b ≡ true → a && (not b && (not c && (d && not e))) ≡ false
+second_fails a b c d e f = rw f (and_false a)
 
-new_without_life : (start : AdapterStart) (p : Progress) → p.has_life ≡ false
-    → trusted_ledger start p ≡ new_ledger start.ledger
-new_without_life start p none =
-    ap (λ t. trusted_by start p.ledger (t && (not p.has_lost && not start.begins_life))) none
+third_fails : (a b c d e : Bool) → c ≡ true → a && (not b && (not c && (d && not e))) ≡ false
+third_fails a b c d e f = rw f (ap (λ t. a && t) (and_false (not b)) ∙ and_false a)
 
-new_if_lost : (start : AdapterStart) (p : Progress) → p.has_lost ≡ true
-    → trusted_ledger start p ≡ new_ledger start.ledger
-new_if_lost start p lost =
-    ap (λ t. trusted_by start p.ledger (p.has_life && (not t && not start.begins_life))) lost
-    ∙ ap (trusted_by start p.ledger) (and_false p.has_life)
+fourth_fails : (a b c d e : Bool) → d ≡ false → a && (not b && (not c && (d && not e))) ≡ false
+fourth_fails a b c d e f =
+    rw f (ap (λ t. a && (not b && t)) (and_false (not c)) ∙ ap (λ t. a && t) (and_false (not b)) ∙ and_false a)
 
-new_if_wanted : (start : AdapterStart) (p : Progress) → start.begins_life ≡ true
-    → trusted_ledger start p ≡ new_ledger start.ledger
-new_if_wanted start p wanted =
-    ap (λ t. trusted_by start p.ledger (p.has_life && (not p.has_lost && not t))) wanted
-    ∙ ap (λ t. trusted_by start p.ledger (p.has_life && t)) (and_false (not p.has_lost))
-    ∙ ap (trusted_by start p.ledger) (and_false p.has_life)
+last_fails : (a b c d e : Bool) → e ≡ true → a && (not b && (not c && (d && not e))) ≡ false
+last_fails a b c d e f =
+    rw f (ap (λ t. a && (not b && (not c && t))) (and_false d) ∙ ap (λ t. a && (not b && t)) (and_false (not c))
+    ∙ ap (λ t. a && t) (and_false (not b)) ∙ and_false a)
 
-new_anyway : (start : AdapterStart) (p : Progress) → p.ledger ≡ new_ledger start.ledger
-    → trusted_ledger start p ≡ new_ledger start.ledger
-new_anyway start p own = by (p.has_life && (not p.has_lost && not start.begins_life))
-  where
-    by : (t : Bool) → trusted_by start p.ledger t ≡ new_ledger start.ledger
-    by true = own
-    by false = refl
+module _ (start : AdapterStart) (p : Progress) (q : QueueProgress) where
+  trusted_all : p.has_life ≡ true → p.has_lost ≡ false → q.has_lost ≡ false → has_given_all p.ledger q.queue ≡ true
+      → start.begins_life ≡ false → trusted_ledger start p q ≡ p.ledger
+  trusted_all life lost queue given same =
+      ap (trusted_by start p.ledger)
+      (five p.has_life p.has_lost q.has_lost (has_given_all p.ledger q.queue) start.begins_life life lost queue given same)
+
+  new_without_life : p.has_life ≡ false → trusted_ledger start p q ≡ new_ledger start.ledger
+  new_without_life none =
+      ap (trusted_by start p.ledger)
+      (first_fails p.has_life p.has_lost q.has_lost (has_given_all p.ledger q.queue) start.begins_life none)
+
+  new_if_lost : p.has_lost ≡ true → trusted_ledger start p q ≡ new_ledger start.ledger
+  new_if_lost lost =
+      ap (trusted_by start p.ledger)
+      (second_fails p.has_life p.has_lost q.has_lost (has_given_all p.ledger q.queue) start.begins_life lost)
+
+  new_if_queue_lost : q.has_lost ≡ true → trusted_ledger start p q ≡ new_ledger start.ledger
+  new_if_queue_lost lost =
+      ap (trusted_by start p.ledger)
+      (third_fails p.has_life p.has_lost q.has_lost (has_given_all p.ledger q.queue) start.begins_life lost)
+
+  new_if_not_given : has_given_all p.ledger q.queue ≡ false → trusted_ledger start p q ≡ new_ledger start.ledger
+  new_if_not_given other =
+      ap (trusted_by start p.ledger)
+      (fourth_fails p.has_life p.has_lost q.has_lost (has_given_all p.ledger q.queue) start.begins_life other)
+
+  new_if_wanted : start.begins_life ≡ true → trusted_ledger start p q ≡ new_ledger start.ledger
+  new_if_wanted wanted =
+      ap (trusted_by start p.ledger)
+      (last_fails p.has_life p.has_lost q.has_lost (has_given_all p.ledger q.queue) start.begins_life wanted)
+
+  new_anyway : p.ledger ≡ new_ledger start.ledger → trusted_ledger start p q ≡ new_ledger start.ledger
+  new_anyway own = by (is_trusted start p q)
+    where
+      by : (t : Bool) → trusted_by start p.ledger t ≡ new_ledger start.ledger
+      by true = own
+      by false = refl
+
+  -- The queue has given each ticket of the ledger that is trusted.
+  given_after : has_given_all (trusted_ledger start p q) (trusted_queue start q) ≡ true
+  given_after = by (is_trusted start p q) refl
+    where
+      none_pending : (ledger : Option LedgerStart) (queue : Option QueueState)
+          → has_given_all (new_ledger ledger) queue ≡ true
+      none_pending None queue = refl
+      none_pending (Some l) queue = refl
+
+      not_lost : q.has_lost ≡ false → trusted_queue start q ≡ q.queue
+      not_lost e = ap (λ t. if t then new_queue start.queue else q.queue) e
+
+      parts : is_trusted start p q ≡ true → (q.has_lost ≡ false) × (has_given_all p.ledger q.queue ≡ true)
+      parts e =
+          let first = and_parts p.has_life _ e in
+          let second = and_parts (not p.has_lost) _ first.1 in
+          let third = and_parts (not q.has_lost) _ second.1 in
+          let fourth = and_parts (has_given_all p.ledger q.queue) _ third.1 in
+          (not_true q.has_lost third.0, fourth.0)
+        where
+          not_true : (b : Bool) → not b ≡ true → b ≡ false
+          not_true true e = absurd (cc)
+          not_true false e = refl
+
+      by : (t : Bool) → is_trusted start p q ≡ t
+          → has_given_all (trusted_by start p.ledger t) (trusted_queue start q) ≡ true
+      by true e =
+          let both = parts e in ap (has_given_all p.ledger) (not_lost both.0) ∙ both.1
+      by false e = none_pending start.ledger (trusted_queue start q)
 
 -- ---- a device without a ledger
 
@@ -113,59 +179,81 @@ few_taken : (l : LedgerState) → IsLedger l → length l.taken ≤ 64
 few_taken l is = let within = is.within in let few = is.few in omega (arith, within, few)
 
 -- with as many slots, after so many entries
-back_by : (start : AdapterStart) (l : LedgerState) (p : Progress) (count n : ℕ) → count ≡ suc n → n < 2 ^ 16
-    → length l.taken ≤ n → IsLedger l → GoesOn (Some l.slots) start → p.ledger ≡ new_ledger start.ledger
-    → p.has_lost ≡ false → trusted_ledger start (put_all_back p (first_entries l count)) ≡ Some l
-back_by start l p count n more h few is on own lost =
-    let empty = empty_by start.ledger l.slots on.slots in
-    let q = put_all_back p (first_entries l (suc n)) in
-    let at : IsAt l l.slots n q = first_at l empty.0 n p is h (own ∙ empty.1) lost in
-    ap (λ k. trusted_ledger start (put_all_back p (first_entries l k))) more
-    ∙ trusted_all start q at.life at.lost on.same_life
-    ∙ at.ledger
-    ∙ ap (λ taken. Some (part l.slots l.life taken)) (take_all l.taken n few)
+back_by : (start : AdapterStart) (l : LedgerState) (p : Progress) (q : QueueProgress) (count n : ℕ) → count ≡ suc n
+    → n < 2 ^ 16 → length l.taken ≤ n → IsLedger l → option_map (λ l. l.originators) start.ledger ≡ Some l.slots
+    → start.begins_life ≡ false → p.ledger ≡ new_ledger start.ledger → p.has_lost ≡ false → q.has_lost ≡ false
+    → has_given_all (Some l) q.queue ≡ true → trusted_ledger start (put_all_back p (first_entries l count)) q ≡ Some l
+back_by start l p q count n more h few is slots same_life own lost queue given =
+    let empty = empty_by start.ledger l.slots slots in
+    let r = put_all_back p (first_entries l (suc n)) in
+    let at : IsAt l l.slots n r = first_at l empty.0 n p is h (own ∙ empty.1) lost in
+    let back : r.ledger ≡ Some l
+    = at.ledger ∙ ap (λ taken. Some (part l.slots l.life taken)) (take_all l.taken n few) in
+    ap (λ k. trusted_ledger start (put_all_back p (first_entries l k)) q) more
+    ∙ trusted_all start r q at.life at.lost queue (ap (λ o. has_given_all o q.queue) back ∙ given) same_life
+    ∙ back
 
 -- the device before the entries of the ledger
 abbrev behind_objects : AdapterStart → Contents → Progress
 behind_objects start m = put_all_back (beginning (configured start)) (saved_objects m)
 
-goes_on_by : (start : AdapterStart) (m : Contents) (ledger : Option LedgerState)
-    → AllByRecursion IsNarrow (kept_names m.shapes) → IfSome ledger IsLedger → GoesOn (slots_of ledger) start
-    → trusted_ledger start (put_back_in start (saved_device m ledger)) ≡ ledger
-goes_on_by start m None names is on =
+goes_on_by : (start : AdapterStart) (m : Contents) (ledger : Option LedgerState) (queue : Option QueueState)
+    (q : QueueProgress) → AllByRecursion IsNarrow (kept_names m.shapes) → IfSome ledger IsLedger
+    → option_map (λ l. l.originators) start.ledger ≡ slots_of ledger → start.begins_life ≡ false → q.has_lost ≡ false
+    → has_given_all ledger q.queue ≡ true → trusted_ledger start (put_back_in start (saved_device m ledger queue)) q ≡ ledger
+goes_on_by start m None queue q names is slots same_life lost given =
     let p = behind_objects start m in
     let left : LeavesLedger (beginning (configured start)) p = objects_leave (beginning (configured start)) m names in
-    ap (trusted_ledger start) (put_two (beginning (configured start)) (saved_objects m) [])
-    ∙ new_without_life start p left.life ∙ none_by start.ledger on.slots
-goes_on_by start m (Some l) names is on =
+    ap (λ x. trusted_ledger start x q) (all_entries (beginning (configured start)) m None queue)
+    ∙ new_without_life start p q left.life ∙ none_by start.ledger slots
+goes_on_by start m (Some l) queue q names is slots same_life lost given =
     let p = behind_objects start m in
     let left : LeavesLedger (beginning (configured start)) p = objects_leave (beginning (configured start)) m names in
-    ap (trusted_ledger start) (put_two (beginning (configured start)) (saved_objects m) (first_entries l ENTRIES))
-    ∙ back_by start l p ENTRIES 64 refl (omega arith) (few_taken l is) is on left.ledger left.lost
+    ap (λ x. trusted_ledger start x q) (all_entries (beginning (configured start)) m (Some l) queue)
+    ∙ back_by start l p q ENTRIES 64 refl (omega arith) (few_taken l is) is slots same_life left.ledger left.lost lost given
 
-pub goes_on : (start : AdapterStart) (device : Device) → IsRestartable device → GoesOn (slots_of device.ledger) start
+-- the queue that is put back
+kept : (start : AdapterStart) (device : Device) → IsRestartable device → GoesOn (sizes_of device) start
+    → queue_back_in start (saved_device device.router.objects device.ledger device.router.queue)
+    ≡ record { queue = device.router.queue; has_lost = false }
+kept start device is on =
+    queue_kept start device.router.objects device.ledger device.router.queue is.names is.queue
+    (ap (λ (s : Sizes). s.places) on.same)
+
+pub goes_on : (start : AdapterStart) (device : Device) → IsRestartable device → GoesOn (sizes_of device) start
     → (restarted start device).ledger ≡ device.ledger
-goes_on start device is on = goes_on_by start device.router.objects device.ledger is.names is.ledger on
+goes_on start device is on =
+    let q : QueueProgress = record { queue = device.router.queue; has_lost = false } in
+    ap (trusted_ledger start
+    (put_back_in start (saved_device device.router.objects device.ledger device.router.queue)))
+    (kept start device is on)
+    ∙ goes_on_by start device.router.objects device.ledger device.router.queue q is.names is.ledger
+    (ap (λ (s : Sizes). s.slots) on.same) on.same_life refl is.given
+
+pub queue_goes_on : (start : AdapterStart) (device : Device) → IsRestartable device → GoesOn (sizes_of device) start
+    → (restarted start device).router.queue ≡ device.router.queue
+queue_goes_on start device is on = ap (trusted_queue start) (kept start device is on)
 
 -- with any number of slots, after so many entries
-after_by : (start : AdapterStart) (own : Option LedgerStart) (l : LedgerState) (p : Progress) (count n : ℕ)
-    → start.ledger ≡ own → IfSome own (λ s. s.originators ≤ 64) → count ≡ suc n → n < 2 ^ 16 → length l.taken ≤ n
-    → IsLedger l → p.ledger ≡ new_ledger start.ledger → p.has_lost ≡ false
-    → IsLedgerAfter start (Some l) (trusted_ledger start (put_all_back p (first_entries l count)))
-after_by start None l p count n configured few more h all is own lost =
+after_by : (start : AdapterStart) (own : Option LedgerStart) (l : LedgerState) (p : Progress) (q : QueueProgress)
+    (count n : ℕ) → start.ledger ≡ own → IfSome own (λ s. s.originators ≤ 64) → count ≡ suc n → n < 2 ^ 16
+    → length l.taken ≤ n → IsLedger l → p.ledger ≡ new_ledger start.ledger → p.has_lost ≡ false
+    → IsLedgerAfter start (Some l) (trusted_ledger start (put_all_back p (first_entries l count)) q)
+after_by start None l p q count n configured few more h all is own lost =
     let none : new_ledger start.ledger ≡ None = ap new_ledger configured in
-    inl (new_anyway start (put_all_back p (first_entries l count))
+    inl (new_anyway start (put_all_back p (first_entries l count)) q
     (stays_none p (first_entries l count) (own ∙ none) ∙ sym none))
-after_by start (Some s) l p count n configured few more h all is own lost =
-    subst (λ k. IsLedgerAfter start (Some l) (trusted_ledger start (put_all_back p (first_entries l k)))) (sym more)
+after_by start (Some s) l p q count n configured few more h all is own lost =
+    subst (λ k. IsLedgerAfter start (Some l) (trusted_ledger start (put_all_back p (first_entries l k)) q)) (sym more)
     (by (put_all_back p (first_entries l (suc n))) start.begins_life refl
     (first_or_lost l s.originators s.life n p is h (own ∙ ap new_ledger configured) lost))
   where
-    by : (q : Progress) (wanted : Bool) → start.begins_life ≡ wanted → IsAtOrLost l s.originators n q
-        → IsLedgerAfter start (Some l) (trusted_ledger start q)
-    by q true e at = inl (new_if_wanted start q e)
-    by q false e (inl lost) = inl (new_if_lost start q lost)
-    by q false e (inr at) =
+    by_queue : (r : Progress) (queue given : Bool) → q.has_lost ≡ queue → has_given_all r.ledger q.queue ≡ given
+        → start.begins_life ≡ false → IsAt l s.originators n r
+        → IsLedgerAfter start (Some l) (trusted_ledger start r q)
+    by_queue r true given e f same at = inl (new_if_queue_lost start r q e)
+    by_queue r false false e f same at = inl (new_if_not_given start r q f)
+    by_queue r false true e f same at =
         let all_taken = take_all l.taken n all in
         inr (
           l,
@@ -173,30 +261,48 @@ after_by start (Some s) l p count n configured few more h all is own lost =
           refl,
           subst (λ taken. length taken ≤ s.originators) all_taken at.within,
           few,
-          trusted_all start q at.life at.lost e ∙ at.ledger
+          trusted_all start r q at.life at.lost e f same ∙ at.ledger
               ∙ ap (λ taken. Some (part s.originators l.life taken)) all_taken,
         )
 
-ledger_after_by : (start : AdapterStart) (m : Contents) (ledger : Option LedgerState)
-    → AllByRecursion IsNarrow (kept_names m.shapes) → IfSome ledger IsLedger → IsConfiguration start
-    → IsLedgerAfter start ledger (trusted_ledger start (put_back_in start (saved_device m ledger)))
-ledger_after_by start m None names is configuration =
+    by : (r : Progress) (wanted : Bool) → start.begins_life ≡ wanted → IsAtOrLost l s.originators n r
+        → IsLedgerAfter start (Some l) (trusted_ledger start r q)
+    by r true e at = inl (new_if_wanted start r q e)
+    by r false e (inl lost) = inl (new_if_lost start r q lost)
+    by r false e (inr at) = by_queue r q.has_lost (has_given_all r.ledger q.queue) refl refl e at
+
+ledger_after_by : (start : AdapterStart) (m : Contents) (ledger : Option LedgerState) (queue : Option QueueState)
+    (q : QueueProgress) → AllByRecursion IsNarrow (kept_names m.shapes) → IfSome ledger IsLedger
+    → IsConfiguration start
+    → IsLedgerAfter start ledger (trusted_ledger start (put_back_in start (saved_device m ledger queue)) q)
+ledger_after_by start m None queue q names is configuration =
     let p = behind_objects start m in
     let left : LeavesLedger (beginning (configured start)) p = objects_leave (beginning (configured start)) m names in
-    inl (ap (trusted_ledger start) (put_two (beginning (configured start)) (saved_objects m) [])
-    ∙ new_without_life start p left.life)
-ledger_after_by start m (Some l) names is configuration =
+    inl (ap (λ x. trusted_ledger start x q) (all_entries (beginning (configured start)) m None queue)
+    ∙ new_without_life start p q left.life)
+ledger_after_by start m (Some l) queue q names is configuration =
     let p = behind_objects start m in
     let left : LeavesLedger (beginning (configured start)) p = objects_leave (beginning (configured start)) m names in
-    subst (λ q. IsLedgerAfter start (Some l) (trusted_ledger start q))
-    (sym (put_two (beginning (configured start)) (saved_objects m) (first_entries l ENTRIES)))
-    (after_by start start.ledger l p ENTRIES 64 refl configuration.few refl (omega arith)
+    subst (λ x. IsLedgerAfter start (Some l) (trusted_ledger start x q))
+    (sym (all_entries (beginning (configured start)) m (Some l) queue))
+    (after_by start start.ledger l p q ENTRIES 64 refl configuration.few refl (omega arith)
     (few_taken l is) is left.ledger left.lost)
+
+-- the queue that a device starts from
+abbrev queue_in : AdapterStart → Device → QueueProgress
+queue_in start device =
+    queue_back_in start (saved_device device.router.objects device.ledger device.router.queue)
 
 pub ledger_after : (start : AdapterStart) (device : Device) → IsRestartable device → IsConfiguration start
     → IsLedgerAfter start device.ledger (restarted start device).ledger
 ledger_after start device is configuration =
-    ledger_after_by start device.router.objects device.ledger is.names is.ledger configuration
+    ledger_after_by start device.router.objects device.ledger device.router.queue (queue_in start device) is.names
+    is.ledger configuration
+
+pub queue_or_new : (start : AdapterStart) (device : Device) → IsRestartable device → IsConfiguration start
+    → IsQueueAfter start device.router.queue (restarted start device).router.queue
+queue_or_new start device is configuration =
+    queue_after start device.router.objects device.ledger device.router.queue is.names is.queue
 
 -- ---- what holds of every device
 
@@ -222,17 +328,31 @@ pub device_stays : (device : Device) (step : LifeStep) → IsStep step → IsRes
 device_stays device (Does step) fits is = record {
   names = subst (λ shapes. AllByRecursion IsNarrow (kept_names shapes)) (sym (step_alike device step).shapes) is.names;
   ledger = step_stays device step fits is.ledger;
+  queue = step_queue device step is.queue;
+  given = step_given device step is.given;
 }
 device_stays device (Restarts start) fits is = record {
   names = subst (λ shapes. AllByRecursion IsNarrow (kept_names shapes))
-      (sym (shapes_back (beginning (configured start)) (saved_device device.router.objects device.ledger))) fits.names;
+      (sym (shapes_back (beginning (configured start))
+      (saved_device device.router.objects device.ledger device.router.queue))) fits.names;
   ledger = after_is_ledger start device.ledger (restarted start device).ledger fits is.ledger
       (ledger_after start device is fits);
+  queue = after_is_queue start device.router.queue (restarted start device).router.queue fits.places is.queue
+      (queue_or_new start device is fits);
+  given = given_after start
+      (put_back_in start (saved_device device.router.objects device.ledger device.router.queue)) (queue_in start device);
 }
+
+none_pending : (ledger : Option LedgerStart) (queue : Option QueueState)
+    → has_given_all (new_ledger ledger) queue ≡ true
+none_pending None queue = refl
+none_pending (Some l) queue = refl
 
 pub first_device : (start : AdapterStart) → IsConfiguration start
     → IsRestartable (started start []).state.shared.objects
 first_device start configuration = record {
   names = configuration.names;
   ledger = new_is_ledger start.ledger configuration.life configuration.few;
+  queue = new_is_queue start.queue configuration.places;
+  given = none_pending start.ledger (new_queue start.queue);
 }

@@ -5,13 +5,13 @@ use Rattle.std.proofs.lemmas.Bool.Decides.{nat_tests}
 use Rattle.enip_keep.specs.declared.entry.Entry.{Entry}
 use Rattle.enip_keep.specs.Kept.{Kept, pair_of, pairs_of}
 use Rattle.cip_ledger.specs.Ledger.{SlotState, LedgerState}
+use Rattle.cip_owner.specs.Queue.{QueueState}
 use Rattle.cip_objects.specs.Contents.{Contents}
 use Rattle.device_state.specs.Saved.{Entry as StateEntry, entry_in, entry_of, saved, state_of, value_entries}
 use Rattle.device_state.proofs.EntryLists.{in_ledger, slot_entry, slot_entry_at}
 use Rattle.kept_server.specs.Changes.{is_small, are_small}
-use Rattle.kept_adapter.specs.Keys.{ledger_key}
-use Rattle.kept_adapter.specs.Saved.{pair_of as pair_of_entry, bytes_of_slot, ledger_bytes, first_entries}
-use Rattle.kept_adapter.specs.Saved.{saved_objects, saved_ledger, saved_device}
+use Rattle.kept_adapter.specs.Saved.{pair_of as pair_of_entry, bytes_of_slot, ledger_bytes, first_of}
+use Rattle.kept_adapter.specs.Saved.{saved_objects, saved_ledger, saved_queue, saved_device}
 
 -- the first entries, once one behind them is written
 set_front : (xs : List Entry) (i : ℕ) (e : Entry) → i < length xs
@@ -128,17 +128,18 @@ ledger_bytes_at m l (suc i) r bytes h is =
     ∙ slot_entry_at l (suc i) (omega arith)
     ∙ ap (λ j. option_map (slot_entry (suc i)) (slice_get l.taken j)) k)
 
-pub ledger_more : (l : LedgerState) (old new front : Kept) (count next number after key : ℕ) (bytes : List ℕ)
-    → next ≡ suc count → after ≡ suc number
-    → take (suc count) new ≡ take count old ++ (key, bytes) ∷ [] → take count old ≡ front ++ first_entries l number
-    → key ≡ ledger_key number → bytes ≡ ledger_bytes l number
-    → take next new ≡ front ++ first_entries l after
-ledger_more l old new front count next number after key bytes n m set same is content =
+-- a numbered entry behind the others
+pub numbered_more : (key_of : ℕ → ℕ) (content_of : ℕ → List ℕ) (old new front : Kept) (count next number after key : ℕ)
+    (bytes : List ℕ) → next ≡ suc count → after ≡ suc number
+    → take (suc count) new ≡ take count old ++ (key, bytes) ∷ []
+    → take count old ≡ front ++ first_of key_of content_of number → key ≡ key_of number → bytes ≡ content_of number
+    → take next new ≡ front ++ first_of key_of content_of after
+numbered_more key_of content_of old new front count next number after key bytes n m set same is content =
     ap (λ k. take k new) n ∙ set ∙ ap (λ ps. ps ++ (key, bytes) ∷ []) same
-    ∙ append_assoc front (first_entries l number) ((key, bytes) ∷ [])
-    ∙ ap (λ k. front ++ (first_entries l number ++ (k, bytes) ∷ [])) is
-    ∙ ap (λ b. front ++ (first_entries l number ++ (ledger_key number, b) ∷ [])) content
-    ∙ ap (λ k. front ++ first_entries l k) (sym m)
+    ∙ append_assoc front (first_of key_of content_of number) ((key, bytes) ∷ [])
+    ∙ ap (λ k. front ++ (first_of key_of content_of number ++ (k, bytes) ∷ [])) is
+    ∙ ap (λ b. front ++ (first_of key_of content_of number ++ (key_of number, b) ∷ [])) content
+    ∙ ap (λ k. front ++ first_of key_of content_of k) (sym m)
 
 -- the first entries alone
 pub take_pairs : (xs : List Entry) (n : ℕ) → pairs_of (take n xs) ≡ take n (pairs_of xs)
@@ -147,9 +148,11 @@ take_pairs [] (suc n) = refl
 take_pairs (x ∷ xs) zero = refl
 take_pairs (x ∷ xs) (suc n) = ap (λ ps. pair_of x ∷ ps) (take_pairs xs n)
 
--- the objects, and then the ledger
-pub saved_both : {m n : Contents} {l k : Option LedgerState} {front all : Kept} → m ≡ n → l ≡ k → front ≡ saved_objects m
-    → all ≡ front ++ saved_ledger l → all ≡ saved_device n k
-saved_both {m} {n} {l} {k} {front} {all} objects ledger first e =
-    e ∙ ap (λ ps. ps ++ saved_ledger l) first ∙ ap (λ x. saved_objects x ++ saved_ledger l) objects
-    ∙ ap (λ x. saved_objects n ++ saved_ledger x) ledger
+-- the objects, then the ledger, then the queue
+pub saved_all : {m n : Contents} {l k : Option LedgerState} {q r : Option QueueState} {front behind all : Kept} → m ≡ n
+    → l ≡ k → q ≡ r → front ≡ saved_objects m → behind ≡ front ++ saved_ledger l → all ≡ behind ++ saved_queue q
+    → all ≡ saved_device n k r
+saved_all {m} {n} {l} {k} {q} {r} {front} {behind} {all} objects ledger queue first second third =
+    third ∙ ap (λ ps. ps ++ saved_queue q) (second ∙ ap (λ ps. ps ++ saved_ledger l) first)
+    ∙ append_assoc (saved_objects m) (saved_ledger l) (saved_queue q)
+    ∙ ap (λ x. saved_device x l q) objects ∙ ap (λ x. saved_device n x q) ledger ∙ ap (λ x. saved_device n k x) queue

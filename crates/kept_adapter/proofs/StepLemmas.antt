@@ -1,5 +1,5 @@
 -- The device of an adapter over restarts, and the adapter of a server that keeps its state.
-use Rattle.std.proofs.Common.{◌≡◌, ℕ, ◌<◌, ◌≤◌, ◌==◌, ◌&&◌, nat_lt, not, Bool, true, false, if◌then◌else◌, Option, Some}
+use Rattle.std.proofs.Common.{◌≡◌, ℕ, ◌<◌, ◌≤◌, ◌==◌, ◌&&◌, nat_lt, Bool, true, false, if◌then◌else◌, Option, Some}
 use Rattle.std.proofs.Common.{None, List, [], ◌∷◌, ◌++◌, drop, map, refl, ap, sym, ◌∙◌, subst, arith, ◌⊎◌, inl, inr}
 use Rattle.std.specs.Prelude.{is_some, Result, Ok, Err, OnOk}
 use Rattle.std.specs.List.{AllByRecursion}
@@ -10,6 +10,8 @@ use Rattle.cip_ledger.specs.declared.request.TheConstants.{LEDGER}
 use Rattle.cip_ledger.specs.Device.{Device}
 use Rattle.cip_ledger.specs.Ledger.{LedgerState}
 use Rattle.cip_objects.specs.Contents.{Contents}
+use Rattle.cip_owner.specs.Queue.{QueueState}
+use Rattle.device_state.specs.QueueEntries.{queue_put}
 use Rattle.device_state.specs.Keys.{name_in}
 use Rattle.device_state.specs.Restored.{Done, to_ledger, by_name}
 use Rattle.device_state.specs.Saved.{State, state_of}
@@ -28,7 +30,8 @@ use Rattle.kept_server.specs.Rounds.{DeviceContents, RoundRequests, after_round,
 use Rattle.kept_adapter.specs.declared.adapter_start.AdapterStart.{AdapterStart}
 use Rattle.kept_adapter.specs.declared.adapter_start.LedgerStart.{LedgerStart}
 use Rattle.kept_adapter.specs.declared.progress.Progress.{Progress}
-use Rattle.kept_adapter.specs.Keys.{device_key}
+use Rattle.kept_adapter.specs.declared.queue_progress.QueueProgress.{QueueProgress}
+use Rattle.kept_adapter.specs.Keys.{device_key, is_queue_key, queue_number}
 use Rattle.kept_adapter.specs.Restarts.{LifeStep, Does, after_life_steps}
 use Rattle.kept_adapter.specs.Restarts.{AdapterStep, adapter_after, steps_over_restarts, contents_after, adapter_step}
 use Rattle.kept_adapter.specs.Restarts.{IsServing, HasTables, KeepsTables, RestartsTables, brings_input, MayBeLeft}
@@ -36,7 +39,9 @@ use Rattle.kept_adapter.specs.Restarts.{IsKeptOfAdapter, AreValueNames, started_
 use Rattle.kept_adapter.specs.SameKeys.{device_keys, keys_stay, steps_alike}
 use Rattle.kept_adapter.specs.Saved.{saved_adapter, adapter_keys}
 use Rattle.kept_adapter.specs.Started.{is_free_slot, by_device_key, beginning, put_back, put_all_back}
-use Rattle.kept_adapter.specs.Started.{new_ledger, configured, put_back_in, trusted_ledger, started, waiting_keys}
+use Rattle.kept_adapter.specs.Started.{new_ledger, new_queue, configured, put_back_in, queue_back_in, is_trusted}
+use Rattle.kept_adapter.specs.Started.{trusted_ledger, trusted_queue, empty_progress, queue_progressed, entry_to_queue}
+use Rattle.kept_adapter.specs.Started.{put_queue_back, put_queue_all_back, started, waiting_keys}
 use Rattle.kept_adapter.proofs.NothingWaits.{nothing_waits}
 use Rattle.kept_adapter.proofs.PutBack.{shapes_back}
 use Rattle.kept_adapter.proofs.ValuesStay.{calls_values, values_back}
@@ -187,34 +192,77 @@ some_new : (ledger : Option LedgerStart) → is_some (new_ledger ledger) ≡ is_
 some_new None = refl
 some_new (Some l) = refl
 
-some_trusted : (start : AdapterStart) (p : Progress) → is_some p.ledger ≡ is_some start.ledger
-    → is_some (trusted_ledger start p) ≡ is_some start.ledger
-some_trusted start p own = by (p.has_life && (not p.has_lost && not start.begins_life))
+some_trusted : (start : AdapterStart) (p : Progress) (q : QueueProgress) → is_some p.ledger ≡ is_some start.ledger
+    → is_some (trusted_ledger start p q) ≡ is_some start.ledger
+some_trusted start p q own = by (is_trusted start p q)
   where
     by : (t : Bool) → is_some (if t then p.ledger else new_ledger start.ledger) ≡ is_some start.ledger
     by true = own
     by false = some_new start.ledger
+
+-- ---- whether there is a queue
+
+some_put : (p : QueueProgress) (queue : QueueState) (after : Option QueueState) → p.queue ≡ Some queue
+    → is_some (queue_progressed p after).queue ≡ is_some p.queue
+some_put p queue None own = refl
+some_put p queue (Some after) own = sym (ap is_some own)
+
+some_entry : (p : QueueProgress) (number : ℕ) (content : List ℕ) (queue : Option QueueState) → p.queue ≡ queue
+    → is_some (entry_to_queue p number content queue).queue ≡ is_some p.queue
+some_entry p number content None own = refl
+some_entry p number content (Some queue) own = some_put p queue (queue_put queue number content) own
+
+some_queue_back : (p : QueueProgress) (entries : Kept) → is_some (put_queue_all_back p entries).queue ≡ is_some p.queue
+some_queue_back p [] = refl
+some_queue_back p (entry ∷ entries) = some_queue_back (put_queue_back p entry) entries ∙ by (is_queue_key entry.0)
+  where
+    by : (t : Bool) → is_some (if t then entry_to_queue p (queue_number entry.0) entry.1 p.queue else p).queue
+        ≡ is_some p.queue
+    by true = some_entry p (queue_number entry.0) entry.1 p.queue refl
+    by false = refl
+
+some_new_queue : (places : Option ℕ) → is_some (new_queue places) ≡ is_some places
+some_new_queue None = refl
+some_new_queue (Some n) = refl
+
+some_trusted_queue : (start : AdapterStart) (q : QueueProgress) → is_some q.queue ≡ is_some start.queue
+    → is_some (trusted_queue start q) ≡ is_some start.queue
+some_trusted_queue start q own = by q.has_lost
+  where
+    by : (t : Bool) → is_some (if t then new_queue start.queue else q.queue) ≡ is_some start.queue
+    by true = some_new_queue start.queue
+    by false = own
 
 -- ---- the keys after a start
 
 abbrev SameTables : Device → Device → Type 0
 SameTables device other =
     (other.router.objects.shapes ≡ device.router.objects.shapes) × (is_some other.ledger ≡ is_some device.ledger)
+    × (is_some other.router.queue ≡ is_some device.router.queue)
 
 started_tables : (device : Device) (start : AdapterStart) (found : Kept) → HasTables device start
     → SameTables device (started start found).state.shared.objects
 started_tables device start found has = (
   shapes_back (beginning (configured start)) found ∙ has.shapes,
-  some_trusted start (put_back_in start found) (some_back (beginning (configured start)) found ∙ some_new start.ledger)
-      ∙ has.ledger,
+  some_trusted start (put_back_in start found) (queue_back_in start found)
+      (some_back (beginning (configured start)) found ∙ some_new start.ledger) ∙ has.ledger,
+  some_trusted_queue start (queue_back_in start found)
+      (some_queue_back (empty_progress (new_queue start.queue)) found ∙ some_new_queue start.queue) ∙ has.queue,
 )
+
+both_tables : (a b c : Device) → SameTables a b → SameTables b c → SameTables a c
+both_tables a b c first second = (second.0 ∙ first.0, second.1 ∙ first.1, second.2 ∙ first.2)
+
+tables_back : (a b : Device) → SameTables a b → SameTables b a
+tables_back a b same = (sym same.0, sym same.1, sym same.2)
 
 same_keys : (a b : AdapterState) → SameTables a.state.shared.objects b.state.shared.objects
     → adapter_keys b ≡ adapter_keys a
 same_keys a b same =
     let old = a.state.shared.objects in
     let new = b.state.shared.objects in
-    device_keys old.router.objects new.router.objects old.ledger new.ledger same.0 same.1
+    device_keys old.router.objects new.router.objects old.ledger new.ledger old.router.queue new.router.queue same.0
+    same.1 same.2
 
 -- ---- the adapter of a server
 
@@ -230,6 +278,7 @@ calls_alike a calls =
     let alike = steps_alike old (steps_of_calls a calls) in (
       ap (λ (d : Device). d.router.objects.shapes) (calls-end a calls) ∙ alike.shapes,
       ap (λ (d : Device). is_some d.ledger) (calls-end a calls) ∙ alike.ledger,
+      ap (λ (d : Device). is_some d.router.queue) (calls-end a calls) ∙ alike.queue,
     )
 
 after_a_round : (device : Device) (c : DeviceContents) (calls : List Call) → IsOf device c
@@ -247,7 +296,8 @@ after_a_round device c calls of =
         names = subst AreValueNames (sym alike.0) of.is.names;
         values = calls_values c.adapter calls of.is.values;
       };
-      same = (alike.0 ∙ of.same.0, alike.1 ∙ of.same.1);
+      same = both_tables device c.adapter.state.shared.objects (after_calls c.adapter calls).state.shared.objects of.same
+          alike;
     }
   where
     same_found : (found : Kept) (old new : List ℕ) → old ≡ new → (found ≡ []) ⊎ (keys_of found ≡ old)
@@ -260,8 +310,10 @@ after_a_start : (device : Device) (c : DeviceContents) (start : AdapterStart) �
 after_a_start device c start has of =
     let new = started start (kept_of c) in
     let tables = started_tables device start (kept_of c) has in
+    let own = c.adapter.state.shared.objects in
     let shapes = tables.0 ∙ sym of.same.0 in
-    let keys = same_keys c.adapter new (shapes, tables.1 ∙ sym of.same.1) in
+    let keys = same_keys c.adapter new
+    (both_tables own device new.state.shared.objects (tables_back device own of.same) tables) in
     record {
       is = record {
         saved = refl;
@@ -291,7 +343,7 @@ pub adapter_end : {W : Type 0} (c : DeviceContents) (steps : List (Step (RoundRe
     → IsServing c → AllByRecursion (KeepsTables c.adapter.state.shared.objects) steps
     → (contents_after steps c).adapter ≡ adapter_after (map adapter_step steps) c.adapter
 adapter_end c steps is keep =
-    ends_by c.adapter.state.shared.objects c steps (record { is = is; same = (refl, refl) }) keep
+    ends_by c.adapter.state.shared.objects c steps (record { is = is; same = (refl, refl, refl) }) keep
 
 -- ---- what such a server keeps
 
@@ -309,7 +361,7 @@ pub kept_end : {W : Type 0} (c : DeviceContents) (steps : List (Step (RoundReque
     → kept_of (contents_after steps c) ≡ saved_adapter (adapter_after (map adapter_step steps) c.adapter)
 kept_end c steps is keep =
     kept_is_saved (contents_after steps c)
-    (served_by c.adapter.state.shared.objects c steps (record { is = is; same = (refl, refl) }) keep)
+    (served_by c.adapter.state.shared.objects c steps (record { is = is; same = (refl, refl, refl) }) keep)
     ∙ ap saved_adapter (adapter_end c steps is keep)
 
 -- ---- the steps of events

@@ -24,12 +24,14 @@ use Rattle.kept_adapter.specs.declared.adapter_start.AdapterStart.{AdapterStart}
 use Rattle.kept_adapter.specs.declared.progress.Progress.{Progress}
 use Rattle.kept_adapter.specs.Keys.{ledger_key, device_key}
 use Rattle.kept_adapter.specs.Restarts.{restarted, HasObjects}
+use Rattle.cip_owner.specs.Queue.{QueueState}
 use Rattle.kept_adapter.specs.Saved.{pair_of, saved_objects, saved_ledger, saved_device, ledger_bytes, first_entries}
 use Rattle.kept_adapter.specs.Saved.{ENTRIES}
 use Rattle.kept_adapter.specs.Started.{is_free_slot, by_device_key, after_entry, beginning, put_back, put_all_back}
 use Rattle.kept_adapter.specs.Started.{configured, put_back_in}
 use Rattle.kept_adapter.proofs.LedgerBack.{ledger_goes}
 use Rattle.kept_adapter.proofs.PutBack.{put_two, not_of_ledger}
+use Rattle.kept_adapter.proofs.QueueLeaves.{all_entries}
 
 -- ---- the entries of the ledger leave the objects
 
@@ -123,15 +125,15 @@ values_back p m (name ∷ names) same are =
 identity_leaves : (p : Progress) (content : List ℕ) → (put_back p (key_of IDENTITY 1 0, content)).objects ≡ p.objects
 identity_leaves p content = refl
 
-objects_back : (start : AdapterStart) (m : Contents) (l : Option LedgerState)
+objects_back : (start : AdapterStart) (m : Contents) (l : Option LedgerState) (queue : Option QueueState)
     → (contents_of_config start.objects).shapes ≡ m.shapes
     → AllByRecursion (IsKept m) (kept_names m.shapes)
-    → (put_back_in start (saved_device m l)).objects
+    → (put_back_in start (saved_device m l queue)).objects
     ≡ put_all m (contents_of_config start.objects) (kept_names m.shapes)
-objects_back start m l same are =
+objects_back start m l queue same are =
     let p = beginning (configured start) in
     let q = put_back p (key_of IDENTITY 1 0, identity_bytes m) in
-    ap (λ (x : Progress). x.objects) (put_two p (saved_objects m) (saved_ledger l))
+    ap (λ (x : Progress). x.objects) (all_entries p m l queue)
     ∙ ledger_leaves (put_all_back p (saved_objects m)) l
     ∙ values_back q m (kept_names m.shapes) same are
 
@@ -158,7 +160,7 @@ pub values_go_on : (start : AdapterStart) (device : Device) → HasObjects devic
     → saved_objects (restarted start device).router.objects ≡ saved_objects device.router.objects
 values_go_on start device has are =
     let m = device.router.objects in
-    ap saved_objects (objects_back start m device.ledger has.shapes are)
+    ap saved_objects (objects_back start m device.ledger device.router.queue has.shapes are)
     ∙ saved_again m (contents_of_config start.objects) has.shapes has.identity are
 
 differ : (name : AttributeName) (c i a : ℕ) → name ≢ name_of c i a → (t : Bool)
@@ -185,5 +187,5 @@ pub others_begin_again : (start : AdapterStart) (device : Device) (c i a : ℕ) 
     → value_at (restarted start device).router.objects c i a ≡ value_at (contents_of_config start.objects) c i a
 others_begin_again start device c i a has are others =
     let m = device.router.objects in
-    ap (λ x. value_at x c i a) (objects_back start m device.ledger has.shapes are)
+    ap (λ x. value_at x c i a) (objects_back start m device.ledger device.router.queue has.shapes are)
     ∙ others_as_configured m (contents_of_config start.objects) (kept_names m.shapes) c i a others

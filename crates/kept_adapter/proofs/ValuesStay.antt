@@ -50,13 +50,16 @@ use Rattle.cip_objects.proofs.Effects.{after_check, demanded}
 use Rattle.cip_objects.proofs.Settable.{exact_size}
 use Rattle.cip_objects.proofs.Spans.{length-with_bytes_at}
 use Rattle.cip_ledger.specs.declared.request.TheConstants.{LEDGER}
-use Rattle.cip_ledger.specs.Device.{Device}
+use Rattle.cip_ledger.specs.Device.{Device, owned_standing}
 use Rattle.cip_ledger.specs.Ledger.{LedgerState}
 use Rattle.cip_ledger.specs.Requests.{is_barred}
-use Rattle.cip_ledger.specs.Services.{Replies, Executes, Frees}
+use Rattle.cip_ledger.specs.Services.{Replies, Executes, Queues, Frees}
 use Rattle.cip_ledger.specs.Turn.{Fate, Passed, Served, fate, turn_by}
-use Rattle.cip_owner.specs.Owned.{OwnedState, exec_owned, by_owner, given, refused_with, answered, is_fit}
-use Rattle.cip_owner.specs.Owned.{after_reply, stored_at, answer_with, NOT_PREPARED}
+use Rattle.cip_application.specs.declared.config.ServiceKind.{ServiceKind}
+use Rattle.cip_application.specs.declared.config.ServiceKind.TheVariants as kinds
+use Rattle.cip_owner.specs.Owned.{OwnedState, exec_owned, by_owner, given, refused_with, answered, is_fit, of_kind, queued}
+use Rattle.cip_owner.specs.Owned.{after_reply, stored_at, answer_with, NOT_PREPARED, RESOURCE_UNAVAILABLE}
+use Rattle.cip_owner.specs.Queue.{QueueState, takes, pushed}
 use Rattle.cip_owner.specs.Replies.{Reply}
 use Rattle.device_state.specs.Keys.{name_in}
 use Rattle.device_state.specs.Restored.{Done, to_ledger, if_value, value_done, by_name}
@@ -65,6 +68,7 @@ use Rattle.enip_adapter.specs.Calls.{AdapterState, Call}
 use Rattle.enip_adapter.specs.DeviceRuns.{DeviceStep, Requested, WrittenBy, device_after, device_after_step}
 use Rattle.enip_adapter.specs.DeviceRuns.{steps_of_calls, objects_after, objects_answer}
 use Rattle.enip_adapter.specs.OwnWrites.{OwnWrite, WritesData, WritesAttribute, SetsStatus, SetsState, Prepares, Settles}
+use Rattle.enip_adapter.specs.OwnWrites.{Finishes}
 use Rattle.enip_adapter.specs.OwnWrites.{attribute_write, device_written}
 use Rattle.enip_adapter.specs.Runs.{after_calls}
 use Rattle.enip_adapter.proofs.DeviceLemmas.{calls-end}
@@ -518,7 +522,7 @@ given_values : (w : OwnedState) (service : ℕ) (asked : Asked) (reply : Option 
 given_values w service asked None have = have
 given_values w service asked (Some reply) have =
     elim (is_fit asked reply) as (λ t. HasValues (if t then
-    answered (record { objects = after_reply w.objects asked reply.status; prepared = None })
+    answered (record w { objects = after_reply w.objects asked reply.status; prepared = None })
     (answer_with service reply.status reply.content)
     else refused_with (record w { prepared = None }) service NOT_PREPARED).after.objects) [
       | true ↦ reply_values w.objects asked reply.status have
@@ -529,13 +533,27 @@ owner_values : (w : OwnedState) (max_size : ℕ) (text : List ℕ) (own : Option
     → HasValues w.objects → HasValues (by_owner w max_size text own).after.objects
 owner_values w max_size text None have = executed_values w.objects max_size text have
 owner_values w max_size text (Some (Err refusal)) have = have
-owner_values w max_size text (Some (Ok asked)) have =
-    by_size (nat_lt max_size (4 + asked.reply_limit)) (slice_index text 0)
+owner_values w max_size text (Some (Ok asked)) have = by_kind asked.kind (slice_index text 0)
   where
     by_size : (t : Bool) (service : ℕ) → HasValues (if t then refused_with w service REPLY_TOO_LARGE
         else given w service asked w.prepared).after.objects
     by_size true service = have
     by_size false service = given_values w service asked w.prepared have
+
+    by_queue : (queue : Option QueueState) (service : ℕ) → HasValues (queued w service asked queue).after.objects
+    by_queue None service = have
+    by_queue (Some q) service =
+        elim (takes q asked) as (λ t. HasValues (if t then
+        answered (record w { queue = Some (pushed q asked) }) (answer_with service 0 (le 4 q.next))
+        else refused_with w service RESOURCE_UNAVAILABLE).after.objects) [
+          | true ↦ have
+          | false ↦ have
+        ]
+
+    by_kind : (kind : ServiceKind) (service : ℕ) → HasValues (of_kind kind w max_size service asked).after.objects
+    by_kind kinds.Asked service = by_size (nat_lt max_size (4 + asked.reply_limit)) service
+    by_kind kinds.Queued service = by_queue w.queue service
+    by_kind kinds.Result service = have
 
 owned_values : (w : OwnedState) (max_size : ℕ) (text : List ℕ) → HasValues w.objects
     → HasValues (exec_owned w max_size text).after.objects
@@ -549,6 +567,12 @@ turn_values : (f : Fate) (device : Device) (max_size : ℕ) (text : List ℕ) �
 turn_values Passed device max_size text have = owned_values device.router max_size text have
 turn_values (Served service (Replies reply)) device max_size text have = have
 turn_values (Served service (Executes command)) device max_size text have =
+    elim (is_barred command.request) as (λ t. HasValues (if t then device.router
+    else objects_after device.router 480 command.request).objects) [
+      | true ↦ have
+      | false ↦ owned_values device.router 480 command.request have
+    ]
+turn_values (Served service (Queues command ticket)) device max_size text have =
     elim (is_barred command.request) as (λ t. HasValues (if t then device.router
     else objects_after device.router 480 command.request).objects) [
       | true ↦ have
@@ -714,13 +738,14 @@ written_values (SetsStatus status) device have = identity_values device.router.o
 written_values (SetsState state) device have = identity_values device.router.objects 8 (state ∷ []) have
 written_values (Prepares reply) device have = have
 written_values (Settles originator number reply) device have = have
+written_values (Finishes ticket reply) device have = have
 
 -- ---- all steps
 
 step_values : (device : Device) (step : DeviceStep) → HasValues device.router.objects
     → HasValues (device_after_step device step).router.objects
 step_values device (Requested request) have =
-    turn_values (fate device.ledger request.0 request.1) device request.0 request.1 have
+    turn_values (fate owned_standing device.ledger device.router request.0 request.1) device request.0 request.1 have
 step_values device (WrittenBy write) have = written_values write device have
 
 steps_values : (device : Device) (steps : List DeviceStep) → HasValues device.router.objects

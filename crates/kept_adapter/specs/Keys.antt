@@ -1,5 +1,6 @@
--- The keys under which entries are kept: those of device_state, but the entries of the ledger come last.
-use Rattle.std.specs.Prelude.{ℕ, ◌+◌, ◌-◌, ◌/◌, ◌^◌, ◌==◌, ◌&&◌, ◌||◌, not, nat_le, Bool, if◌then◌else◌, Option, Some, None}
+-- The keys under which entries are kept: those of device_state, but the entries of the ledger come behind them, and those of
+-- the queue last.
+use Rattle.std.specs.Prelude.{ℕ, ◌+◌, ◌-◌, ◌/◌, ◌%◌, ◌^◌, ◌==◌, ◌&&◌, ◌||◌, not, nat_le, Bool, if◌then◌else◌, Option, Some, None}
 use Rattle.cip_bytes.specs.declared.protocol.TheConstants.{IDENTITY}
 use Rattle.cip_ledger.specs.declared.request.TheConstants.{LEDGER}
 use Rattle.device_state.specs.Keys.{key_of}
@@ -10,6 +11,17 @@ ledger_key number = 2 ^ 48 + key_of LEDGER number 0
 
 abbrev pub is_ledger_key : ℕ → Bool
 is_ledger_key key = key / 2 ^ 32 == 2 ^ 16 + LEDGER
+
+-- The key of an entry of the queue, by its number.
+abbrev pub queue_key : ℕ → ℕ
+queue_key number = 2 ^ 49 + number
+
+abbrev pub is_queue_key : ℕ → Bool
+is_queue_key key = key / 2 ^ 16 == 2 ^ 33
+
+-- The number of an entry of the queue.
+abbrev pub queue_number : ℕ → ℕ
+queue_number key = key % 2 ^ 16
 
 -- The key is that of a value: it is none of the ledger, and not the one that says which device it is.
 abbrev pub is_value_key : ℕ → Bool

@@ -1,12 +1,16 @@
 -- What holds of a device over restarts.
-use Rattle.std.specs.Prelude.{option_map, ◌≡◌, ◌≢◌, ℕ, List, [], ◌∷◌, map, Bool}
+use Rattle.std.specs.Prelude.{option_map, None, ◌≡◌, ◌≢◌, ◌⊎◌, ℕ, List, [], ◌∷◌, map, Bool}
 use Rattle.std.specs.List.{AllByRecursion}
 use Rattle.cip_ledger.specs.Device.{Device}
 use Rattle.cip_ledger.specs.Laws.{HasNoDoubles, Rises, IsNotFreed, Succeeds}
+use Rattle.cip_ledger.specs.declared.service.TheConstants.{DO_ONCE}
+use Rattle.cip_ledger.specs.Device.{owned_standing}
 use Rattle.cip_ledger.specs.Runs.{Request, answer_to}
+use Rattle.cip_ledger.specs.Services.{PENDING, reply_to, success}
 use Rattle.cip_objects.specs.Configuration.{contents_of_config}
 use Rattle.cip_objects.specs.Contents.{value_at}
 use Rattle.cip_objects.specs.Kept.{name_of, kept_names}
+use Rattle.cip_owner.specs.QueueRuns.{after_steps}
 use Rattle.device_state.specs.Laws.{IsKept}
 use Rattle.enip_adapter.specs.Adapter.{shared_adapter}
 use Rattle.enip_adapter.specs.Calls.{AdapterState, Call}
@@ -24,9 +28,8 @@ use Rattle.kept_adapter.specs.Restarts.{AdapterStep, adapter_after, steps_over_r
 use Rattle.kept_adapter.specs.Restarts.{RestartsTables, IsKeptOfAdapter, MayBeLeft, HoldsBytes, IsAdapterStep}
 use Rattle.kept_adapter.specs.Restarts.{RestartsGoOn}
 use Rattle.kept_adapter.specs.Restarts.{HasValues, IsServing, KeepsTables, HasObjects, IsRestartable, IsConfiguration, IsStep}
-use Rattle.kept_adapter.specs.Restarts.{GoesOn}
-use Rattle.kept_adapter.specs.Restarts.{IsGoingOn}
-use Rattle.kept_adapter.specs.Restarts.{slots_of, IsLedgerAfter, SettlesNothingOf, IsOnceInEachLife, BeginNewLives}
+use Rattle.kept_adapter.specs.Restarts.{sizes_of, configured_sizes, GoesOn, IsGoingOn, queue_steps_over_restarts}
+use Rattle.kept_adapter.specs.Restarts.{IsLedgerAfter, IsQueueAfter, SettlesNothingOf, IsOnceInEachLife, BeginNewLives}
 use Rattle.kept_adapter.specs.Saved.{saved_adapter, saved_objects}
 use Rattle.kept_adapter.specs.Started.{started}
 
@@ -38,17 +41,28 @@ new_adapter_law = (start : AdapterStart) (a : AdapterState) →
     started start (saved_adapter a)
     ≡ shared_adapter (restarted start a.state.shared.objects) start.listen start.limits start.shares
 
--- With as many slots, and if no new life is wanted, the ledger goes on: it is in the same life, and each slot has its
--- originator, number and reply, or is in doubt.
+-- With as many slots and places, and if no new life is wanted, the ledger goes on: it is in the same life, and each slot
+-- has its originator, number and reply, or its ticket, or is in doubt.
 abbrev pub ledger_goes_on_law : Type 0
 ledger_goes_on_law =
-    (start : AdapterStart) (device : Device) → IsRestartable device → GoesOn (slots_of device.ledger) start →
+    (start : AdapterStart) (device : Device) → IsRestartable device → GoesOn (sizes_of device) start →
     (restarted start device).ledger ≡ device.ledger
+
+-- And the queue goes on: it has the same next ticket, the same commands wait, and it has the same results.
+abbrev pub queue_goes_on_law : Type 0
+queue_goes_on_law =
+    (start : AdapterStart) (device : Device) → IsRestartable device → GoesOn (sizes_of device) start →
+    (restarted start device).router.queue ≡ device.router.queue
 
 -- With any configuration the ledger goes on, with as many slots as are configured, or it is new.
 abbrev pub ledger_or_new_law : Type 0
 ledger_or_new_law = (start : AdapterStart) (device : Device) → IsRestartable device → IsConfiguration start →
     IsLedgerAfter start device.ledger (restarted start device).ledger
+
+-- So does the queue, with as many places as are configured.
+abbrev pub queue_or_new_law : Type 0
+queue_or_new_law = (start : AdapterStart) (device : Device) → IsRestartable device → IsConfiguration start →
+    IsQueueAfter start device.router.queue (restarted start device).router.queue
 
 -- Each value that is kept is as it was, if it is one that it can have.
 abbrev pub values_go_on_law : Type 0
@@ -116,22 +130,30 @@ crash_law W =
     IsServing c → AllByRecursion (RestartsTables c.adapter.state.shared.objects) events → MayBeLeft c events went left →
     IsKeptOfAdapter c events went left
 
--- Each restart goes on with the ledger of the device.
+-- Each restart goes on with the ledger and the queue of the device.
 pub record GoOn (device : Device) (steps : List LifeStep) : Type 0 where
   pub is : IsRestartable device
   pub fit : AllByRecursion IsStep steps
-  pub on : AllByRecursion (IsGoingOn (slots_of device.ledger)) steps
+  pub on : AllByRecursion (IsGoingOn (sizes_of device)) steps
+
+-- Over restarts, the queue is that after the commands that were put into it and those that the owner finished, in order.
+-- So what holds of a queue over every list of such steps holds over restarts, too: each command waits until it is
+-- finished, and never again after that, none is lost or made up, and no ticket is given twice.
+abbrev pub queue_over_restarts_law : Type 0
+queue_over_restarts_law = (device : Device) (steps : List LifeStep) → GoOn device steps →
+    (after_life_steps device steps).router.queue
+    ≡ option_map (λ queue. after_steps queue (queue_steps_over_restarts device steps)) device.router.queue
 
 -- No number of an originator is executed twice over all restarts, unless its slot is freed in between.
 abbrev pub once_over_restarts_law : Type 0
 once_over_restarts_law = (device : Device) (steps : List LifeStep) → GoOn device steps →
     HasNoDoubles (journal_over_restarts device steps)
 
--- So it is of an adapter that starts from nothing, over any calls and any restarts with as many slots.
+-- So it is of an adapter that starts from nothing, over any calls and any restarts with as many slots and places.
 abbrev pub adapter_once_law : Type 0
 adapter_once_law = (start : AdapterStart) (steps : List AdapterStep) → IsConfiguration start →
     AllByRecursion IsAdapterStep steps →
-    AllByRecursion (RestartsGoOn (option_map (λ l. l.originators) start.ledger)) steps →
+    AllByRecursion (RestartsGoOn (configured_sizes start)) steps →
     HasNoDoubles
     (journal_over_restarts (started start []).state.shared.objects (steps_over_restarts (started start []) steps))
 
@@ -140,18 +162,36 @@ abbrev pub rising_over_restarts_law : Type 0
 rising_over_restarts_law = (device : Device) (steps : List LifeStep) → GoOn device steps →
     Rises (journal_over_restarts device steps)
 
--- Every two success answers to a number have the same bytes, whatever restarts came between them, if the originator's
--- slot was not freed and none of its commands settled in between.
+-- Every two success answers to a number have the same bytes, whatever restarts came between them, or the first of them
+-- says that the command is pending. The premise is that the originator's slot was not freed and none of its commands
+-- settled in between. So an answer with a reply is the answer for good.
 abbrev pub same_bytes_over_restarts_law : Type 0
 same_bytes_over_restarts_law =
     (device : Device) (first again : Request) (between : List LifeStep) (originator number : ℕ) →
     GoOn device (Does (Requested first) ∷ between) → AllByRecursion (SettlesNothingOf originator) between →
-    Succeeds objects_after objects_answer device first originator number →
-    Succeeds objects_after objects_answer (after_life_steps device (Does (Requested first) ∷ between)) again originator
-    number →
+    Succeeds objects_after objects_answer owned_standing device first originator number →
+    Succeeds objects_after objects_answer owned_standing
+    (after_life_steps device (Does (Requested first) ∷ between)) again originator number →
     IsNotFreed originator (journal_over_restarts (after_life_step device (Does (Requested first))) between) →
-    answer_to objects_after objects_answer (after_life_steps device (Does (Requested first) ∷ between)) again
-    ≡ answer_to objects_after objects_answer device first
+    (answer_to objects_after objects_answer owned_standing
+    (after_life_steps device (Does (Requested first) ∷ between)) again
+    ≡ answer_to objects_after objects_answer owned_standing device first)
+    ⊎ (answer_to objects_after objects_answer owned_standing device first
+    ≡ reply_to DO_ONCE (success (PENDING ∷ [])))
+
+-- A device without a queue never says that a command is pending, so the bytes are the same.
+abbrev pub final_bytes_over_restarts_law : Type 0
+final_bytes_over_restarts_law =
+    (device : Device) (first again : Request) (between : List LifeStep) (originator number : ℕ) →
+    device.router.queue ≡ None → GoOn device (Does (Requested first) ∷ between) →
+    AllByRecursion (SettlesNothingOf originator) between →
+    Succeeds objects_after objects_answer owned_standing device first originator number →
+    Succeeds objects_after objects_answer owned_standing
+    (after_life_steps device (Does (Requested first) ∷ between)) again originator number →
+    IsNotFreed originator (journal_over_restarts (after_life_step device (Does (Requested first))) between) →
+    answer_to objects_after objects_answer owned_standing
+    (after_life_steps device (Does (Requested first) ∷ between)) again
+    ≡ answer_to objects_after objects_answer owned_standing device first
 
 -- Whichever restarts go on and whichever begin a life: no number of an originator is executed twice in one life, unless
 -- its slot is freed in between. The premise is that no life has the number of an earlier one.

@@ -17,6 +17,8 @@ use Rattle.cip_objects.specs.Contents.{Contents, bytes_at}
 use Rattle.cip_objects.specs.Kept.{kept_names, kept_kind}
 use Rattle.cip_objects.specs.Members.{AreWhole}
 use Rattle.cip_objects.specs.Tables.{Shapes, object_at}
+use Rattle.cip_owner.specs.Queue.{QueueState, IsQueue}
+use Rattle.cip_owner.specs.QueueRuns.{QueueStep}
 use Rattle.device_state.specs.Laws.{IsName}
 use Rattle.device_state.specs.Saved.{identity_bytes}
 use Rattle.enip_adapter.specs.Calls.{AdapterState, Call, Held}
@@ -24,6 +26,7 @@ use Rattle.enip_adapter.specs.Calls.Call.{Begins_peer, Feeds, Ends_peer, Ticks, 
 use Rattle.enip_adapter.specs.DeviceRuns.{DeviceStep, Requested, WrittenBy, device_after_step, journal_by_step}
 use Rattle.enip_adapter.specs.DeviceRuns.{steps_of_calls}
 use Rattle.enip_adapter.specs.OwnWrites.{OwnWrite, Settles}
+use Rattle.enip_adapter.specs.QueueLaws.{queue_steps_by_step}
 use Rattle.enip_adapter.specs.Runs.{after_calls}
 use Rattle.enip_keep.specs.declared.lives.Event.{Event}
 use Rattle.enip_keep.specs.declared.lives.Event.TheVariants.{Round, Restart}
@@ -34,7 +37,7 @@ use Rattle.kept_server.specs.declared.round.RoundInput.{RoundInput}
 use Rattle.kept_server.specs.Rounds.{DeviceContents, RoundRequests, after_round, contents_with, kept_of}
 use Rattle.kept_adapter.specs.declared.adapter_start.AdapterStart.{AdapterStart}
 use Rattle.kept_adapter.specs.Saved.{saved_device, saved_adapter, adapter_keys}
-use Rattle.kept_adapter.specs.Started.{started, new_ledger, waiting_keys}
+use Rattle.kept_adapter.specs.Started.{started, new_ledger, new_queue, has_given_all, waiting_keys}
 
 -- ---- runs
 
@@ -45,7 +48,8 @@ pub data LifeStep : Type 0 where
 
 -- The device that starts from what is kept of a device.
 abbrev pub restarted : AdapterStart → Device → Device
-restarted start device = (started start (saved_device device.router.objects device.ledger)).state.shared.objects
+restarted start device =
+    (started start (saved_device device.router.objects device.ledger device.router.queue)).state.shared.objects
 
 abbrev pub after_life_step : Device → LifeStep → Device
 after_life_step device (Does step) = device_after_step device step
@@ -65,6 +69,16 @@ abbrev pub journal_over_restarts : Device → List LifeStep → List LedgerEvent
 journal_over_restarts device [] = []
 journal_over_restarts device (step ∷ steps) =
     journal_by_life_step device step ++ journal_over_restarts (after_life_step device step) steps
+
+abbrev pub queue_steps_by : Device → LifeStep → List QueueStep
+queue_steps_by device (Does step) = queue_steps_by_step device step
+queue_steps_by device (Restarts start) = []
+
+-- The commands that are put into the queue in these steps, and those that the owner finishes. A restart does neither.
+abbrev pub queue_steps_over_restarts : Device → List LifeStep → List QueueStep
+queue_steps_over_restarts device [] = []
+queue_steps_over_restarts device (step ∷ steps) =
+    queue_steps_by device step ++ queue_steps_over_restarts (after_life_step device step) steps
 
 -- ---- runs of the adapter
 
@@ -126,10 +140,11 @@ pub record IsServing (c : DeviceContents) : Type 0 where
   pub names : AreValueNames c.adapter.state.shared.objects.router.objects.shapes
   pub values : HasValues c.adapter.state.shared.objects.router.objects
 
--- The configuration has the objects and a ledger as the device has, and values that these can have.
+-- The configuration has the objects, a ledger and a queue as the device has, and values that these can have.
 pub record HasTables (device : Device) (start : AdapterStart) : Type 0 where
   pub shapes : (contents_of_config start.objects).shapes ≡ device.router.objects.shapes
   pub ledger : is_some start.ledger ≡ is_some device.ledger
+  pub queue : is_some start.queue ≡ is_some device.router.queue
   pub values : HasValues (contents_of_config start.objects)
 
 -- The configuration is of the same device, with the same objects.
@@ -169,14 +184,18 @@ pub record IsNarrow (name : AttributeName) : Type 0 where
   pub instance : name.instance < 2 ^ 16
   pub attribute : name.attribute < 2 ^ 16
 
+-- The queue has given the ticket of each pending command.
 pub record IsRestartable (device : Device) : Type 0 where
   pub names : AllByRecursion IsNarrow (kept_names device.router.objects.shapes)
   pub ledger : IfSome device.ledger IsLedger
+  pub queue : IfSome device.router.queue IsQueue
+  pub given : has_given_all device.ledger device.router.queue ≡ true
 
 pub record IsConfiguration (start : AdapterStart) : Type 0 where
   pub names : AllByRecursion IsNarrow (kept_names (contents_of_config start.objects).shapes)
   pub life : IfSome start.ledger (λ l. l.life < 2 ^ 64)
   pub few : IfSome start.ledger (λ l. l.originators ≤ 64)
+  pub places : IfSome start.queue (λ n. n ≤ 256)
 
 -- A request consists of bytes.
 abbrev pub IsOfBytes : DeviceStep → Type 0
@@ -206,23 +225,37 @@ IsHeldInBytes held = AreBytes held.bytes
 abbrev pub HoldsBytes : AdapterState → Type 0
 HoldsBytes a = AllByRecursion IsHeldInBytes a.held
 
--- ---- restarts that go on with the ledger
+-- ---- restarts that go on with the ledger and the queue
 
 abbrev pub slots_of : Option LedgerState → Option ℕ
 slots_of ledger = option_map (λ l. l.slots) ledger
 
--- The configuration is one of so many slots, if it has a ledger, and wants no new life.
-pub record GoesOn (count : Option ℕ) (start : AdapterStart) : Type 0 where
-  pub slots : option_map (λ l. l.originators) start.ledger ≡ count
+abbrev pub places_of : Option QueueState → Option ℕ
+places_of queue = option_map (λ q. q.limit) queue
+
+-- How many slots the ledger has, and how many commands may wait.
+pub record Sizes : Type 0 where
+  pub slots : Option ℕ
+  pub places : Option ℕ
+
+abbrev pub sizes_of : Device → Sizes
+sizes_of device = record { slots = slots_of device.ledger; places = places_of device.router.queue }
+
+abbrev pub configured_sizes : AdapterStart → Sizes
+configured_sizes start = record { slots = option_map (λ l. l.originators) start.ledger; places = start.queue }
+
+-- The configuration has a ledger of so many slots and a queue of so many places, and wants no new life.
+pub record GoesOn (sizes : Sizes) (start : AdapterStart) : Type 0 where
+  pub same : configured_sizes start ≡ sizes
   pub same_life : start.begins_life ≡ false
 
-abbrev pub IsGoingOn : Option ℕ → LifeStep → Type 0
-IsGoingOn slots (Does step) = ⊤
-IsGoingOn slots (Restarts start) = GoesOn slots start
+abbrev pub IsGoingOn : Sizes → LifeStep → Type 0
+IsGoingOn sizes (Does step) = ⊤
+IsGoingOn sizes (Restarts start) = GoesOn sizes start
 
-abbrev pub RestartsGoOn : Option ℕ → AdapterStep → Type 0
-RestartsGoOn count (Executed calls) = ⊤
-RestartsGoOn count (Restarted start) = GoesOn count start
+abbrev pub RestartsGoOn : Sizes → AdapterStep → Type 0
+RestartsGoOn sizes (Executed calls) = ⊤
+RestartsGoOn sizes (Restarted start) = GoesOn sizes start
 
 -- The ledger after a restart: a new one, or that before, with as many slots as are configured.
 abbrev pub IsLedgerAfter : AdapterStart → Option LedgerState → Option LedgerState → Type 0
@@ -230,6 +263,13 @@ IsLedgerAfter start old new =
     (new ≡ new_ledger start.ledger)
     ⊎ ((l : LedgerState) × (slots : ℕ) × (old ≡ Some l) × (length l.taken ≤ slots) × (slots ≤ 64)
     × (new ≡ Some (record l { slots = slots })))
+
+-- The queue after a restart: a new one, or that before, with as many places as are configured.
+abbrev pub IsQueueAfter : AdapterStart → Option QueueState → Option QueueState → Type 0
+IsQueueAfter start old new =
+    (new ≡ new_queue start.queue)
+    ⊎ ((q : QueueState) × (places : ℕ) × (old ≡ Some q) × (start.queue ≡ Some places)
+    × (length q.waiting ≤ places) × (new ≡ Some (record q { limit = places })))
 
 -- ---- facts on runs
 

@@ -1,5 +1,5 @@
 -- No call of an adapter changes the keys of what is kept of it: they depend on the tables of the objects, and on whether
--- there is a ledger.
+-- there is a ledger and a queue.
 use Rattle.std.specs.Prelude.{◌≡◌, ℕ, zero, suc, ◌+◌, ◌==◌, ◌&&◌, nat_lt, nat_le, if◌then◌else◌, Bool, true, false, is_some, IfSome, refl}
 use Rattle.std.specs.Prelude.{List, [], ◌∷◌, ◌++◌, map, take, drop, length, slice_index, Option, Some, None, option_map, unwrap_or, Result, Ok, Err}
 use Rattle.std.specs.List.{AllByRecursion, list_any}
@@ -8,11 +8,12 @@ use Rattle.std.proofs.Common.{◌⊎◌, inl, inr, sym, ap, subst, ◌∙◌}
 use Rattle.std.proofs.lemmas.List.{map-append}
 use Rattle.cip_application.specs.declared.object.AttributeName.{AttributeName}
 use Rattle.cip_bytes.specs.declared.protocol.TheConstants.{IDENTITY, ASSEMBLY, CONNECTION_MANAGER, COUNTER}
-use Rattle.cip_ledger.specs.Device.{Device}
+use Rattle.cip_ledger.specs.Device.{Device, owned_standing}
 use Rattle.cip_ledger.specs.Doubt.{settled}
 use Rattle.cip_ledger.specs.Ledger.{LedgerState}
 use Rattle.cip_ledger.specs.Requests.{is_barred}
-use Rattle.cip_ledger.specs.Services.{Replies, Executes, Frees}
+use Rattle.cip_ledger.specs.Pending.{completed}
+use Rattle.cip_ledger.specs.Services.{Replies, Executes, Queues, Frees}
 use Rattle.cip_ledger.specs.Turn.{Fate, Passed, Served, fate, turn_by}
 use Rattle.cip_message.specs.declared.path.Path.{Path}
 use Rattle.cip_objects.specs.declared.status.Refusal.{Refusal}
@@ -33,8 +34,13 @@ use Rattle.cip_objects.proofs.Effects.{goes, bound, found_some, read_effect, cha
 use Rattle.cip_objects.proofs.Refuses.{exec_left}
 use Rattle.cip_objects.proofs.Unsettable.{splices}
 use Rattle.cip_application.specs.Values.{from_offset}
-use Rattle.cip_owner.specs.Owned.{OwnedState, exec_owned, by_owner, given, refused_with, answered, is_fit}
-use Rattle.cip_owner.specs.Owned.{after_reply, stored_at, answer_with, NOT_PREPARED}
+use Rattle.cip_application.specs.declared.config.ServiceKind.{ServiceKind}
+use Rattle.cip_application.specs.declared.config.ServiceKind.TheVariants as kinds
+use Rattle.cip_bytes.specs.Numbers.{le}
+use Rattle.cip_owner.specs.Owned.{OwnedState, exec_owned, by_owner, given, refused_with, answered, is_fit, of_kind, queued}
+use Rattle.cip_owner.specs.Owned.{after_reply, stored_at, answer_with, NOT_PREPARED, RESOURCE_UNAVAILABLE}
+use Rattle.cip_owner.specs.Queue.{QueueState, takes, pushed}
+use Rattle.cip_owner.specs.QueueRuns.{after_steps}
 use Rattle.cip_owner.specs.Replies.{Reply}
 use Rattle.device_state.specs.Keys.{key_of}
 use Rattle.device_state.specs.Saved.{value_entry}
@@ -42,12 +48,17 @@ use Rattle.enip_adapter.specs.Calls.{AdapterState, Call}
 use Rattle.enip_adapter.specs.DeviceRuns.{DeviceStep, Requested, WrittenBy, device_after, device_after_step, steps_of_calls}
 use Rattle.enip_adapter.specs.DeviceRuns.{objects_after, objects_answer}
 use Rattle.enip_adapter.specs.OwnWrites.{OwnWrite, WritesData, WritesAttribute, SetsStatus, SetsState, Prepares, Settles}
-use Rattle.enip_adapter.specs.OwnWrites.{attribute_write, device_written}
+use Rattle.enip_adapter.specs.OwnWrites.{Finishes, attribute_write, ledger_written, device_written}
+use Rattle.enip_adapter.specs.QueueLaws.{queue_steps_by_step}
 use Rattle.enip_adapter.specs.Runs.{after_calls}
 use Rattle.enip_adapter.proofs.DeviceLemmas.{calls-end}
+use Rattle.enip_adapter.proofs.QueueLemmas.{step-queue}
+use Rattle.enip_adapter.proofs.SettleLemmas.{IsFinished, Unchanged, Completed, finished-ledger}
 use Rattle.kept_server.specs.Changes.{keys_of}
-use Rattle.kept_adapter.specs.Keys.{ledger_key}
-use Rattle.kept_adapter.specs.Saved.{pair_of, saved_objects, saved_ledger, saved_device, first_entries, ledger_bytes, ENTRIES}
+use Rattle.device_state.specs.QueueEntries.{QUEUE_ENTRIES, queue_bytes}
+use Rattle.kept_adapter.specs.Keys.{ledger_key, queue_key}
+use Rattle.kept_adapter.specs.Saved.{pair_of, saved_objects, saved_ledger, saved_queue, saved_device, first_of}
+use Rattle.kept_adapter.specs.Saved.{ledger_bytes, ENTRIES}
 use Rattle.kept_adapter.specs.Saved.{adapter_keys}
 
 -- ---- the objects keep their tables
@@ -197,7 +208,7 @@ given_shapes : (w : OwnedState) (service : ℕ) (asked : Asked) (reply : Option 
 given_shapes w service asked None = refl
 given_shapes w service asked (Some reply) =
     elim (is_fit asked reply) as (λ t. (if t then
-    answered (record { objects = after_reply w.objects asked reply.status; prepared = None })
+    answered (record w { objects = after_reply w.objects asked reply.status; prepared = None })
     (answer_with service reply.status reply.content)
     else refused_with (record w { prepared = None }) service NOT_PREPARED).after.objects.shapes ≡ w.objects.shapes) [
       | true ↦ reply_shapes w.objects asked reply.status
@@ -208,23 +219,41 @@ owner_shapes : (w : OwnedState) (max_size : ℕ) (text : List ℕ) (own : Option
     → (by_owner w max_size text own).after.objects.shapes ≡ w.objects.shapes
 owner_shapes w max_size text None = executed_shapes w.objects max_size text
 owner_shapes w max_size text (Some (Err refusal)) = refl
-owner_shapes w max_size text (Some (Ok asked)) = by_size (nat_lt max_size (4 + asked.reply_limit)) (slice_index text 0)
+owner_shapes w max_size text (Some (Ok asked)) = by_kind asked.kind (slice_index text 0)
   where
     by_size : (t : Bool) (service : ℕ) → (if t then refused_with w service REPLY_TOO_LARGE
         else given w service asked w.prepared).after.objects.shapes ≡ w.objects.shapes
     by_size true service = refl
     by_size false service = given_shapes w service asked w.prepared
 
+    by_queue : (queue : Option QueueState) (service : ℕ)
+        → (queued w service asked queue).after.objects.shapes ≡ w.objects.shapes
+    by_queue None service = refl
+    by_queue (Some q) service =
+        elim (takes q asked) as (λ t. (if t then
+        answered (record w { queue = Some (pushed q asked) }) (answer_with service 0 (le 4 q.next))
+        else refused_with w service RESOURCE_UNAVAILABLE).after.objects.shapes ≡ w.objects.shapes) [
+          | true ↦ refl
+          | false ↦ refl
+        ]
+
+    by_kind : (kind : ServiceKind) (service : ℕ)
+        → (of_kind kind w max_size service asked).after.objects.shapes ≡ w.objects.shapes
+    by_kind kinds.Asked service = by_size (nat_lt max_size (4 + asked.reply_limit)) service
+    by_kind kinds.Queued service = by_queue w.queue service
+    by_kind kinds.Result service = refl
+
 owned_shapes : (w : OwnedState) (max_size : ℕ) (text : List ℕ)
     → (exec_owned w max_size text).after.objects.shapes ≡ w.objects.shapes
 unfolding exec_owned
 owned_shapes w max_size text = owner_shapes w max_size text (own_request w.objects text)
 
--- ---- the ledger stays
+-- ---- the ledger stays, and the queue
 
 pub record AreAlike (old new : Device) : Type 0 where
   pub shapes : new.router.objects.shapes ≡ old.router.objects.shapes
   pub ledger : is_some new.ledger ≡ is_some old.ledger
+  pub queue : is_some new.router.queue ≡ is_some old.router.queue
 
 mapped : {A : Type 0} (f : A → A) (o : Option A) → is_some (option_map f o) ≡ is_some o
 mapped f None = refl
@@ -236,6 +265,14 @@ turn_alike : (f : Fate) (device : Device) (max_size : ℕ) (text : List ℕ)
 turn_alike Passed device max_size text = (owned_shapes device.router max_size text, refl)
 turn_alike (Served service (Replies reply)) device max_size text = (refl, refl)
 turn_alike (Served service (Executes command)) device max_size text = (
+  elim (is_barred command.request) as (λ t. (if t then device.router
+      else objects_after device.router 480 command.request).objects.shapes ≡ device.router.objects.shapes) [
+        | true ↦ refl
+        | false ↦ owned_shapes device.router 480 command.request
+      ],
+  mapped _ device.ledger,
+)
+turn_alike (Served service (Queues command ticket)) device max_size text = (
   elim (is_barred command.request) as (λ t. (if t then device.router
       else objects_after device.router 480 command.request).objects.shapes ≡ device.router.objects.shapes) [
         | true ↦ refl
@@ -285,31 +322,61 @@ attribute_shapes m class instance attribute offset bytes =
       | false ↦ object_shapes m class instance attribute offset bytes
     ]
 
-written_alike : (write : OwnWrite) (device : Device) → AreAlike device (device_written write device)
-written_alike (WritesData instance offset bytes) device =
-    record { shapes = data_shapes device.router.objects instance offset bytes; ledger = refl }
-written_alike (WritesAttribute class instance attribute offset bytes) device =
-    record { shapes = attribute_shapes device.router.objects class instance attribute offset bytes; ledger = refl }
-written_alike (SetsStatus status) device = record { shapes = refl; ledger = refl }
-written_alike (SetsState state) device = record { shapes = refl; ledger = refl }
-written_alike (Prepares reply) device = record { shapes = refl; ledger = refl }
-written_alike (Settles originator number reply) device =
-    record { shapes = refl; ledger = mapped (λ ledger. settled ledger originator number reply) device.ledger }
+write_shapes : (write : OwnWrite) (device : Device)
+    → (device_written write device).router.objects.shapes ≡ device.router.objects.shapes
+write_shapes (WritesData instance offset bytes) device = data_shapes device.router.objects instance offset bytes
+write_shapes (WritesAttribute class instance attribute offset bytes) device =
+    attribute_shapes device.router.objects class instance attribute offset bytes
+write_shapes (SetsStatus status) device = refl
+write_shapes (SetsState state) device = refl
+write_shapes (Prepares reply) device = refl
+write_shapes (Settles originator number reply) device = refl
+write_shapes (Finishes ticket reply) device = refl
+
+finished_alike : (ticket : ℕ) (old new : Option LedgerState) → IsFinished ticket old new → is_some new ≡ is_some old
+finished_alike ticket old new Unchanged = refl
+finished_alike ticket old new (Completed reply) = mapped (λ ledger. completed ledger ticket reply) old
+
+write_ledger : (write : OwnWrite) (device : Device) → is_some (ledger_written write device) ≡ is_some device.ledger
+write_ledger (WritesData instance offset bytes) device = refl
+write_ledger (WritesAttribute class instance attribute offset bytes) device = refl
+write_ledger (SetsStatus status) device = refl
+write_ledger (SetsState state) device = refl
+write_ledger (Prepares reply) device = refl
+write_ledger (Settles originator number reply) device =
+    mapped (λ ledger. settled ledger originator number reply) device.ledger
+write_ledger (Finishes ticket reply) device =
+    finished_alike ticket device.ledger (ledger_written (Finishes ticket reply) device)
+    (finished-ledger ticket reply device)
 
 -- ---- all steps
 
+step_some : (device : Device) (step : DeviceStep)
+    → is_some (device_after_step device step).router.queue ≡ is_some device.router.queue
+step_some device step =
+    ap is_some (step-queue device step)
+    ∙ mapped (λ queue. after_steps queue (queue_steps_by_step device step)) device.router.queue
+
 pub step_alike : (device : Device) (step : DeviceStep) → AreAlike device (device_after_step device step)
 step_alike device (Requested request) =
-    let t = turn_alike (fate device.ledger request.0 request.1) device request.0 request.1 in
-    record { shapes = t.0; ledger = t.1 }
-step_alike device (WrittenBy write) = written_alike write device
+    let t = turn_alike (fate owned_standing device.ledger device.router request.0 request.1) device request.0 request.1 in
+    record { shapes = t.0; ledger = t.1; queue = step_some device (Requested request) }
+step_alike device (WrittenBy write) = record {
+  shapes = write_shapes write device;
+  ledger = write_ledger write device;
+  queue = step_some device (WrittenBy write);
+}
 
 pub steps_alike : (device : Device) (steps : List DeviceStep) → AreAlike device (device_after device steps)
-steps_alike device [] = record { shapes = refl; ledger = refl }
+steps_alike device [] = record { shapes = refl; ledger = refl; queue = refl }
 steps_alike device (step ∷ steps) =
     let first = step_alike device step in
     let rest = steps_alike (device_after_step device step) steps in
-    record { shapes = rest.shapes ∙ first.shapes; ledger = rest.ledger ∙ first.ledger }
+    record {
+      shapes = rest.shapes ∙ first.shapes;
+      ledger = rest.ledger ∙ first.ledger;
+      queue = rest.queue ∙ first.queue;
+    }
 
 -- ---- the keys
 
@@ -324,33 +391,51 @@ object_keys m n same =
     ap (λ shapes. key_of IDENTITY 1 0 ∷ keys_of (map pair_of (map (value_entry n) (kept_names shapes)))) same
     ∙ ap (λ keys. key_of IDENTITY 1 0 ∷ keys) (value_keys n m (kept_names m.shapes))
 
-first_keys : (l k : LedgerState) (count : ℕ) → keys_of (first_entries l count) ≡ keys_of (first_entries k count)
-first_keys l k zero = refl
-first_keys l k (suc count) =
-    map-append (λ (entry : ℕ × List ℕ). entry.0) (first_entries l count) ((ledger_key count, ledger_bytes l count) ∷ [])
-    ∙ ap (λ keys. keys ++ ledger_key count ∷ []) (first_keys l k count)
-    ∙ sym (map-append (λ (entry : ℕ × List ℕ). entry.0) (first_entries k count)
-    ((ledger_key count, ledger_bytes k count) ∷ []))
+first_keys : (key : ℕ → ℕ) (one other : ℕ → List ℕ) (count : ℕ)
+    → keys_of (first_of key one count) ≡ keys_of (first_of key other count)
+first_keys key one other zero = refl
+first_keys key one other (suc count) =
+    map-append (λ (entry : ℕ × List ℕ). entry.0) (first_of key one count) ((key count, one count) ∷ [])
+    ∙ ap (λ keys. keys ++ key count ∷ []) (first_keys key one other count)
+    ∙ sym (map-append (λ (entry : ℕ × List ℕ). entry.0) (first_of key other count) ((key count, other count) ∷ []))
 
 ledger_keys : (l k : Option LedgerState) → is_some k ≡ is_some l → keys_of (saved_ledger k) ≡ keys_of (saved_ledger l)
 ledger_keys None None same = refl
 ledger_keys None (Some k) same = absurd (cc)
 ledger_keys (Some l) None same = absurd (cc)
-ledger_keys (Some l) (Some k) same = first_keys k l ENTRIES
+ledger_keys (Some l) (Some k) same = first_keys ledger_key (ledger_bytes k) (ledger_bytes l) ENTRIES
 
-pub device_keys : (m n : Contents) (l k : Option LedgerState) → n.shapes ≡ m.shapes → is_some k ≡ is_some l
-    → keys_of (saved_device n k) ≡ keys_of (saved_device m l)
-device_keys m n l k shapes ledger =
-    map-append (λ (entry : ℕ × List ℕ). entry.0) (saved_objects n) (saved_ledger k)
-    ∙ ap (λ keys. keys ++ keys_of (saved_ledger k)) (object_keys m n shapes)
-    ∙ ap (λ keys. keys_of (saved_objects m) ++ keys) (ledger_keys l k ledger)
-    ∙ sym (map-append (λ (entry : ℕ × List ℕ). entry.0) (saved_objects m) (saved_ledger l))
+queue_keys : (q r : Option QueueState) → is_some r ≡ is_some q → keys_of (saved_queue r) ≡ keys_of (saved_queue q)
+queue_keys None None same = refl
+queue_keys None (Some r) same = absurd (cc)
+queue_keys (Some q) None same = absurd (cc)
+queue_keys (Some q) (Some r) same = first_keys queue_key (queue_bytes r) (queue_bytes q) QUEUE_ENTRIES
+
+-- the keys of all entries by those of the parts
+all_keys : (m : Contents) (l : Option LedgerState) (q : Option QueueState)
+    → keys_of (saved_device m l q)
+    ≡ keys_of (saved_objects m) ++ (keys_of (saved_ledger l) ++ keys_of (saved_queue q))
+all_keys m l q =
+    map-append (λ (entry : ℕ × List ℕ). entry.0) (saved_objects m) (saved_ledger l ++ saved_queue q)
+    ∙ ap (λ keys. keys_of (saved_objects m) ++ keys)
+    (map-append (λ (entry : ℕ × List ℕ). entry.0) (saved_ledger l) (saved_queue q))
+
+pub device_keys : (m n : Contents) (l k : Option LedgerState) (q r : Option QueueState) → n.shapes ≡ m.shapes
+    → is_some k ≡ is_some l → is_some r ≡ is_some q → keys_of (saved_device n k r) ≡ keys_of (saved_device m l q)
+device_keys m n l k q r shapes ledger queue =
+    all_keys n k r
+    ∙ ap (λ keys. keys ++ (keys_of (saved_ledger k) ++ keys_of (saved_queue r))) (object_keys m n shapes)
+    ∙ ap (λ keys. keys_of (saved_objects m) ++ (keys ++ keys_of (saved_queue r))) (ledger_keys l k ledger)
+    ∙ ap (λ keys. keys_of (saved_objects m) ++ (keys_of (saved_ledger l) ++ keys)) (queue_keys q r queue)
+    ∙ sym (all_keys m l q)
 
 pub keys_stay : (a : AdapterState) (calls : List Call) → adapter_keys (after_calls a calls) ≡ adapter_keys a
 keys_stay a calls =
     let old = a.state.shared.objects in
     let steps = steps_of_calls a calls in
+    let new = device_after old steps in
     let alike = steps_alike old steps in
-    ap (λ (device : Device). keys_of (saved_device device.router.objects device.ledger)) (calls-end a calls)
-    ∙ device_keys old.router.objects (device_after old steps).router.objects old.ledger (device_after old steps).ledger
-    alike.shapes alike.ledger
+    ap (λ (device : Device). keys_of (saved_device device.router.objects device.ledger device.router.queue))
+    (calls-end a calls)
+    ∙ device_keys old.router.objects new.router.objects old.ledger new.ledger old.router.queue new.router.queue
+    alike.shapes alike.ledger alike.queue

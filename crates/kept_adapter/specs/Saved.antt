@@ -3,11 +3,13 @@ use Rattle.std.specs.Prelude.{ℕ, zero, suc, List, [], ◌∷◌, ◌++◌, map
 use Rattle.cip_bytes.specs.Numbers.{le}
 use Rattle.cip_ledger.specs.Ledger.{SlotState, LedgerState}
 use Rattle.cip_objects.specs.Contents.{Contents}
+use Rattle.cip_owner.specs.Queue.{QueueState}
+use Rattle.device_state.specs.QueueEntries.{QUEUE_ENTRIES, queue_bytes}
 use Rattle.device_state.specs.Saved.{Entry, saved, slot_bytes, state_of}
 use Rattle.enip_adapter.specs.Calls.{AdapterState}
 use Rattle.enip_keep.specs.Kept.{Kept}
 use Rattle.kept_server.specs.Changes.{keys_of}
-use Rattle.kept_adapter.specs.Keys.{ledger_key}
+use Rattle.kept_adapter.specs.Keys.{ledger_key, queue_key}
 
 abbrev pub pair_of : Entry → ℕ × List ℕ
 pair_of entry = (entry.key, entry.content)
@@ -26,11 +28,14 @@ abbrev pub ledger_bytes : LedgerState → ℕ → List ℕ
 ledger_bytes ledger zero = le 8 ledger.life
 ledger_bytes ledger (suc index) = bytes_of_slot (slice_get ledger.taken index)
 
--- The first entries of the ledger, so many.
+-- The first numbered entries, so many, by the key and the content of each number.
+abbrev pub first_of : (ℕ → ℕ) → (ℕ → List ℕ) → ℕ → Kept
+first_of key content zero = []
+first_of key content (suc count) = first_of key content count ++ (key count, content count) ∷ []
+
+-- Those of the ledger.
 abbrev pub first_entries : LedgerState → ℕ → Kept
-first_entries ledger zero = []
-first_entries ledger (suc count) =
-    first_entries ledger count ++ (ledger_key count, ledger_bytes ledger count) ∷ []
+first_entries ledger count = first_of ledger_key (ledger_bytes ledger) count
 
 -- The life, and each of the 64 slots that a ledger has at most.
 abbrev pub ENTRIES : ℕ
@@ -40,11 +45,21 @@ abbrev pub saved_ledger : Option LedgerState → Kept
 saved_ledger None = []
 saved_ledger (Some ledger) = first_entries ledger ENTRIES
 
-abbrev pub saved_device : Contents → Option LedgerState → Kept
-saved_device objects ledger = saved_objects objects ++ saved_ledger ledger
+-- The first entries of the queue, so many.
+abbrev pub first_queue_entries : QueueState → ℕ → Kept
+first_queue_entries queue count = first_of queue_key (queue_bytes queue) count
+
+-- The next ticket, and each of the places that a queue has at most.
+abbrev pub saved_queue : Option QueueState → Kept
+saved_queue None = []
+saved_queue (Some queue) = first_queue_entries queue QUEUE_ENTRIES
+
+abbrev pub saved_device : Contents → Option LedgerState → Option QueueState → Kept
+saved_device objects ledger queue = saved_objects objects ++ (saved_ledger ledger ++ saved_queue queue)
 
 abbrev pub saved_adapter : AdapterState → Kept
-saved_adapter a = saved_device a.state.shared.objects.router.objects a.state.shared.objects.ledger
+saved_adapter a =
+    let device = a.state.shared.objects in saved_device device.router.objects device.ledger device.router.queue
 
 abbrev pub adapter_keys : AdapterState → List ℕ
 adapter_keys a = keys_of (saved_adapter a)

@@ -16,20 +16,21 @@ pub struct LedgerStart {
     pub life: u64,
 }
 
-/// What an adapter is made from: the configuration of its objects, its ledger, and its limits. The objects accept their
-/// configuration.
+/// What an adapter is made from: the configuration of its objects, its ledger, its queue, and its limits. The objects
+/// accept their configuration.
 ///
 /// ```
 /// let start = AdapterStart {
 ///     objects,
 ///     ledger: None,
+///     queue: None,
 ///     begins_life: false,
 ///     listen,
 ///     limits,
 ///     shares: Shares::NONE,
 ///     idle_timeout: 60_000_000,
 /// };
-/// let mut server = Server::<KeptPeers<TcpWire, AdapterStart>, Rows>::start(alloc, keeper, &start)?;
+/// let mut server = Server::<KeptPeers<TcpWire, AdapterStart, NoWatcher>, Rows>::start(alloc, keeper, &start)?;
 /// ```
 #[derive(Debug, Drop)]
 pub struct AdapterStart {
@@ -37,6 +38,8 @@ pub struct AdapterStart {
     pub objects: Config,
     /// The command ledger, if there is one.
     pub ledger: Option<LedgerStart>,
+    /// How many commands may wait in the queue, 1 to 256, if there is one.
+    pub queue: Option<u16>,
     /// Whether the ledger starts empty, in its own life, whatever is kept of it.
     pub begins_life: bool,
     /// The address and the port that ListIdentity reports.
@@ -50,6 +53,8 @@ pub struct AdapterStart {
     ghost accepted: { fault_of objects ≡ None },
     ghost slots_from: { ForSome ledger (λ l. 1 ≤ l.originators) },
     ghost slots_to: { ForSome ledger (λ l. l.originators ≤ 64) },
+    ghost queue_from: { ForSome queue (λ n. 1 ≤ n) },
+    ghost queue_to: { ForSome queue (λ n. n ≤ 256) },
     ghost peers_from: { 1 ≤ limits.peers },
     ghost peers_to: { limits.peers ≤ 16 },
     ghost connections_from: { 1 ≤ limits.connections },

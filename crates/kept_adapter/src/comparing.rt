@@ -1,14 +1,17 @@
 //! Compares entries with what is kept of an adapter, without a copy of it.
 ghost use Rattle.std.specs.Prelude.{◌≡◌, ◌≢◌, ◌↔◌, ◌++◌, IsTrue, IfSome, IfNone, option_map};
+ghost use Rattle.device_state.specs.QueueEntries.{QUEUE_ENTRIES, queue_bytes};
 ghost use Rattle.enip_keep.specs.Kept.{Kept, pair_of, pairs_of};
-ghost use Rattle.kept_adapter.specs.Keys.{ledger_key};
+ghost use Rattle.kept_adapter.specs.Keys.{ledger_key, queue_key};
 ghost use Rattle.kept_adapter.specs.Saved.{first_entries, ledger_bytes, saved_ledger, saved_objects, ENTRIES};
+ghost use Rattle.kept_adapter.specs.Saved.{first_queue_entries, saved_queue};
 
-use crate::keys::ledger_key;
+use crate::keys::{ledger_key, queue_key};
 use crate::saving::write_ledger_bytes;
 use cip_ledger::{Ledger, MOST_ORIGINATORS};
 use cip_objects::{Objects, ReplyBuf};
-use device_state::saved_entry;
+use cip_owner::Queue;
+use device_state::{QUEUE_ENTRIES, saved_entry, write_queue_entry};
 use enip_keep::Entry;
 
 /// Whether an entry has this key and these bytes.
@@ -35,14 +38,73 @@ pub(crate) fn behind_objects<'a>(objects: &Objects, entries: &'a [Entry]) -> Opt
     Some(&entries[count..])
 }
 
-/// Whether these are the entries of a ledger, if there is one. Without a ledger there are none.
-pub(crate) fn are_of_ledger(objects: &Objects, ledger: Option<&Ledger>, entries: &[Entry]) -> bool
-    ensures { IsTrue result ↔ (pairs_of entries.now ≡ saved_ledger (option_map (λ l. l.now) ledger.entry)) }
+/// The entries behind those of the ledger, if there is one. `None` if the first entries are not those of the ledger.
+pub(crate) fn behind_ledger<'a>(
+    objects: &Objects,
+    ledger: Option<&Ledger>,
+    entries: &'a [Entry],
+) -> Option<&'a [Entry]>
+    ensures same { IfSome result (λ rest. pairs_of entries.now
+        ≡ saved_ledger (option_map (λ l. l.now) ledger.entry) ++ pairs_of rest.now) }
+    ensures other { IfNone result ((rest : Kept) → pairs_of entries.now
+        ≢ saved_ledger (option_map (λ l. l.now) ledger.entry) ++ rest) }
 {
     match ledger {
-        Some(ledger) => are_all_of_ledger(objects, ledger, entries),
+        Some(ledger) => behind_all_of_ledger(objects, ledger, entries),
+        None => Some(entries),
+    }
+}
+
+/// The entries behind those of a ledger. `None` if the first entries are not those of the ledger.
+fn behind_all_of_ledger<'a>(
+    objects: &Objects,
+    ledger: &Ledger,
+    entries: &'a [Entry],
+) -> Option<&'a [Entry]>
+    ensures same { IfSome result (λ rest. pairs_of entries.now
+        ≡ first_entries ledger.now ENTRIES ++ pairs_of rest.now) }
+    ensures other { IfNone result ((rest : Kept) → pairs_of entries.now
+        ≢ first_entries ledger.now ENTRIES ++ rest) }
+{
+    let count = usize::from(MOST_ORIGINATORS) + 1;
+    if entries.len() < count || !are_all_of_ledger(objects, ledger, &entries[..count]) {
+        return None;
+    }
+    Some(&entries[count..])
+}
+
+/// Whether these are the entries of a queue, if there is one. Without a queue there are none.
+pub(crate) fn are_of_queue(queue: Option<&Queue>, entries: &[Entry]) -> bool
+    ensures { IsTrue result ↔ (pairs_of entries.now ≡ saved_queue (option_map (λ q. q.now) queue.entry)) }
+{
+    match queue {
+        Some(queue) => are_all_of_queue(queue, entries),
         None => entries.is_empty(),
     }
+}
+
+/// Whether these are the entries of a queue.
+fn are_all_of_queue(queue: &Queue, entries: &[Entry]) -> bool
+    ensures { IsTrue result ↔ (pairs_of entries.now ≡ first_queue_entries queue.now QUEUE_ENTRIES) }
+{
+    if entries.len() != usize::from(QUEUE_ENTRIES) {
+        return false;
+    }
+    for number in 0..QUEUE_ENTRIES {
+        if !is_of_queue(queue, number, &entries[usize::from(number)]) {
+            return false;
+        }
+    }
+    true
+}
+
+/// Whether this is the entry of a queue with this number.
+fn is_of_queue(queue: &Queue, number: u16, entry: &Entry) -> bool
+    ensures { IsTrue result ↔ (pair_of entry.now ≡ (queue_key number, queue_bytes queue.now number)) }
+{
+    let mut bytes = ReplyBuf::new();
+    write_queue_entry(queue, number, &mut bytes);
+    is_entry(entry, queue_key(number), &bytes)
 }
 
 /// Whether these are the entries of a ledger.

@@ -1,8 +1,8 @@
 //! What is kept under a key.
 ghost use Rattle.std.specs.Prelude.{◌≡◌};
-ghost use Rattle.kept_adapter.specs.Names.{entry_name, is_of_ledger, ledger_entry_name};
+ghost use Rattle.kept_adapter.specs.Names.{entry_name, is_of_ledger, is_of_queue, ledger_entry_name, queue_entry_name};
 
-use crate::keys::{device_key, is_ledger_key};
+use crate::keys::{device_key, is_ledger_key, is_queue_key, queue_number};
 use device_state::identity_key;
 use std::fmt;
 
@@ -21,6 +21,12 @@ pub enum EntryName {
     Life,
     /// A slot of the command ledger, from 1.
     Slot(u16),
+    /// The next ticket of the queue.
+    NextTicket,
+    /// A waiting command of the queue, from 1 in their order.
+    WaitingCommand(u16),
+    /// A result of the queue, from 1, the oldest first.
+    CommandResult(u16),
     /// Nothing that this adapter keeps.
     Unknown,
 }
@@ -32,6 +38,9 @@ impl EntryName {
     {
         if is_ledger_key(key) {
             return ledger_entry_name((key / 0x1_0000 % 0x1_0000) as u16);
+        }
+        if is_queue_key(key) {
+            return queue_entry_name(queue_number(key));
         }
         if device_key(key).is_none() {
             return EntryName::Unknown;
@@ -53,6 +62,16 @@ impl EntryName {
     {
         matches!(self, EntryName::Life | EntryName::Slot(_))
     }
+
+    /// Whether it is a part of the queue of commands.
+    pub fn is_of_queue(self) -> bool
+        ensures { result ≡ is_of_queue self }
+    {
+        matches!(
+            self,
+            EntryName::NextTicket | EntryName::WaitingCommand(_) | EntryName::CommandResult(_)
+        )
+    }
 }
 
 /// The entry of the ledger with this number.
@@ -62,6 +81,17 @@ fn ledger_entry_name(number: u16) -> EntryName
     match number {
         0 => EntryName::Life,
         slot => EntryName::Slot(slot),
+    }
+}
+
+/// The entry of the queue with this number.
+fn queue_entry_name(number: u16) -> EntryName
+    ensures { result ≡ queue_entry_name number }
+{
+    match number {
+        0 => EntryName::NextTicket,
+        1..=256 => EntryName::WaitingCommand(number),
+        _ => EntryName::CommandResult(number - 256),
     }
 }
 
@@ -77,6 +107,9 @@ impl fmt::Display for EntryName {
             }
             EntryName::Life => f.write_str("the life of the command ledger"),
             EntryName::Slot(number) => write!(f, "slot {number} of the command ledger"),
+            EntryName::NextTicket => f.write_str("the next ticket of the queue"),
+            EntryName::WaitingCommand(number) => write!(f, "command {number} of the queue"),
+            EntryName::CommandResult(number) => write!(f, "result {number} of the queue"),
             EntryName::Unknown => f.write_str("an entry of another version"),
         }
     }

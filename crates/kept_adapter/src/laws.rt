@@ -6,22 +6,33 @@
 //! `live_adapter` states.
 
 ghost use Rattle.kept_adapter.specs.RestartLaws.{new_adapter_law, ledger_goes_on_law, ledger_or_new_law, values_go_on_law};
-ghost use Rattle.kept_adapter.specs.RestartLaws.{values_stay_law};
+ghost use Rattle.kept_adapter.specs.RestartLaws.{queue_goes_on_law, queue_or_new_law, queue_over_restarts_law, values_stay_law};
 ghost use Rattle.kept_adapter.specs.RestartLaws.{others_begin_again_law, first_device_law, device_stays_law};
 ghost use Rattle.kept_adapter.specs.RestartLaws.{device_over_restarts_law, server_law, server_kept_law, crash_law};
 ghost use Rattle.kept_adapter.specs.RestartLaws.{once_over_restarts_law, rising_over_restarts_law};
 ghost use Rattle.kept_adapter.specs.RestartLaws.{steps_fit_law, adapter_once_law};
-ghost use Rattle.kept_adapter.specs.RestartLaws.{same_bytes_over_restarts_law, each_life_once_law};
+ghost use Rattle.kept_adapter.specs.RestartLaws.{same_bytes_over_restarts_law, final_bytes_over_restarts_law};
+ghost use Rattle.kept_adapter.specs.RestartLaws.{each_life_once_law};
 
 use enip_server::Wire;
 
-/// A restart goes on with the ledger if the configuration has as many slots and wants no new life: the life, the slots,
-/// the kept replies and the doubts are the same. With any other configuration the ledger goes on, with as many slots as
-/// are configured, or it is new, in the configured life. Sessions and connections are gone.
+/// A restart goes on with the ledger if the configuration has as many slots and as large a queue, and wants no new life:
+/// the life, the slots, the kept replies, the tickets and the doubts are the same. With any other configuration the
+/// ledger goes on, with as many slots as are configured, or it is new, in the configured life. Sessions and connections
+/// are gone.
 pub fn ledger_goes_on()
     ensures adapter { new_adapter_law }
     ensures same { ledger_goes_on_law }
     ensures any { ledger_or_new_law }
+{}
+
+/// Such a restart goes on with the queue, too: the next ticket, the commands that wait and the results are the same. With
+/// any other configuration the queue goes on, with as many places as are configured, or it is new. Over restarts that go
+/// on with it, it is the queue after the commands that were put into it and those that the owner finished, in order.
+pub fn queue_goes_on()
+    ensures same { queue_goes_on_law }
+    ensures any { queue_or_new_law }
+    ensures steps { queue_over_restarts_law }
 {}
 
 /// Each value that is kept is as it was before the restart, and each other value is as it is configured. A value stays
@@ -64,9 +75,11 @@ pub fn once_over_restarts()
     ensures adapter { adapter_once_law }
 {}
 
-/// Over restarts that go on with the ledger, every two success answers to a number have the same bytes.
+/// Over restarts that go on with the ledger, every two success answers to a number have the same bytes, or the first says
+/// that the command is pending. A device without a queue never says so.
 pub fn same_bytes_over_restarts()
-    ensures { same_bytes_over_restarts_law }
+    ensures any { same_bytes_over_restarts_law }
+    ensures without_queue { final_bytes_over_restarts_law }
 {}
 
 /// Over restarts with any configurations, no number of an originator is executed twice in one life of the device, unless

@@ -6,7 +6,7 @@ ghost use Rattle.enip_keep.specs.Kept.{pair_of, pairs_of};
 ghost use Rattle.kept_adapter.specs.Started.{after_entry, beginning, put_all_back, put_back, unused_keys};
 ghost use Rattle.kept_adapter.specs.Started.{is_free_slot};
 
-use crate::keys::{device_key, is_ledger_key, ledger_key};
+use crate::keys::{device_key, is_ledger_key, is_queue_key, ledger_key};
 use cip_ledger::Ledger;
 use cip_objects::Objects;
 use device_state::{Outcome, restore};
@@ -73,7 +73,7 @@ impl Progress {
         }
     }
 
-    /// Puts entries back, and collects the keys of those that were not used.
+    /// Puts entries back, and collects the keys of those that were not used, other than entries of the queue.
     ///
     /// # Errors
     ///
@@ -87,7 +87,7 @@ impl Progress {
     {
         let mut keys = Vec::new(alloc);
         for entry in entries {
-            if self.put_back(entry) != Outcome::Used {
+            if self.put_back(entry) != Outcome::Used && !is_queue_key(entry.key) {
                 keys.push(entry.key)?;
             }
         }

@@ -2,12 +2,15 @@
 ghost use Rattle.std.specs.Prelude.{◌≡◌, ◌<◌, ◌≤◌, ◌+◌, ◌^◌, ◌∷◌, ◌++◌, [], suc, length, take, true, Some, IfOk, OnOk, option_map};
 ghost use Rattle.enip_keep.specs.Kept.{pair_of, pairs_of};
 ghost use Rattle.kept_server.specs.Changes.{are_small, keys_of, rise};
+ghost use Rattle.device_state.specs.QueueEntries.{QUEUE_ENTRIES};
 ghost use Rattle.kept_adapter.specs.Saved.{first_entries, ledger_bytes, saved_ledger, saved_objects, ENTRIES};
+ghost use Rattle.kept_adapter.specs.Saved.{first_queue_entries, saved_queue};
 
-use crate::keys::ledger_key;
+use crate::keys::{ledger_key, queue_key};
 use cip_ledger::{Ledger, MOST_ORIGINATORS};
 use cip_objects::{Objects, ReplyBuf};
-use device_state::saved_entry;
+use cip_owner::Queue;
+use device_state::{QUEUE_ENTRIES, saved_entry, write_queue_entry};
 use enip_keep::Entry;
 use std::alloc::{AllocError, Global};
 
@@ -125,9 +128,60 @@ pub(crate) fn save_ledger_if_any(
     ensures entries { IfOk result (λ count. take count (pairs_of into.new.items)
         ≡ take start (pairs_of into.old.items) ++ saved_ledger (option_map (λ l. l.now) ledger.entry)) }
     ensures small { IfOk result (λ count. are_small (take count (pairs_of into.new.items)) ≡ true) }
+    ensures within { IfOk result (λ count. count ≤ length into.new.items) }
 {
     match ledger {
         Some(ledger) => save_ledger(alloc, objects, ledger, start, into),
+        None => Ok(start),
+    }
+}
+
+/// Writes the entries of a queue to `into`, in place of those from an index on. Returns the index behind them.
+///
+/// # Errors
+///
+/// `AllocError` if memory is refused.
+pub(crate) fn save_queue(
+    alloc: Global,
+    queue: &Queue,
+    start: usize,
+    into: &mut Vec<Entry>,
+) -> Result<usize, AllocError>
+    requires within { start ≤ length into.old.items }
+    requires small { are_small (take start (pairs_of into.old.items)) ≡ true }
+    ensures entries { IfOk result (λ count. take count (pairs_of into.new.items)
+        ≡ take start (pairs_of into.old.items) ++ first_queue_entries queue.now QUEUE_ENTRIES) }
+    ensures small { IfOk result (λ count. are_small (take count (pairs_of into.new.items)) ≡ true) }
+{
+    let mut bytes = ReplyBuf::new();
+    let mut count = start;
+    for number in 0..QUEUE_ENTRIES {
+        write_queue_entry(queue, number, &mut bytes);
+        set_entry(alloc, into, count, queue_key(number), &bytes)?;
+        count += 1;
+    }
+    Ok(count)
+}
+
+/// The same, if there is a queue. Nothing is written if there is none.
+///
+/// # Errors
+///
+/// `AllocError` if memory is refused.
+pub(crate) fn save_queue_if_any(
+    alloc: Global,
+    queue: Option<&Queue>,
+    start: usize,
+    into: &mut Vec<Entry>,
+) -> Result<usize, AllocError>
+    requires within { start ≤ length into.old.items }
+    requires small { are_small (take start (pairs_of into.old.items)) ≡ true }
+    ensures entries { IfOk result (λ count. take count (pairs_of into.new.items)
+        ≡ take start (pairs_of into.old.items) ++ saved_queue (option_map (λ q. q.now) queue.entry)) }
+    ensures small { IfOk result (λ count. are_small (take count (pairs_of into.new.items)) ≡ true) }
+{
+    match queue {
+        Some(queue) => save_queue(alloc, queue, start, into),
         None => Ok(start),
     }
 }

@@ -1,21 +1,24 @@
 //! The start of an adapter, and what is kept of it.
-ghost use Rattle.std.specs.Prelude.{◌≡◌, true, false, IfOk, IfErr, refl};
+ghost use Rattle.std.specs.Prelude.{◌≡◌, true, false, if◌then◌else◌, IfOk, IfErr, refl};
 ghost use Rattle.cip_objects.specs.Configuration.{contents_of_config};
 ghost use Rattle.enip_keep.specs.Kept.{pairs_of};
 ghost use Rattle.kept_server.specs.Changes.{rise};
 ghost use Rattle.kept_adapter.specs.SameKeys.{keys_stay};
 ghost use Rattle.kept_adapter.specs.Saved.{adapter_keys, saved_adapter};
-ghost use Rattle.kept_adapter.specs.Started.{beginning, configured, new_ledger, put_back_in, started, unused_keys, Refuses, IsStartFault};
-ghost use Rattle.kept_adapter.specs.Started.{started_from, waiting_keys};
+ghost use Rattle.kept_adapter.specs.Started.{all_unused_keys, new_ledger, new_queue, put_back_in, started, Refuses, IsStartFault};
+ghost use Rattle.kept_adapter.specs.Started.{is_trusted, queue_back_in, started_from, trusted_ledger, trusted_queue, waiting_keys};
 
 use crate::adapter_start::AdapterStart;
-use crate::comparing::{are_of_ledger, behind_objects};
+use crate::comparing::{are_of_queue, behind_ledger, behind_objects};
 use crate::fault::StartFault;
 use crate::keys::is_value_key;
 use crate::progress::Progress;
-use crate::saving::{do_keys_rise, save_ledger_if_any, save_objects};
+use crate::queue_progress::QueueProgress;
+use crate::saving::{do_keys_rise, save_ledger_if_any, save_objects, save_queue_if_any};
+use crate::tickets::has_given_all;
 use cip_ledger::Ledger;
 use cip_objects::Objects;
+use cip_owner::Queue;
 use enip_adapter::Adapter;
 use enip_keep::{Entry, KeepError};
 use kept_server::KeptDevice;
@@ -24,7 +27,7 @@ use std::alloc::{AllocError, Global};
 impl AdapterStart {
     /// The keys of the entries from which `start` takes nothing: they are of no value of this device, or the value has
     /// another size. They stay kept, the latter until the value changes. If an entry of the ledger is among them, the
-    /// ledger starts empty.
+    /// ledger starts empty. So do the ledger and the queue if the device has a queue and one of its entries is among them.
     ///
     /// # Errors
     ///
@@ -36,11 +39,12 @@ impl AdapterStart {
     /// }
     /// ```
     pub fn unused(&self, alloc: Global, entries: &[Entry]) -> Result<Vec<u64>, KeepError>
-        ensures { IfOk result (λ keys. keys.items ≡ unused_keys (beginning (configured self.now)) (pairs_of entries.now)) }
+        ensures { IfOk result (λ keys. keys.items ≡ all_unused_keys self.now (pairs_of entries.now)) }
     {
         let objects = self.new_objects(alloc)?;
         let ledger = self.new_ledger(alloc)?;
-        let keys = Progress::new(objects, ledger).unused_keys(alloc, entries)?;
+        let mut keys = Progress::new(objects, ledger).unused_keys(alloc, entries)?;
+        QueueProgress::new(self.new_queue(alloc)?).unused_keys(entries, &mut keys)?;
         Ok(keys)
     }
 
@@ -64,7 +68,8 @@ impl AdapterStart {
         if progress.is_other_device {
             return Err(StartFault::OtherDevice);
         }
-        let adapter = self.adapter(alloc, progress)?;
+        let queue = self.put_queue_back(alloc, entries)?;
+        let adapter = self.adapter(alloc, progress, queue)?;
         let mut saved = Vec::new(alloc);
         Self::save(alloc, &adapter, &mut saved)?;
         if !do_keys_rise(&saved) {
@@ -94,6 +99,25 @@ impl AdapterStart {
         }
     }
 
+    /// The queue as it is configured, with all places free.
+    fn new_queue(&self, alloc: Global) -> Result<Option<Queue>, AllocError>
+        ensures { IfOk result (λ queue. queue ≡ new_queue self.now.queue) }
+    {
+        match self.queue {
+            None => Ok(None),
+            Some(limit) => Ok(Some(Queue::new(alloc, limit)?)),
+        }
+    }
+
+    /// The queue once all its entries are put back that can be.
+    fn put_queue_back(&self, alloc: Global, entries: &[Entry]) -> Result<QueueProgress, AllocError>
+        ensures { IfOk result (λ p. p ≡ queue_back_in self.now (pairs_of entries.now)) }
+    {
+        let mut queue = QueueProgress::new(self.new_queue(alloc)?);
+        queue.put_all_back(entries);
+        Ok(queue)
+    }
+
     /// The device once all entries are put back that can be.
     fn put_back(&self, alloc: Global, entries: &[Entry]) -> Result<Progress, AllocError>
         ensures { IfOk result (λ p. p ≡ put_back_in self.now (pairs_of entries.now)) }
@@ -105,26 +129,70 @@ impl AdapterStart {
         Ok(progress)
     }
 
-    /// The adapter of a device that entries were put back into.
-    fn adapter(&self, alloc: Global, progress: Progress) -> Result<Adapter, AllocError>
-        ensures { IfOk result (λ a. a ≡ started_from self.now progress) }
+    /// Whether the ledger goes on.
+    fn is_trusted(&self, progress: &Progress, queue: &QueueProgress) -> bool
+        ensures { result ≡ is_trusted self.now progress.now queue.now }
     {
+        progress.has_life
+            && !progress.has_lost
+            && !queue.has_lost
+            && has_given_all(progress.ledger.as_ref(), queue.queue.as_ref())
+            && !self.begins_life
+    }
+
+    /// The ledger of a device that entries were put back into, or a new one.
+    fn trusted_ledger(
+        &self,
+        alloc: Global,
+        is_trusted: bool,
+        ledger: Option<Ledger>,
+    ) -> Result<Option<Ledger>, AllocError>
+        ensures { IfOk result (λ l. l ≡ (if is_trusted then ledger else new_ledger self.now.ledger)) }
+    {
+        if is_trusted {
+            Ok(ledger)
+        } else {
+            self.new_ledger(alloc)
+        }
+    }
+
+    /// The queue that entries were put back into, or a new one if one of them was lost.
+    fn trusted_queue(
+        &self,
+        alloc: Global,
+        progress: QueueProgress,
+    ) -> Result<Option<Queue>, AllocError>
+        ensures { IfOk result (λ q. q ≡ trusted_queue self.now progress) }
+    {
+        if progress.has_lost {
+            return self.new_queue(alloc);
+        }
+        let QueueProgress { queue, .. } = progress;
+        Ok(queue)
+    }
+
+    /// The adapter of a device that entries were put back into.
+    fn adapter(
+        &self,
+        alloc: Global,
+        progress: Progress,
+        queue: QueueProgress,
+    ) -> Result<Adapter, AllocError>
+        ensures { IfOk result (λ a. a ≡ started_from self.now progress queue) }
+    {
+        let is_trusted = self.is_trusted(&progress, &queue);
         let Progress {
             objects,
             ledger,
-            has_life,
-            has_lost,
             ..
         } = progress;
-        let ledger = if has_life && !has_lost && !self.begins_life {
-            ledger
-        } else {
-            self.new_ledger(alloc)?
-        };
-        Adapter::shared(
+        let ledger = self.trusted_ledger(alloc, is_trusted, ledger)?;
+        let queue = self.trusted_queue(alloc, queue)?;
+        Adapter::queued(
             alloc,
             objects,
             ledger,
+            queue,
             self.listen,
             self.limits,
             self.shares,
@@ -165,8 +233,11 @@ impl KeptDevice for AdapterStart {
 
     fn is_saved(adapter: &Adapter, entries: &[Entry]) -> bool {
         let objects = adapter.objects();
-        match behind_objects(objects, entries) {
-            Some(rest) => are_of_ledger(objects, adapter.ledger(), rest),
+        let Some(behind) = behind_objects(objects, entries) else {
+            return false;
+        };
+        match behind_ledger(objects, adapter.ledger(), behind) {
+            Some(rest) => are_of_queue(adapter.queue(), rest),
             None => false,
         }
     }
@@ -174,7 +245,8 @@ impl KeptDevice for AdapterStart {
     fn save(alloc: Global, adapter: &Adapter, into: &mut Vec<Entry>) -> Result<(), AllocError> {
         let objects = adapter.objects();
         let values = save_objects(alloc, objects, into)?;
-        let count = save_ledger_if_any(alloc, objects, adapter.ledger(), values, into)?;
+        let behind = save_ledger_if_any(alloc, objects, adapter.ledger(), values, into)?;
+        let count = save_queue_if_any(alloc, adapter.queue(), behind, into)?;
         into.truncate(count);
         Ok(())
     }

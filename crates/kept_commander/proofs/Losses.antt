@@ -1,6 +1,7 @@
 -- A client that crashes is one whose events may be lost.
 use Rattle.std.proofs.Common.{◌≡◌, inl, inr, ℕ, true, Option, None, Some, List, [], ◌∷◌, ◌++◌, fold, is_some, ◌&&◌, ◌==◌, if◌then◌else◌, eq-eqb, append-nil, refl, sym, ap, ◌∙◌, subst}
 use Rattle.std.proofs.lemmas.List.Sums.{fold-append}
+use Rattle.cip_ledger.specs.declared.target.Standing.{Standing}
 use Rattle.cip_commander.specs.declared.refusal.CommandRefused.{CommandRefused}
 use Rattle.cip_commander.specs.CommanderRule.{CommanderState, command_refusal, pending_message, outcome_at, abandoned}
 use Rattle.cip_commander.specs.Outcome.{NotPending}
@@ -41,9 +42,10 @@ module _ {M : Type 0} where
   taken_back ends (Some request) reply =
       ap (λ b. if b then heard ends (outcome_at (Some request) reply) else ends) (same_number ends.commander.last_number)
 
-module _ {M : Type 0} (after : M → ℕ → List ℕ → M) (answer : M → ℕ → List ℕ → List ℕ) where
+module _ {M : Type 0} (after : M → ℕ → List ℕ → M) (answer : M → ℕ → List ℕ → List ℕ)
+    (standing : M → List ℕ → Standing) where
   abbrev run : BothEnds M → List Event → BothEnds M
-  run ends events = fold (ends_step after answer) ends events
+  run ends events = fold (ends_step after answer standing) ends events
 
   -- some events lead from these ends to those
   abbrev Leads : BothEnds M → BothEnds M → Type 0
@@ -58,7 +60,7 @@ module _ {M : Type 0} (after : M → ℕ → List ℕ → M) (answer : M → ℕ
   sent_leads ends (Some s) is =
       (worlds.Send ∷ [], ap (λ more. record ends { sent = ends.sent ++ more }) (sym (sends_handed ends.commander s is)))
 
-  leads_on : (ends middle next : BothEnds M) (e : Event) → ends_step after answer ends e ≡ middle → Leads middle next → Leads ends next
+  leads_on : (ends middle next : BothEnds M) (e : Event) → ends_step after answer standing ends e ≡ middle → Leads middle next → Leads ends next
   leads_on ends middle next e step leads = (e ∷ leads.0, leads.1 ∙ ap (λ x. run x leads.0) (sym step))
 
   given_step : (c : CommanderState) (life : ℕ) (request : List ℕ) (refusal : Option CommandRefused) → refusal ≡ None → life ≡ c.life
@@ -92,21 +94,21 @@ module _ {M : Type 0} (after : M → ℕ → List ℕ → M) (answer : M → ℕ
   )
   made_leads Restart m ends next made = stays ends next (made.2 ∙ with_lost ends made.0 m made.1.0 made.1.1)
 
-  leads : (happening : Happening) (ends next : BothEnds M) → Happens after answer happening ends next → Leads ends next
+  leads : (happening : Happening) (ends next : BothEnds M) → Happens after answer standing happening ends next → Leads ends next
   leads (OfClient event sent) ends next happens = made_leads event sent ends next happens
   leads (Reaches position max_size) ends next happens = (Reach position max_size ∷ [], happens)
   leads (OfAnother max_size request) ends next happens = (Other max_size request ∷ [], happens)
 
-  all_lead : (happenings : List Happening) (ends last : BothEnds M) → AllHappens after answer happenings ends last → Leads ends last
+  all_lead : (happenings : List Happening) (ends last : BothEnds M) → AllHappens after answer standing happenings ends last → Leads ends last
   all_lead [] ends last happens = stays ends last happens
   all_lead (first ∷ others) ends last happens =
       let begins = leads first ends happens.0 happens.1 in
       let goes_on = all_lead others happens.0 last happens.2 in (
         begins.0 ++ goes_on.0,
-        goes_on.1 ∙ ap (λ x. run x goes_on.0) begins.1 ∙ sym (fold-append (ends_step after answer) ends begins.0 goes_on.0),
+        goes_on.1 ∙ ap (λ x. run x goes_on.0) begins.1 ∙ sym (fold-append (ends_step after answer standing) ends begins.0 goes_on.0),
       )
 
   pub amount_to_losses : (opening : Opening M) (happenings : List Happening) (last : BothEnds M)
-      → AllHappens after answer happenings (ends_at opening) last
-      → (events : List Event) × (last ≡ ends_after after answer opening events)
+      → AllHappens after answer standing happenings (ends_at opening) last
+      → (events : List Event) × (last ≡ ends_after after answer standing opening events)
   amount_to_losses opening happenings last happens = all_lead happenings (ends_at opening) last happens

@@ -1,6 +1,7 @@
 -- Both ends of numbered commands, if the originator's client may crash.
 use Rattle.std.specs.Prelude.{◌≡◌, ◌⊎◌, ℕ, Option, None, Some, List, [], ◌∷◌, ◌++◌}
 use Rattle.std.specs.List.{slice_get}
+use Rattle.cip_ledger.specs.declared.target.Standing.{Standing}
 use Rattle.cip_commander.specs.CommanderRule.{CommanderState, outcome_of}
 use Rattle.cip_commander.specs.Worlds.{Event, Reach, Other, Opening, BothEnds, ends_at, ends_step, ends_after, heard}
 use Rattle.kept_commander.specs.declared.lives.CommandEvent.{CommandEvent}
@@ -47,11 +48,12 @@ IsOfClient (Accept reply) sent ends next = (sent ≡ None) × IsAccepted reply.i
 IsOfClient Abandon sent ends next = IsMade Abandon sent ends next
 IsOfClient Restart sent ends next = IsMade Restart sent ends next
 
-module _ {M : Type 0} (after : M → ℕ → List ℕ → M) (answer : M → ℕ → List ℕ → List ℕ) where
+module _ {M : Type 0} (after : M → ℕ → List ℕ → M) (answer : M → ℕ → List ℕ → List ℕ)
+    (standing : M → List ℕ → Standing) where
   abbrev pub Happens : Happening → BothEnds M → BothEnds M → Type 0
   Happens (OfClient event sent) ends next = IsOfClient event sent ends next
-  Happens (Reaches position max_size) ends next = next ≡ ends_step after answer ends (Reach position max_size)
-  Happens (OfAnother max_size request) ends next = next ≡ ends_step after answer ends (Other max_size request)
+  Happens (Reaches position max_size) ends next = next ≡ ends_step after answer standing ends (Reach position max_size)
+  Happens (OfAnother max_size request) ends next = next ≡ ends_step after answer standing ends (Other max_size request)
 
   -- all this happens, the first of it first
   abbrev pub AllHappens : List Happening → BothEnds M → BothEnds M → Type 0
@@ -64,4 +66,4 @@ module _ {M : Type 0} (after : M → ℕ → List ℕ → M) (answer : M → ℕ
   crashes_law =
       (opening : Opening M) (happenings : List Happening) (last : BothEnds M)
       → AllHappens happenings (ends_at opening) last
-      → (events : List Event) × (last ≡ ends_after after answer opening events)
+      → (events : List Event) × (last ≡ ends_after after answer standing opening events)

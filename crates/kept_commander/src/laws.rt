@@ -4,11 +4,11 @@
 
 ghost use Rattle.kept_commander.specs.Crashes.{crashes_law};
 
-use cip_objects::Router;
+use cip_ledger::Target;
 
 /// Whatever happens to a device and a client that crashes is what happens to both ends without crashes, by the same
 /// messages: an event of the client is done, or it is lost. So each law of `cip_commander` over both ends holds with a
 /// client that crashes: no command is executed twice, and an accepted reply is that of its one execution.
-pub fn crashes_amount_to_losses<R: Router>()
-    ensures { crashes_law R.after R.answer }
+pub fn crashes_amount_to_losses<R: Target>()
+    ensures { crashes_law R.after R.answer R.standing }
 {}

@@ -1,10 +1,15 @@
 -- Rounds of peers whose wires hold back what is written to them.
+use mir.Val.{bool_byte}
 use Rattle.std.proofs.Common.{◌≡◌, ◌<◌, ◌≤◌, ◌+◌, ℕ, zero, suc, List, [], ◌∷◌, ◌++◌, length, slice_get, slice_set}
 use Rattle.std.proofs.Common.{Bool, true, false, if◌then◌else◌, eqb, Option, Some, None, Result, Ok, Err, refl, sym}
-use Rattle.std.proofs.Common.{ap, subst, ◌∙◌, arith}
+use Rattle.std.proofs.Common.{ap, subst, ◌∙◌, arith, map}
 use Rattle.std.proofs.lemmas.Bool.{eqb-true, eqb-false}
 use Rattle.enip_adapter.specs.declared.adapter.Full.{Full}
+use Rattle.cip_ledger.specs.Device.{Device}
+use Rattle.cip_objects.specs.OwnRequests.{Asked}
+use Rattle.cip_owner.specs.Replies.{Reply}
 use Rattle.enip_adapter.specs.Calls.{AdapterState, Call}
+use Rattle.enip_adapter.specs.Calls.Call.{Writes}
 use Rattle.enip_adapter.specs.declared.peer.Rights.{Rights}
 use Rattle.enip_adapter.specs.Runs.{after_calls}
 use Rattle.enip_server.specs.declared.held_wire.HeldWire.{HeldWire}
@@ -12,7 +17,7 @@ use Rattle.enip_server.specs.declared.peer_io.PeerIo.{PeerIo}
 use Rattle.enip_server.specs.Held.{held_known, held_written}
 use Rattle.enip_server.specs.Evictions.{IsAddedAs, slot_for, with_room, with_room_at}
 use Rattle.enip_server.specs.Rounds.{ServerState, first_free, marked_ready, marked_ready_in, marked_ready_at}
-use Rattle.enip_server.specs.Rounds.{nobody, no_answer, same_nobody, ended_in, has_ended, next_moment}
+use Rattle.enip_server.specs.Rounds.{ended_in, has_ended, next_moment, IsWritten}
 use Rattle.enip_server.specs.declared.peers.RoundEnd.{RoundEnd}
 use Rattle.enip_server.specs.Transfers.{AreAsked}
 use Rattle.enip_server.proofs.HeldLemmas.{round_released, same_released}
@@ -20,17 +25,20 @@ use Rattle.enip_server.proofs.ApartLemmas.{AreOf}
 use Rattle.enip_server.proofs.LifeLemmas.{get_set_other, get_set_same, ends_before, freed_elsewhere, freed_here, freed_leads}
 use Rattle.enip_server.proofs.RoundMoves.{round_of}
 use Rattle.enip_server.proofs.EvictionLemmas.{added_elsewhere, added_leads}
+use Rattle.enip_server.proofs.OwnWriteLemmas.{written_calls, written_slots}
 use Rattle.enip_server.proofs.RoundAsks.{law_asked}
 use Rattle.enip_server.proofs.TransferLemmas.{after_calls-append}
+use Rattle.enip_server.proofs.WatchRounds.{added_at, room_device}
 use Rattle.enip_keep.specs.Kept.{Kept}
+use Rattle.kept_server.proofs.AdmissionLemmas.{admitted_back, admitted_ended, admitted_of, ticked_device}
 use Rattle.kept_server.proofs.ChangeLemmas.{wait_on}
 use Rattle.kept_server.specs.declared.round.Accepted.{Accepted}
 use Rattle.kept_server.specs.declared.round.ReadyWire.{ReadyWire}
 use Rattle.kept_server.specs.declared.round.RoundInput.{RoundInput}
 use Rattle.kept_server.specs.Changes.{still_waiting}
 use Rattle.kept_server.specs.Rounds.{DeviceContents, contents_after_calls}
-use Rattle.kept_server.specs.Rounds.{IsAccepted, IsAcceptedIn, IsHeldRound, IsOneEnded, KeepsWires, SendsNothing, TakesRound}
-use Rattle.kept_server.specs.Rounds.{new_held, with_marks}
+use Rattle.kept_server.specs.Rounds.{IsAccepted, IsAcceptedIn, IsAdmission, IsHeldRound, IsOneEnded, KeepsWires, SendsNothing, TakesRound}
+use Rattle.kept_server.specs.Rounds.{new_held, ticks, with_marks}
 
 -- Calls of the adapter lead from one to another.
 record Leads (a b : AdapterState) : Type 0 where
@@ -48,6 +56,10 @@ at_most_one : (b : Bool) → (if b then 1 else 0) ≤ 1
 at_most_one true = omega arith
 at_most_one false = omega arith
 
+pub byte_small : (b : Bool) → bool_byte b ≤ 1
+byte_small true = omega arith
+byte_small false = omega arith
+
 module _ {W : Type 0} where
   keeps_all : (p : ServerState (HeldWire W)) → KeepsWires p p
   keeps_all p slot io there = (io, there, refl)
@@ -62,6 +74,16 @@ module _ {W : Type 0} where
 
   keeps_same : (a b : ServerState (HeldWire W)) → b.slots ≡ a.slots → KeepsWires a b
   keeps_same a b same slot io there = (io, ap (λ slots. slice_get slots slot) same ∙ there, refl)
+
+  -- ---- the guest writes
+
+  keeps_written : (old new : ServerState (HeldWire W)) → IsWritten old new → KeepsWires old new
+  keeps_written old new is =
+      keeps_same old new (ap (λ (p : ServerState (HeldWire W)). p.slots) is.1 ∙ written_slots is.0 old)
+
+  written_adapter : (old new : ServerState (HeldWire W)) (is : IsWritten old new)
+      → new.adapter ≡ after_calls old.adapter (map Writes is.0)
+  written_adapter old new is = ap (λ (p : ServerState (HeldWire W)). p.adapter) is.1 ∙ written_calls is.0 old
 
   -- ---- a connection is added
 
@@ -176,94 +198,171 @@ module _ {W : Type 0} where
   one_ended (first ∷ before) (found ∷ slots) (suc slot) io of there =
       omega (arith, one_ended before slots slot io of.1 there)
 
-  few_ended : (before slots : List (Option (PeerIo (HeldWire W)))) → ended_in before slots ≤ length slots
+  pub few_ended : (before slots : List (Option (PeerIo (HeldWire W)))) → ended_in before slots ≤ length slots
   few_ended [] slots = omega arith
   few_ended (first ∷ before) [] = omega arith
   few_ended (first ∷ before) (found ∷ slots) =
       omega (arith, few_ended before slots, at_most_one (has_ended first found))
 
-  pub not_all_ended : (before slots : List (Option (PeerIo (HeldWire W)))) (slot : ℕ) (io : PeerIo (HeldWire W))
-      → slice_get slots slot ≡ Some (Some io) → ended_in before slots < length slots
-  not_all_ended before [] slot io there = cc
-  not_all_ended [] (found ∷ slots) slot io there = omega arith
-  not_all_ended (first ∷ before) (None ∷ slots) zero io there = cc
-  not_all_ended (None ∷ before) (Some found ∷ slots) zero io there = omega (arith, few_ended before slots)
-  not_all_ended (Some first ∷ before) (Some found ∷ slots) zero io there = omega (arith, few_ended before slots)
-  not_all_ended (first ∷ before) (found ∷ slots) (suc slot) io there =
-      omega (arith, not_all_ended before slots slot io there, at_most_one (has_ended first found))
-
-module _ {W : Type 0} (left written : W → Option (List ℕ)) where
+module _ {W O : Type 0} (left written : W → Option (List ℕ)) (answer : O → Asked → Option Reply)
+    (next : O → Asked → O) where
   -- ---- the whole round
 
-  round_sends_nothing : (now : ℕ) (old new : ServerState (HeldWire W)) → IsHeldRound left written now old new
-      → SendsNothing written old new
-  round_sends_nothing now old new round slot io after there stays =
+  round_sends_nothing : (now : ℕ) (first : O) (old : ServerState (HeldWire W)) (last : O) (new : ServerState (HeldWire W))
+      → IsHeldRound left written answer next now first old last new → SendsNothing written old new
+  round_sends_nothing now first old last new round slot io after there stays =
       same_released written io.wire after.wire
-      (round_released (λ w. left w.wire) (held_written written) (held_known written) (λ w. w.counts) no_answer
-      same_nobody now slot nobody nobody old new io after round there stays)
+      (round_released (λ w. left w.wire) (held_written written) (held_known written) (λ w. w.counts) answer next now slot
+      first last old new io after round there stays)
 
-  -- a connection was added, or not; wires were marked ready; then a round was made, and then room
-  pub nothing_sent : (input : RoundInput W) (old added served new : ServerState (HeldWire W))
-      → IsAccepted input.now input.accepted old added
-      → IsHeldRound left written input.now (with_marks input.ready.items added) served
-      → new ≡ with_room served input.now input.room_for → SendsNothing written old new
-  nothing_sent input old added served new accepted round room slot io after there stays =
+  -- the guest wrote; a connection was added, or not; wires were marked ready; then a round was made, frames were admitted,
+  -- and then room was made
+  pub nothing_sent : (input : RoundInput W) (old begun added served admitted new : ServerState (HeldWire W)) (first last : O)
+      → IsWritten old begun → IsAccepted input.now input.accepted begun added
+      → IsHeldRound left written answer next input.now first (with_marks input.ready.items added) last served
+      → IsAdmission left written input.now served admitted → new ≡ with_room admitted input.now input.room_for
+      → SendsNothing written old new
+  nothing_sent input old begun added served admitted new first last wrote accepted round admission room slot io after there
+      stays =
       let m : (middle : PeerIo (HeldWire W))
       × (slice_get (with_marks input.ready.items added).slots slot ≡ Some (Some middle)) × (middle.wire ≡ io.wire)
-      = keeps_then old added (with_marks input.ready.items added) (keeps_accepted input.now input.accepted old added accepted)
-      (keeps_marks input.ready.items added) slot io there in
-      let kept : slice_get served.slots slot ≡ Some (Some after)
-      = room_kept served (slot_for served input.now input.room_for) slot after
+      = keeps_then old begun (with_marks input.ready.items added) (keeps_written old begun wrote)
+      (keeps_then begun added (with_marks input.ready.items added)
+      (keeps_accepted input.now input.accepted begun added accepted) (keeps_marks input.ready.items added)) slot io there in
+      let kept : slice_get admitted.slots slot ≡ Some (Some after)
+      = room_kept admitted (slot_for admitted input.now input.room_for) slot after
       (subst (λ (p : ServerState (HeldWire W)). slice_get p.slots slot ≡ Some (Some after)) room stays) in
-      round_sends_nothing input.now (with_marks input.ready.items added) served round slot m.0 after m.1 kept
+      let was : (before : PeerIo (HeldWire W)) × (slice_get served.slots slot ≡ Some (Some before))
+      × (written after.wire.wire ≡ written before.wire.wire)
+      = admitted_back left written served.slots admitted.slots admission.slots slot after kept in
+      was.2
+      ∙ round_sends_nothing input.now first (with_marks input.ready.items added) last served round slot m.0 was.0 m.1 was.1
       ∙ ap (λ (w : HeldWire W). written w.wire) m.2
 
-  round_leads : (now : ℕ) (old new : ServerState (HeldWire W)) → IsHeldRound left written now old new
-      → Leads old.adapter new.adapter
-  round_leads now old new round =
-      let asked : AreAsked no_answer same_nobody nobody old.adapter nobody new.adapter
-      = law_asked (λ (w : HeldWire W). left w.wire) (held_written written) (held_known written) (λ w. w.counts) no_answer
-      same_nobody now nobody nobody old new round in
+  round_leads : (now : ℕ) (first : O) (old : ServerState (HeldWire W)) (last : O) (new : ServerState (HeldWire W))
+      → IsHeldRound left written answer next now first old last new → Leads old.adapter new.adapter
+  round_leads now first old last new round =
+      let asked : AreAsked answer next first old.adapter last new.adapter
+      = law_asked (λ (w : HeldWire W). left w.wire) (held_written written) (held_known written) (λ w. w.counts) answer next
+      now first last old new round in
       record { calls = asked.calls; after = asked.adapter }
 
-  -- the peers that ended, with one that gave way
-  pub ended_more : (input : RoundInput W) (added served new : ServerState (HeldWire W))
-      → IsHeldRound left written input.now (with_marks input.ready.items added) served → IsOneEnded served new
-      → ended_in (with_marks input.ready.items added).slots new.slots
-      ≡ ended_in (with_marks input.ready.items added).slots served.slots + 1
-  ended_more input added served new round one =
-      ap (ended_in (with_marks input.ready.items added).slots) one.3
-      ∙ one_ended (with_marks input.ready.items added).slots served.slots one.0 one.1
-      (round_of (λ (w : HeldWire W). left w.wire) (held_written written) (held_known written) (λ w. w.counts) no_answer
-      same_nobody input.now nobody (with_marks input.ready.items added) nobody served round)
-      one.2
+  admission_leads : (now : ℕ) (old new : ServerState (HeldWire W)) → IsAdmission left written now old new
+      → Leads old.adapter new.adapter
+  admission_leads now old new is = record { calls = ticks is.times now; after = is.adapter }
 
-  pub round_taken : (input : RoundInput W) (old added served new : ServerState (HeldWire W)) (outcome : RoundEnd)
-      → IsAccepted input.now input.accepted old added
-      → IsHeldRound left written input.now (with_marks input.ready.items added) served
-      → new ≡ with_room served input.now input.room_for
-      → outcome.ended ≡ ended_in (with_marks input.ready.items added).slots new.slots → outcome.next ≡ next_moment new
-      → (calls : List Call) × TakesRound left written (record { input = input; calls = calls }) old new outcome
-  round_taken input old added served new outcome accepted round room ended next =
-      let room_leads : Leads served.adapter new.adapter
-      = subst (λ (p : ServerState (HeldWire W)). Leads served.adapter p.adapter) (sym room)
-      (leads_room served (slot_for served input.now input.room_for)) in
-      let all : Leads old.adapter new.adapter
-      = leads_then old.adapter added.adapter new.adapter (leads_accepted input.now input.accepted old added accepted)
-      (leads_then added.adapter served.adapter new.adapter
-      (round_leads input.now (with_marks input.ready.items added) served round) room_leads) in (
-        all.calls,
-        record {
-          added = added;
-          served = served;
-          accepted = accepted;
-          round = round;
-          room = room;
-          executed = all.after;
-          ended = ended;
-          next = next;
-        },
-      )
+  -- the peers that ended, with one that gave way, if one did
+  pub ended_more : (input : RoundInput W) (added served admitted new : ServerState (HeldWire W)) (first last : O)
+      → IsHeldRound left written answer next input.now first (with_marks input.ready.items added) last served
+      → IsAdmission left written input.now served admitted → (gave : Bool)
+      → (gave ≡ true → IsOneEnded admitted new) → (gave ≡ false → new ≡ admitted)
+      → ended_in (with_marks input.ready.items added).slots new.slots
+      ≡ ended_in (with_marks input.ready.items added).slots served.slots + bool_byte gave
+  ended_more input added served admitted new first last round admission true one still =
+      let ended : IsOneEnded admitted new = one refl in
+      let of : AreOf (with_marks input.ready.items added).slots admitted.slots
+      = admitted_of left written (with_marks input.ready.items added).slots served.slots admitted.slots
+      (round_of (λ (w : HeldWire W). left w.wire) (held_written written) (held_known written) (λ w. w.counts) answer next
+      input.now first (with_marks input.ready.items added) last served round)
+      admission.slots in
+      ap (ended_in (with_marks input.ready.items added).slots) ended.3
+      ∙ one_ended (with_marks input.ready.items added).slots admitted.slots ended.0 ended.1 of ended.2
+      ∙ ap (λ n. n + 1) (admitted_ended left written (with_marks input.ready.items added).slots served.slots admitted.slots
+      admission.slots)
+  ended_more input added served admitted new first last round admission false one still =
+      let same : ended_in (with_marks input.ready.items added).slots new.slots
+      ≡ ended_in (with_marks input.ready.items added).slots served.slots
+      = ap (λ (p : ServerState (HeldWire W)). ended_in (with_marks input.ready.items added).slots p.slots) (still refl)
+      ∙ admitted_ended left written (with_marks input.ready.items added).slots served.slots admitted.slots admission.slots in
+      omega (arith, same)
+
+  module _ {G : Type 0} (begins : ℕ → G → ServerState (HeldWire W) → G → ServerState (HeldWire W) → O → Type 0)
+      (admits : ℕ → G → ServerState (HeldWire W) → G → ServerState (HeldWire W) → Type 0) where
+    pub round_taken : (input : RoundInput W) (first_guest guest_begun guest_served last_guest : G)
+        (old begun added served admitted new : ServerState (HeldWire W)) (first last : O) (outcome : RoundEnd)
+        → begins input.now first_guest old guest_begun begun first → IsWritten old begun
+        → IsAccepted input.now input.accepted begun added
+        → IsHeldRound left written answer next input.now first (with_marks input.ready.items added) last served
+        → admits input.now guest_served served last_guest admitted → IsAdmission left written input.now served admitted
+        → new ≡ with_room admitted input.now input.room_for
+        → outcome.ended ≡ ended_in (with_marks input.ready.items added).slots new.slots → outcome.next ≡ next_moment new
+        → (calls : List Call) × TakesRound left written answer next begins admits (record { input = input; calls = calls })
+        first_guest old last_guest new outcome
+    round_taken input first_guest guest_begun guest_served last_guest old begun added served admitted new first last outcome
+        guest_begins wrote accepted round guest_admits admission room ended next_is =
+        let room_leads : Leads admitted.adapter new.adapter
+        = subst (λ (p : ServerState (HeldWire W)). Leads admitted.adapter p.adapter) (sym room)
+        (leads_room admitted (slot_for admitted input.now input.room_for)) in
+        let others : Leads begun.adapter new.adapter
+        = leads_then begun.adapter added.adapter new.adapter
+        (leads_accepted input.now input.accepted begun added accepted)
+        (leads_then added.adapter served.adapter new.adapter
+        (round_leads input.now first (with_marks input.ready.items added) last served round)
+        (leads_then served.adapter admitted.adapter new.adapter (admission_leads input.now served admitted admission)
+        room_leads)) in (
+          map Writes wrote.0 ++ others.calls,
+          record {
+            writes = wrote.0;
+            others = others.calls;
+            begun = begun;
+            added = added;
+            served = served;
+            admitted = admitted;
+            guest_begun = guest_begun;
+            guest_served = guest_served;
+            owner = first;
+            owner_served = last;
+            own_calls = refl;
+            guest_begins = guest_begins;
+            wrote = wrote.1;
+            accepted = accepted;
+            round = round;
+            guest_admits = guest_admits;
+            admission = admission;
+            room = room;
+            executed = others.after ∙ ap (λ a. after_calls a others.calls) (written_adapter old begun wrote)
+                ∙ sym (after_calls-append old.adapter (map Writes wrote.0) others.calls);
+            ended = ended;
+            next_is = next_is;
+          },
+        )
+
+-- ---- what the guest has seen
+
+module _ {W : Type 0} where
+  accepted_device : (now : ℕ) (accepted : Option (Accepted W)) (old new : ServerState (HeldWire W))
+      → IsAccepted now accepted old new → new.adapter.state.shared.objects ≡ old.adapter.state.shared.objects
+  accepted_device now None old new is = ap (λ (p : ServerState (HeldWire W)). p.adapter.state.shared.objects) is
+  accepted_device now (Some accepted) old new is = by (first_free old.slots) is
+    where
+      by : (free : Option ℕ) → IsAcceptedIn free now accepted old new
+          → new.adapter.state.shared.objects ≡ old.adapter.state.shared.objects
+      by None none = ap (λ (p : ServerState (HeldWire W)). p.adapter.state.shared.objects) none
+      by (Some free) added =
+          added_at now (new_held accepted.wire) accepted.rights accepted.group (slot_for old now accepted.group) old new
+          added.0 added.1
+
+  -- Neither a connection that is added, nor wires that are marked, nor frames that are admitted, nor room that is made
+  -- changes the device.
+  pub still_seen : {T : Type 0} (has_seen : T → Device → Type 0) (left written : W → Option (List ℕ)) (before after last : T)
+      (input : RoundInput W) (begun added marked served admitted new : ServerState (HeldWire W))
+      → IsAccepted input.now input.accepted begun added → marked ≡ with_marks input.ready.items added
+      → (has_seen before marked.adapter.state.shared.objects → has_seen after served.adapter.state.shared.objects)
+      → IsAdmission left written input.now served admitted → ((device : Device) → has_seen after device → has_seen last device)
+      → new ≡ with_room admitted input.now input.room_for
+      → has_seen before begun.adapter.state.shared.objects → has_seen last new.adapter.state.shared.objects
+  still_seen has_seen left written before after last input begun added marked served admitted new accepted marks round
+      admission keeps room seen =
+      let begins : marked.adapter.state.shared.objects ≡ begun.adapter.state.shared.objects
+      = ap (λ (p : ServerState (HeldWire W)). p.adapter.state.shared.objects) marks
+      ∙ accepted_device input.now input.accepted begun added accepted in
+      let ends : new.adapter.state.shared.objects ≡ served.adapter.state.shared.objects
+      = ap (λ (p : ServerState (HeldWire W)). p.adapter.state.shared.objects) room
+      ∙ room_device admitted (slot_for admitted input.now input.room_for)
+      ∙ ap (λ (a : AdapterState). a.state.shared.objects) admission.adapter
+      ∙ ticked_device admission.times input.now served.adapter in
+      subst (has_seen last) (sym ends)
+      (keeps served.adapter.state.shared.objects (round (subst (has_seen before) (sym begins) seen)))
 
 -- ---- a round that changes nothing
 

@@ -1,9 +1,13 @@
 -- Rounds of peers whose wires hold back what is written to them, and what is kept of a device in them.
-use Rattle.std.specs.Prelude.{ℕ, ◌≡◌, Bool, List, [], ◌∷◌, false, Option, Some, None, Result, slice_get, slice_set}
+use Rattle.std.specs.Prelude.{ℕ, zero, suc, ◌≡◌, Bool, List, [], ◌∷◌, ◌++◌, map, false, Option, Some, None, ⊤, Result, slice_get, slice_set}
 use Rattle.std.proofs.Common.{sym, ap, ◌∙◌}
 use Rattle.std.specs.List.{list_any}
+use Rattle.cip_objects.specs.OwnRequests.{Asked}
+use Rattle.cip_owner.specs.Replies.{Reply}
 use Rattle.enip_adapter.specs.declared.adapter.Full.{Full}
 use Rattle.enip_adapter.specs.Calls.{AdapterState, Call}
+use Rattle.enip_adapter.specs.Calls.Call.{Ticks, Writes}
+use Rattle.enip_adapter.specs.OwnWrites.{OwnWrite}
 use Rattle.enip_adapter.specs.Runs.{after_calls}
 use Rattle.enip_keep.specs.Kept.{Kept}
 use Rattle.enip_server.specs.declared.held_wire.HeldWire.{HeldWire}
@@ -12,8 +16,7 @@ use Rattle.enip_server.specs.declared.peers.RoundEnd.{RoundEnd}
 use Rattle.enip_server.specs.declared.wire_counts.WireCounts.{WireCounts}
 use Rattle.enip_server.specs.Held.{held_known, held_written, AreReleased}
 use Rattle.enip_server.specs.Evictions.{IsAddedAs, with_room}
-use Rattle.enip_server.specs.Rounds.{ServerState, IsRound, first_free, marked_ready, ended_in, is_ready, next_moment}
-use Rattle.enip_server.specs.Rounds.{nobody, no_answer, same_nobody}
+use Rattle.enip_server.specs.Rounds.{ServerState, IsRound, first_free, marked_ready, ended_in, is_ready, next_moment, written_all}
 use Rattle.enip_server.specs.Wires.{KnownCalls}
 use Rattle.kept_server.specs.Changes.{kept_over, still_waiting, waiting_for}
 use Rattle.kept_server.specs.declared.round.Accepted.{Accepted}
@@ -99,14 +102,48 @@ marked_all (wire ∷ wires) slots = marked_all wires (marked_ready wire.ends slo
 abbrev pub with_marks : {W : Type 0} → List ReadyWire → ServerState W → ServerState W
 with_marks wires p = record p { slots = marked_all wires p.slots }
 
--- A round of such peers, which asks nobody.
-abbrev pub IsHeldRound : {W : Type 0} → (W → Option (List ℕ)) → (W → Option (List ℕ)) → ℕ → ServerState (HeldWire W)
-    → ServerState (HeldWire W) → Type 0
-IsHeldRound left written now old new =
-    IsRound (λ w. left w.wire) (held_written written) (held_known written) (λ w. w.counts) no_answer same_nobody now
-    nobody old nobody new
+-- A round of such peers, which asks an owner.
+abbrev pub IsHeldRound : {W O : Type 0} → (W → Option (List ℕ)) → (W → Option (List ℕ)) → (O → Asked → Option Reply)
+    → (O → Asked → O) → ℕ → O → ServerState (HeldWire W) → O → ServerState (HeldWire W) → Type 0
+IsHeldRound left written answer next now first old last new =
+    IsRound (λ w. left w.wire) (held_written written) (held_known written) (λ w. w.counts) answer next now first old last new
 
--- What a round is asked: its input, and the calls of the adapter that it makes.
+-- A peer whose frame may have been admitted: nothing was read from the wire inside or written to it, and what is held
+-- stays held. Nothing else of the peer changes but whether its wire may be ready.
+pub record IsAdmittedPeer {W : Type 0} (left written : W → Option (List ℕ)) (io after : PeerIo (HeldWire W)) : Type 0 where
+  pub unread : left after.wire.wire ≡ left io.wire.wire
+  pub unwritten : written after.wire.wire ≡ written io.wire.wire
+  pub same : after ≡ record io { wire = record io.wire { wire = after.wire.wire }; ready = after.ready }
+
+abbrev pub IsAdmittedSlot : {W : Type 0} → (W → Option (List ℕ)) → (W → Option (List ℕ)) → Option (PeerIo (HeldWire W))
+    → Option (PeerIo (HeldWire W)) → Type 0
+IsAdmittedSlot left written None slot = slot ≡ None
+IsAdmittedSlot left written (Some io) None = ⊥
+IsAdmittedSlot left written (Some io) (Some after) = IsAdmittedPeer left written io after
+
+abbrev pub AreAdmittedSlots : {W : Type 0} → (W → Option (List ℕ)) → (W → Option (List ℕ))
+    → List (Option (PeerIo (HeldWire W))) → List (Option (PeerIo (HeldWire W))) → Type 0
+AreAdmittedSlots left written [] [] = ⊤
+AreAdmittedSlots left written [] (slot ∷ places) = ⊥
+AreAdmittedSlots left written (io ∷ slots) [] = ⊥
+AreAdmittedSlots left written (io ∷ slots) (slot ∷ places) =
+    IsAdmittedSlot left written io slot × AreAdmittedSlots left written slots places
+
+-- The adapter takes a time into account, so many times.
+abbrev pub ticks : ℕ → ℕ → List Call
+ticks zero now = []
+ticks (suc n) now = Ticks now ∷ ticks n now
+
+-- Frames are admitted, or none: the adapter takes the time into account, once for each frame that waits. Nobody is ended,
+-- and nothing is sent.
+pub record IsAdmission {W : Type 0} (left written : W → Option (List ℕ)) (now : ℕ) (old new : ServerState (HeldWire W))
+    : Type 0 where
+  pub times : ℕ
+  pub adapter : new.adapter ≡ after_calls old.adapter (ticks times now)
+  pub slots : AreAdmittedSlots left written old.slots new.slots
+  pub same : new ≡ record old { adapter = new.adapter; slots = new.slots }
+
+-- What a round is asked: its input, and the calls of the adapter that it makes. The guest's own writes are among these.
 pub record RoundRequests (W : Type 0) : Type 0 where
   pub input : RoundInput W
   pub calls : List Call
@@ -132,19 +169,39 @@ IsOneEnded {W} old new =
     (slot : ℕ) × (io : PeerIo W) × (slice_get old.slots slot ≡ Some (Some io))
     × (new.slots ≡ slice_set old.slots slot None)
 
--- The peers take a round: the connection is added, the wires are marked ready, and then the round is made at the time of
--- the input. Last, room is made for the client that waits for a slot. The adapter is that after these calls. The outcome
--- is that of the round and of the peer that gave way.
-pub record TakesRound {W : Type 0} (left written : W → Option (List ℕ)) (requests : RoundRequests W)
-    (old new : ServerState (HeldWire W)) (outcome : RoundEnd) : Type 0 where
-  pub added : ServerState (HeldWire W)
-  pub served : ServerState (HeldWire W)
-  pub accepted : IsAccepted requests.input.now requests.input.accepted old added
-  pub round : IsHeldRound left written requests.input.now (with_marks requests.input.ready.items added) served
-  pub room : new ≡ with_room served requests.input.now requests.input.room_for
-  pub executed : new.adapter ≡ after_calls old.adapter requests.calls
-  pub ended : outcome.ended ≡ ended_in (with_marks requests.input.ready.items added).slots new.slots
-  pub next : outcome.next ≡ next_moment new
+-- A guest of rounds, as relations: what it makes of the beginning of a round and of its end, at a time, with the peers
+-- before and after it. At the beginning it names the owner of the round, who answers as these functions say.
+module _ {W G O : Type 0} (left written : W → Option (List ℕ)) (answer : O → Asked → Option Reply) (next : O → Asked → O)
+    (begins : ℕ → G → ServerState (HeldWire W) → G → ServerState (HeldWire W) → O → Type 0)
+    (admits : ℕ → G → ServerState (HeldWire W) → G → ServerState (HeldWire W) → Type 0) where
+  -- The peers take a round with a guest: the guest begins it, which makes these writes, the connection is added, the wires
+  -- are marked ready, and then the round is made at the time of the input, in which the guest's owner is asked. After it
+  -- the guest admits frames. Last, room is made for the client that waits for a slot. The adapter is that after these
+  -- calls, of which the guest's writes are the first. The outcome is that of the round and of the peer that gave way.
+  pub record TakesRound (requests : RoundRequests W) (first : G) (old : ServerState (HeldWire W)) (last : G)
+      (new : ServerState (HeldWire W)) (outcome : RoundEnd) : Type 0 where
+    pub writes : List OwnWrite
+    pub others : List Call
+    pub begun : ServerState (HeldWire W)
+    pub added : ServerState (HeldWire W)
+    pub served : ServerState (HeldWire W)
+    pub admitted : ServerState (HeldWire W)
+    pub guest_begun : G
+    pub guest_served : G
+    pub owner : O
+    pub owner_served : O
+    pub own_calls : requests.calls ≡ map Writes writes ++ others
+    pub guest_begins : begins requests.input.now first old guest_begun begun owner
+    pub wrote : begun ≡ written_all writes old
+    pub accepted : IsAccepted requests.input.now requests.input.accepted begun added
+    pub round : IsHeldRound left written answer next requests.input.now owner (with_marks requests.input.ready.items added)
+        owner_served served
+    pub guest_admits : admits requests.input.now guest_served served last admitted
+    pub admission : IsAdmission left written requests.input.now served admitted
+    pub room : new ≡ with_room admitted requests.input.now requests.input.room_for
+    pub executed : new.adapter ≡ after_calls old.adapter requests.calls
+    pub ended : outcome.ended ≡ ended_in (with_marks requests.input.ready.items added).slots new.slots
+    pub next_is : outcome.next ≡ next_moment new
 
 -- What was held leaves, as far as the wires take it, and the outcome says whether a wire may be ready then.
 pub record SendsHeld {W : Type 0} (left written : W → Option (List ℕ)) (known : W → Option KnownCalls)

@@ -9,6 +9,7 @@ ghost use Rattle.kept_server.specs.Rounds.{DeviceContents, RoundRequests, SendsH
 ghost use Rattle.kept_server.specs.Rounds.{after_round, contents_with, kept_of, nothing_by_itself};
 
 use crate::changes::copy_all;
+use crate::guest::RoundGuest;
 use crate::kept_device::KeptDevice;
 use crate::round::{RoundInput, take_round};
 use crate::table::EntryTable;
@@ -22,23 +23,40 @@ use std::marker::PhantomData;
 /// It is the device of an `enip_keep::Server`, which calls it in rounds. The answers of a round leave once its changes
 /// are committed, and none of them leaves if that fails.
 ///
+/// `G` is the guest of the rounds: the port of an owner, or `NoWatcher` if the device has none. It is passed to each round,
+/// and between rounds nothing changes the peers.
+///
 /// ```
-/// let mut server = Server::<KeptPeers<TcpWire, DeviceConfig>, Rows>::start(alloc, keeper, &configuration)?;
-/// server.round(RoundInput { now, accepted, ready, room_for })?;
+/// let mut server = Server::<KeptPeers<TcpWire, DeviceConfig, NoWatcher>, Rows>::start(alloc, keeper, &configuration)?;
+/// server.round(RoundInput { now, accepted, ready, room_for }, &mut NoWatcher)?;
 /// let end = server.device().last_round();
 /// ```
-#[derive(Drop)]
-pub struct KeptPeers<W: Wire + Drop, C: KeptDevice> {
+pub struct KeptPeers<W: Wire + Drop, C: KeptDevice, G> {
     alloc: Global,
     peers: Peers<HeldWire<W>>,
     table: EntryTable,
     last_round: RoundEnd,
     configuration: PhantomData<C>,
+    guest: PhantomData<G>,
     ghost keys: { keys_of (pairs_of (newest table.is_settled table.kept table.current).entries.items)
         ≡ C.keys (state_of peers).adapter },
 }
 
-impl<W: Wire + Drop, C: KeptDevice> KeptPeers<W, C> {
+// Written out, so that each exit of a function that owns one calls it, and has no drop of every part.
+impl<W: Wire + Drop, C: KeptDevice, G> Drop for KeptPeers<W, C, G> {
+    fn drop(self) {
+        let KeptPeers {
+            alloc: _,
+            peers: _,
+            table: _,
+            last_round: _,
+            configuration: _,
+            guest: _,
+        } = self;
+    }
+}
+
+impl<W: Wire + Drop, C: KeptDevice, G> KeptPeers<W, C, G> {
     /// The peers, to be read between rounds: the first free slot, the adapter, the answers to datagrams.
     pub fn peers(&self) -> &Peers<HeldWire<W>>
         ensures { result.now ≡ self.now.peers }
@@ -54,10 +72,12 @@ impl<W: Wire + Drop, C: KeptDevice> KeptPeers<W, C> {
     }
 }
 
-impl<W: Wire + Drop, C: KeptDevice> Device for KeptPeers<W, C> {
+impl<W: Wire + Drop, C: KeptDevice, G: RoundGuest<W>> Device for KeptPeers<W, C, G> {
     type Configuration = C;
 
     type Input = RoundInput<W>;
+
+    type Guest = G;
 
     ghost Contents = { DeviceContents };
 
@@ -85,8 +105,9 @@ impl<W: Wire + Drop, C: KeptDevice> Device for KeptPeers<W, C> {
 
     ghost sends_nothing = { λ old new. SendsNothing W.written (state_of old.peers) (state_of new.peers) };
 
-    ghost holds_answers = { λ old requests new.
-        TakesRound W.left W.written requests (state_of old.peers) (state_of new.peers) new.last_round };
+    ghost holds_answers = { λ old requests new. (first : G) × (last : G)
+        × TakesRound W.left W.written G.RoundOwner.answer G.RoundOwner.after G.begins G.admits requests first
+        (state_of old.peers) last (state_of new.peers) new.last_round };
 
     ghost sends_held = { λ old new. SendsHeld W.left W.written W.known W.counts (state_of old.peers) (state_of new.peers)
         old.last_round new.last_round };
@@ -111,11 +132,12 @@ impl<W: Wire + Drop, C: KeptDevice> Device for KeptPeers<W, C> {
             table,
             last_round,
             configuration: PhantomData,
+            guest: PhantomData,
         })
     }
 
-    fn serve(&mut self, input: RoundInput<W>) -> Result<(), KeepError> {
-        self.last_round = take_round(&mut self.peers, input);
+    fn serve(&mut self, input: RoundInput<W>, guest: &mut G) -> Result<(), KeepError> {
+        self.last_round = take_round(&mut self.peers, input, guest);
         if C::is_saved(self.peers.adapter(), self.table.newest()) {
             return Ok(());
         }

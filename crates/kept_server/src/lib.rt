@@ -7,10 +7,14 @@
 //! A start may take nothing from a value that was found, as from one of another size. That value stays kept until the
 //! device's own value changes.
 //!
-//! The device has no owner: a request to one is answered "device state conflict" (0x10).
+//! A `RoundGuest` takes part in the rounds, as the port of an owner does: its writes come first in a round, it names the
+//! owner of the round, who answers requests at once, and it watches the frames of peers. At the end of a round it may admit
+//! frames that wait for the owner's answer (`enip_server::GatedWire`). Without a guest (`NoWatcher`) nobody is asked: a
+//! request to an owner that has to answer at once is answered "device state conflict" (0x10).
 #![tactic(auto)]
 
 mod changes;
+mod guest;
 mod kept_device;
 mod kept_peers;
 mod lives;
@@ -18,6 +22,7 @@ mod round;
 mod table;
 mod waits;
 
+pub use guest::RoundGuest;
 pub use kept_device::KeptDevice;
 pub use kept_peers::KeptPeers;
 pub use lives::live_peers;

@@ -4,10 +4,12 @@ ghost use Rattle.std.specs.Prelude.{◌≡◌, List, None, IsFalse, IsTrue};
 ghost use Rattle.enip_adapter.specs.declared.peer.Rights.TheVariants.{Write};
 ghost use Rattle.enip_adapter.specs.Calls.{Call};
 ghost use Rattle.enip_server.specs.Evictions.{with_room};
-ghost use Rattle.enip_server.specs.Rounds.{state_of};
-ghost use Rattle.kept_server.specs.Rounds.{IsAccepted, IsOneEnded, SendsNothing, TakesRound, with_marks};
+ghost use Rattle.enip_server.specs.Rounds.{ended_in, next_moment, state_of};
+ghost use Rattle.kept_server.specs.Rounds.{IsAccepted, IsHeldRound, IsOneEnded, SendsNothing, TakesRound, with_marks};
 
+use crate::guest::RoundGuest;
 use arrayvec::ArrayVec;
+use cip_owner::Owner;
 use enip_adapter::Rights;
 use enip_server::{HeldWire, Peers, RoundEnd, Wire};
 
@@ -65,15 +67,21 @@ pub struct RoundInput<W> {
     pub room_for: Option<u128>,
 }
 
-/// Adds the connection and marks the wires that may be ready, and then serves one round. At its end, room is made for the
-/// client that waits: not before it is served, so that a slot holds one peer throughout the round.
-pub(crate) fn take_round<W: Wire + Drop>(
+/// Lets the guest make its writes, adds the connection and marks the wires that may be ready, and then serves one round,
+/// which the guest watches, and in which the guest's owner is asked. Then the guest admits frames for the next round. At
+/// the end, room is made for the client that waits: not before it is served, so that a slot holds one peer throughout the
+/// round.
+pub(crate) fn take_round<W: Wire + Drop, G: RoundGuest<W>>(
     peers: &mut Peers<HeldWire<W>>,
     input: RoundInput<W>,
+    guest: &mut G,
 ) -> RoundEnd
-    ensures round { (calls : List Call) × TakesRound W.left W.written (record { input = input; calls = calls })
-        (state_of peers.old) (state_of peers.new) result }
+    ensures round { (calls : List Call) × TakesRound W.left W.written G.RoundOwner.answer G.RoundOwner.after G.begins
+        G.admits (record { input = input; calls = calls }) guest.old (state_of peers.old) guest.new (state_of peers.new)
+        result }
     ensures silent { SendsNothing W.written (state_of peers.old) (state_of peers.new) }
+    ensures watched { G.has_seen guest.old (state_of peers.old).adapter.state.shared.objects →
+        G.has_seen guest.new (state_of peers.new).adapter.state.shared.objects }
 {
     let RoundInput {
         now,
@@ -81,17 +89,33 @@ pub(crate) fn take_round<W: Wire + Drop>(
         ready,
         room_for,
     } = input;
+    let mut owner = guest.begin_round(now, peers);
     add_accepted(peers, now, accepted);
     mark_ready(peers, ready.as_slice());
-    let end = peers.round(now);
-    if make_room(peers, now, room_for) {
-        return RoundEnd {
-            ended: end.ended + 1,
-            ready: end.ready,
-            next: peers.next_moment(),
-        };
+    let end = serve_round(peers, now, &mut owner, guest);
+    guest.admit_frames(now, peers);
+    let gave_way = make_room(peers, now, room_for);
+    RoundEnd {
+        ended: end.ended + usize::from(gave_way),
+        ready: end.ready,
+        next: peers.next_moment(),
     }
-    end
+}
+
+/// Serves one round, which the guest watches, and in which this owner is asked.
+fn serve_round<W: Wire + Drop, O: Owner, G: RoundGuest<W>>(
+    peers: &mut Peers<HeldWire<W>>,
+    now: u64,
+    owner: &mut O,
+    guest: &mut G,
+) -> RoundEnd
+    ensures round { IsHeldRound W.left W.written O.answer O.after now owner.old (state_of peers.old) owner.new
+        (state_of peers.new) }
+    ensures watched { G.has_seen guest.old (state_of peers.old).adapter.state.shared.objects →
+        G.has_seen guest.new (state_of peers.new).adapter.state.shared.objects }
+    ensures ended { result.ended ≡ ended_in (state_of peers.old).slots (state_of peers.new).slots }
+{
+    peers.round_watched(now, owner, guest)
 }
 
 /// Makes room for a client of a group that waits for a slot. Returns whether a peer gave way to it.

@@ -1,6 +1,7 @@
 -- The command that a piece would execute, in the ledger that is saved with it.
-use Rattle.std.proofs.Common.{◌≡◌, ℕ, List, [], ◌∷◌, Bool, true, false, if◌then◌else◌, Option, Some, None, refl, sym, ap, ◌∙◌}
+use Rattle.std.proofs.Common.{◌≡◌, ℕ, List, [], ◌∷◌, Bool, true, false, if◌then◌else◌, Option, Some, None, sym, ap, ◌∙◌}
 use Rattle.cip_ledger.specs.declared.doubt.DoubtfulCommand.{DoubtfulCommand}
+use Rattle.cip_ledger.specs.Device.{owned_standing}
 use Rattle.cip_ledger.specs.Doubt.{is_in_doubt}
 use Rattle.cip_ledger.specs.Executing.{command_of, doubted_by}
 use Rattle.cip_ledger.specs.Ledger.{LedgerState}
@@ -24,7 +25,8 @@ by_requests : (shared : Shared) (ledger : LedgerState) (requests : List Request)
     → IsDoubted ledger command
 by_requests shared ledger [] command is e = absurd (cc)
 by_requests shared ledger (request ∷ more) command is e =
-    executed_in_doubt ledger request command (ap (λ l. command_of l request) (sym is) ∙ e)
+    executed_in_doubt owned_standing ledger shared.objects.router request command
+    (ap (λ l. command_of owned_standing l shared.objects.router request) (sym is) ∙ e)
 
 by_parsed : (shared : Shared) (session : Session) (ledger : LedgerState) (x : Parsed) (command : DoubtfulCommand)
     → shared.objects.ledger ≡ Some ledger → executing_parsed shared session x ≡ Some command

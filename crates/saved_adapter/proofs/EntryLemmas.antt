@@ -1,18 +1,19 @@
 -- The entries of an adapter by their index.
-use Rattle.std.proofs.Common.{◌≡◌, ◌⊎◌, inl, inr, ℕ, zero, suc, ◌+◌, ◌-◌, ◌<◌, ◌≤◌, ◌^◌, ◌==◌, ◌&&◌, Bool, true, false, if◌then◌else◌, List, [], ◌∷◌, ◌++◌, length, map, drop, Option, Some, None, option_map, refl, sym, ap, ◌∙◌, arith}
+use Rattle.std.proofs.Common.{◌≡◌, inl, inr, ℕ, zero, suc, ◌+◌, ◌<◌, ◌≤◌, ◌^◌, ◌==◌, Bool, true, false, List, [], ◌∷◌, ◌++◌, length, map, Option, Some, None, option_map, refl, sym, ap, ◌∙◌, arith}
 use Rattle.std.specs.Prelude.{slice_get, is_some}
 use Rattle.std.proofs.lemmas.Option.{slice_get-map, slice_get_past}
-use Rattle.std.proofs.lemmas.Bool.{eqb-true, eqb-false, and_parts}
+use Rattle.std.proofs.lemmas.Bool.{eqb-true, eqb-false}
 use Rattle.std.proofs.lemmas.List.{length-append}
 use Rattle.cip_ledger.specs.Ledger.{LedgerState}
 use Rattle.cip_objects.specs.Contents.{Contents}
+use Rattle.cip_owner.specs.Queue.{QueueState}
 use Rattle.device_state.specs.Saved as device
 use Rattle.enip_keep.specs.Kept.{Kept}
-use Rattle.kept_adapter.specs.Keys.{ledger_key}
-use Rattle.kept_adapter.specs.Saved.{pair_of, saved_objects, saved_ledger, saved_device, first_entries, ledger_bytes, ENTRIES}
+use Rattle.device_state.specs.QueueEntries.{QUEUE_ENTRIES}
+use Rattle.kept_adapter.specs.Saved.{pair_of, saved_objects, saved_ledger, saved_queue, saved_device, first_of}
+use Rattle.kept_adapter.specs.Saved.{first_queue_entries}
 use Rattle.saved_state.specs.States.{Entry}
-use Rattle.saved_state.specs.Writing.{entry_number, head_of}
-use Rattle.saved_state.specs.declared.writing.EntryHead.{EntryHead}
+use Rattle.saved_state.specs.Writing.{entry_number}
 use Rattle.saved_adapter.specs.Entries.{entry_of, entry_in, entries_of, IsCounted}
 
 -- ---- lists
@@ -100,82 +101,98 @@ map_length : (xs : Kept) → length (entries_of xs) ≡ length xs
 map_length [] = refl
 map_length (x ∷ xs) = ap suc (map_length xs)
 
-pub object_entry : (objects : Contents) (ledger : Option LedgerState) (key : ℕ) (bytes : List ℕ) (i : ℕ)
-    → device.entry_in (Some key) bytes ≡ slice_get (values objects) i
-    → entry_in (Some key) bytes ≡ slice_get (entries_of (saved_device objects ledger)) i
-object_entry objects ledger key bytes i e =
+pub object_entry : (objects : Contents) (ledger : Option LedgerState) (queue : Option QueueState) (key : ℕ)
+    (bytes : List ℕ) (i : ℕ) → device.entry_in (Some key) bytes ≡ slice_get (values objects) i
+    → entry_in (Some key) bytes ≡ slice_get (entries_of (saved_device objects ledger queue)) i
+object_entry objects ledger queue key bytes i e =
     let h = value_within key bytes (values objects) i e in
+    let rest = saved_ledger ledger ++ saved_queue queue in
     value_at (Some key) bytes (values objects) i e
-    ∙ sym (ap (λ es. slice_get es i) (split_map (saved_objects objects) (saved_ledger ledger))
-    ∙ get_front (entries_of (saved_objects objects)) (entries_of (saved_ledger ledger)) i
+    ∙ sym (ap (λ es. slice_get es i) (split_map (saved_objects objects) rest)
+    ∙ get_front (entries_of (saved_objects objects)) (entries_of rest) i
     (omega (arith, h, map_length (saved_objects objects))))
 
--- ---- an entry of the ledger
+-- The entry behind the values.
+pub behind_values : (objects : Contents) (ledger : Option LedgerState) (queue : Option QueueState) (i n count : ℕ)
+    → count ≡ length (saved_objects objects) → i ≡ count + n
+    → slice_get (entries_of (saved_device objects ledger queue)) i
+    ≡ slice_get (entries_of (saved_ledger ledger ++ saved_queue queue)) n
+behind_values objects ledger queue i n count c e =
+    let rest = saved_ledger ledger ++ saved_queue queue in
+    ap (λ es. slice_get es i) (split_map (saved_objects objects) rest)
+    ∙ ap (slice_get (entries_of (saved_objects objects) ++ entries_of rest)) e
+    ∙ get_rest (entries_of (saved_objects objects)) (entries_of rest) n count
+    (omega (arith, c, map_length (saved_objects objects)))
 
-first_length : (ledger : LedgerState) (count : ℕ) → length (first_entries ledger count) ≡ count
-first_length ledger zero = refl
-first_length ledger (suc count) =
-    let h = first_length ledger count in
-    let l = length-append (first_entries ledger count) ((ledger_key count, ledger_bytes ledger count) ∷ []) in
+-- ---- a numbered entry
+
+first_length : (key : ℕ → ℕ) (content : ℕ → List ℕ) (count : ℕ) → length (first_of key content count) ≡ count
+first_length key content zero = refl
+first_length key content (suc count) =
+    let h = first_length key content count in
+    let l = length-append (first_of key content count) ((key count, content count) ∷ []) in
     omega (arith, h, l)
 
-first_at : (ledger : LedgerState) (count number : ℕ) → number < count
-    → slice_get (first_entries ledger count) number ≡ Some (ledger_key number, ledger_bytes ledger number)
-first_at ledger zero number h = absurd (omega (arith, h))
-first_at ledger (suc count) number h = go (number == count) (λ below. first_at ledger count number below) refl
+first_at : (key : ℕ → ℕ) (content : ℕ → List ℕ) (count number : ℕ) → number < count
+    → slice_get (first_of key content count) number ≡ Some (key number, content number)
+first_at key content zero number h = absurd (omega (arith, h))
+first_at key content (suc count) number h =
+    go (number == count) (λ below. first_at key content count number below) refl
   where
     go : (is : Bool)
-        → (number < count → slice_get (first_entries ledger count) number ≡ Some (ledger_key number, ledger_bytes ledger number))
-        → (number == count) ≡ is → slice_get (first_entries ledger count ++ (ledger_key count, ledger_bytes ledger count) ∷ []) number
-        ≡ Some (ledger_key number, ledger_bytes ledger number)
+        → (number < count → slice_get (first_of key content count) number ≡ Some (key number, content number))
+        → (number == count) ≡ is → slice_get (first_of key content count ++ (key count, content count) ∷ []) number
+        ≡ Some (key number, content number)
     go true earlier e =
         let same : number ≡ count + 0 = omega (arith, eqb-true number count e) in
         let back : count ≡ number = sym (eqb-true number count e) in
-        ap (slice_get (first_entries ledger count ++ (ledger_key count, ledger_bytes ledger count) ∷ [])) same
-        ∙ get_rest (first_entries ledger count) ((ledger_key count, ledger_bytes ledger count) ∷ []) 0 count
-        (sym (first_length ledger count))
-        ∙ ap (λ n. Some (ledger_key n, ledger_bytes ledger n)) back
+        ap (slice_get (first_of key content count ++ (key count, content count) ∷ [])) same
+        ∙ get_rest (first_of key content count) ((key count, content count) ∷ []) 0 count
+        (sym (first_length key content count))
+        ∙ ap (λ n. Some (key n, content n)) back
     go false earlier e =
         let below : number < count = omega (arith, h, eqb-false number count e) in
-        get_front (first_entries ledger count) ((ledger_key count, ledger_bytes ledger count) ∷ []) number
-        (omega (arith, below, first_length ledger count))
+        get_front (first_of key content count) ((key count, content count) ∷ []) number
+        (omega (arith, below, first_length key content count))
         ∙ earlier below
 
--- The entry behind the values.
-behind : (objects : Contents) (ledger : Option LedgerState) (i n count : ℕ) → count ≡ length (saved_objects objects)
-    → i ≡ count + n
-    → slice_get (entries_of (saved_device objects ledger)) i ≡ slice_get (entries_of (saved_ledger ledger)) n
-behind objects ledger i n count c e =
-    ap (λ es. slice_get es i) (split_map (saved_objects objects) (saved_ledger ledger))
-    ∙ ap (slice_get (entries_of (saved_objects objects) ++ entries_of (saved_ledger ledger))) e
-    ∙ get_rest (entries_of (saved_objects objects)) (entries_of (saved_ledger ledger)) n count
-    (omega (arith, c, map_length (saved_objects objects)))
+pub numbered : (key : ℕ → ℕ) (content : ℕ → List ℕ) (count n k : ℕ) (bytes : List ℕ) → n < count → k ≡ key n
+    → bytes ≡ content n → entry_in (Some k) bytes ≡ slice_get (entries_of (first_of key content count)) n
+numbered key content count n k bytes h is_key is_bytes =
+    ap (λ x. Some (entry_of (x, bytes))) is_key ∙ ap (λ x. Some (entry_of (key n, x))) is_bytes
+    ∙ sym (slice_get-map entry_of (first_of key content count) n
+    ∙ ap (option_map entry_of) (first_at key content count n h))
 
-ledger_at : (ledger : LedgerState) (n : ℕ) → n < ENTRIES
-    → slice_get (entries_of (saved_ledger (Some ledger))) n ≡ Some (entry_of (ledger_key n, ledger_bytes ledger n))
-ledger_at ledger n h =
-    slice_get-map entry_of (first_entries ledger ENTRIES) n ∙ ap (option_map entry_of) (first_at ledger ENTRIES n h)
+pub past_numbered : (key : ℕ → ℕ) (content : ℕ → List ℕ) (count n : ℕ) → count ≤ n
+    → None ≡ slice_get (entries_of (first_of key content count)) n
+past_numbered key content count n h =
+    sym (slice_get_past (entries_of (first_of key content count)) n
+    (omega (arith, h, map_length (first_of key content count), first_length key content count)))
 
-pub ledger_entry : (objects : Contents) (ledger : LedgerState) (i n count key : ℕ) (bytes : List ℕ)
-    → count ≡ length (saved_objects objects) → i ≡ count + n → n ≤ 64 → key ≡ ledger_key n
-    → bytes ≡ ledger_bytes ledger n
-    → entry_in (Some key) bytes ≡ slice_get (entries_of (saved_device objects (Some ledger))) i
-ledger_entry objects ledger i n count key bytes c e h k b =
-    ap (λ x. Some (entry_of (x, bytes))) k ∙ ap (λ x. Some (entry_of (ledger_key n, x))) b
-    ∙ sym (behind objects (Some ledger) i n count c e ∙ ledger_at ledger n (omega (arith, h)))
+-- in front of others, and behind others
+pub numbered_first : (key : ℕ → ℕ) (content : ℕ → List ℕ) (count n k : ℕ) (bytes : List ℕ) (rest : Kept) → n < count
+    → k ≡ key n → bytes ≡ content n
+    → entry_in (Some k) bytes ≡ slice_get (entries_of (first_of key content count ++ rest)) n
+numbered_first key content count n k bytes rest h is_key is_bytes =
+    numbered key content count n k bytes h is_key is_bytes
+    ∙ sym (ap (λ es. slice_get es n) (split_map (first_of key content count) rest)
+    ∙ get_front (entries_of (first_of key content count)) (entries_of rest) n
+    (omega (arith, h, map_length (first_of key content count), first_length key content count)))
 
-pub no_ledger : (objects : Contents) (i n count : ℕ) → count ≡ length (saved_objects objects) → i ≡ count + n
-    → None ≡ slice_get (entries_of (saved_device objects None)) i
-no_ledger objects i n count c e = sym (behind objects None i n count c e)
+pub behind_numbered : (key : ℕ → ℕ) (content : ℕ → List ℕ) (count i n : ℕ) (rest : Kept) → i ≡ count + n
+    → slice_get (entries_of rest) n ≡ slice_get (entries_of (first_of key content count ++ rest)) i
+behind_numbered key content count i n rest e =
+    sym (ap (λ es. slice_get es i) (split_map (first_of key content count) rest)
+    ∙ ap (slice_get (entries_of (first_of key content count) ++ entries_of rest)) e
+    ∙ get_rest (entries_of (first_of key content count)) (entries_of rest) n count
+    (omega (arith, map_length (first_of key content count), first_length key content count)))
 
-pub past_ledger : (objects : Contents) (ledger : Option LedgerState) (i n count : ℕ)
-    → count ≡ length (saved_objects objects) → i ≡ count + n → 64 < n
-    → None ≡ slice_get (entries_of (saved_device objects ledger)) i
-past_ledger objects None i n count c e h = no_ledger objects i n count c e
-past_ledger objects (Some ledger) i n count c e h =
-    sym (behind objects (Some ledger) i n count c e
-    ∙ slice_get_past (entries_of (first_entries ledger ENTRIES)) n
-    (omega (arith, h, map_length (first_entries ledger ENTRIES), first_length ledger ENTRIES)))
+-- an entry of the queue, if there is one
+pub in_queue : {A : Type 0} (now : A → QueueState) (queue : Option A) (q : A) (entry : Option Entry) (n : ℕ)
+    → queue ≡ Some q → entry ≡ slice_get (entries_of (first_queue_entries (now q) QUEUE_ENTRIES)) n
+    → entry ≡ slice_get (entries_of (saved_queue (option_map now queue))) n
+in_queue now queue q entry n is e =
+    e ∙ ap (λ o. slice_get (entries_of (saved_queue (option_map now o))) n) (sym is)
 
 -- ---- the entries as a source
 

@@ -1,12 +1,12 @@
 -- A ledger with a command in doubt, entry by entry.
-use Rattle.std.proofs.Common.{◌≡◌, ℕ, zero, suc, ◌+◌, ◌==◌, Bool, true, false, if◌then◌else◌, Option, Some, None, refl, sym, ap, ◌∙◌, arith}
+use Rattle.std.proofs.Common.{◌≡◌, ℕ, zero, suc, ◌+◌, Bool, true, false, if◌then◌else◌, Some, None, refl, sym, ap, ◌∙◌, arith}
 use Rattle.std.specs.Prelude.{slice_get}
 use Rattle.std.proofs.lemmas.Bool.{eq-eqb, ne_eqb}
 use Rattle.cip_bytes.specs.Numbers.{le}
 use Rattle.cip_ledger.specs.declared.doubt.DoubtfulCommand.{DoubtfulCommand}
 use Rattle.cip_ledger.specs.Doubt.{can_doubt, doubted, with_last}
-use Rattle.cip_ledger.specs.Executing.{doubted_by, doubtful, IsDoubtedAt}
-use Rattle.cip_ledger.specs.Ledger.{SlotState, LedgerState}
+use Rattle.cip_ledger.specs.Executing.{doubted_by, doubtful}
+use Rattle.cip_ledger.specs.Ledger.{LedgerState}
 use Rattle.device_state.specs.Saved.{slot_bytes}
 use Rattle.kept_adapter.specs.Saved.{ledger_bytes, bytes_of_slot}
 use Rattle.saved_adapter.specs.Entries.{IsMarkedAt}

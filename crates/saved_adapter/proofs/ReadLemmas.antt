@@ -1,17 +1,15 @@
 -- A state that is read, and what starts from it.
-use Rattle.std.proofs.Common.{◌≡◌, ◌⊎◌, inl, inr, ℕ, ◌==◌, List, [], ◌∷◌, length, Bool, true, false, Option, Some, None, Result, Ok, Err, IfOk, IfErr, refl, sym, ap, subst, ◌∙◌, arith}
+use Rattle.std.proofs.Common.{◌≡◌, inr, ℕ, ◌==◌, List, [], ◌∷◌, length, true, false, Option, Some, Result, Ok, Err, IfOk, IfErr, refl, sym, ap, subst, ◌∙◌, arith}
 use Rattle.std.specs.Prelude.{◌↔◌}
 use Rattle.std.proofs.lemmas.Bool.{eqb-true, eqb-false}
 use Rattle.cip_ledger.specs.declared.doubt.DoubtfulCommand.{DoubtfulCommand}
 use Rattle.enip_adapter.specs.Calls.{AdapterState}
 use Rattle.enip_keep.specs.Kept.{Kept}
 use Rattle.kept_adapter.specs.declared.adapter_start.AdapterStart.{AdapterStart}
-use Rattle.kept_adapter.specs.Saved.{adapter_keys}
-use Rattle.kept_adapter.specs.Started.{put_back_in, started}
-use Rattle.kept_server.specs.Changes.{rise}
+use Rattle.kept_adapter.specs.Started.{put_back_in}
 use Rattle.saved_state.specs.declared.fault.StateFault.{StateFault}
 use Rattle.saved_state.specs.Reading.{fault_of, state_in, state_of, unless}
-use Rattle.saved_state.specs.States.{Entry, State, IsState, spelled}
+use Rattle.saved_state.specs.States.{State, IsState, spelled}
 use Rattle.saved_state.proofs.SpelledLemmas.{read_again_lem}
 use Rattle.saved_adapter.specs.declared.starting.RestoreFault.{RestoreFault}
 use Rattle.saved_adapter.specs.declared.starting.RestoreFault.TheVariants as fault

@@ -1,11 +1,11 @@
 -- Two lists of entries, compared one by one.
-use Rattle.std.proofs.Common.{◌≡◌, ℕ, zero, suc, ◌+◌, ◌==◌, ◌&&◌, Bool, true, false, List, [], ◌∷◌, ◌++◌, length, map, drop, Option, Some, None, refl, sym, ap, ap₂, ◌∙◌, arith}
+use Rattle.std.proofs.Common.{◌≡◌, ℕ, zero, suc, ◌+◌, ◌==◌, ◌&&◌, Bool, true, false, List, [], ◌∷◌, drop, Option, Some, None, refl, sym, ap, ap₂, ◌∙◌, arith}
 use Rattle.std.specs.Prelude.{slice_get, bytes_eq, ◌↔◌, is_some, not}
 use Rattle.std.proofs.lemmas.Bool.{eqb-true, eq-eqb, and_parts}
 use Rattle.std.proofs.lemmas.Slice.Eq.{bytes_eq-Decides}
 use Rattle.enip_keep.specs.Kept.{Kept}
 use Rattle.saved_state.specs.States.{Entry}
-use Rattle.saved_adapter.specs.Entries.{entry_of, entry_in, entries_of, pair_in, kept_in, are_same}
+use Rattle.saved_adapter.specs.Entries.{entry_of, entry_in, entries_of, kept_in, are_same}
 
 -- ---- one entry more
 

@@ -5,6 +5,7 @@ use Rattle.cip_ledger.specs.declared.doubt.DoubtfulCommand.{DoubtfulCommand}
 use Rattle.cip_ledger.specs.Executing.{doubted_by, IsDoubtedAt}
 use Rattle.cip_ledger.specs.Ledger.{LedgerState}
 use Rattle.cip_objects.specs.Contents.{Contents}
+use Rattle.cip_owner.specs.Queue.{QueueState}
 use Rattle.enip_adapter.specs.Calls.{AdapterState}
 use Rattle.enip_keep.specs.Kept.{Kept}
 use Rattle.kept_adapter.specs.Saved.{saved_device, saved_objects}
@@ -26,12 +27,14 @@ abbrev pub kept_in : List Entry → Kept
 kept_in entries = map pair_in entries
 
 -- The entries of a device whose ledger, if it has one, has this command in doubt, if there is one.
-abbrev pub entries_with : Option DoubtfulCommand → Contents → Option LedgerState → List Entry
-entries_with doubt objects ledger = entries_of (saved_device objects (option_map (doubted_by doubt) ledger))
+abbrev pub entries_with : Option DoubtfulCommand → Contents → Option LedgerState → Option QueueState → List Entry
+entries_with doubt objects ledger queue =
+    entries_of (saved_device objects (option_map (doubted_by doubt) ledger) queue)
 
 abbrev pub entries_in_doubt : Option DoubtfulCommand → AdapterState → List Entry
 entries_in_doubt doubt a =
-    entries_with doubt a.state.shared.objects.router.objects a.state.shared.objects.ledger
+    let device = a.state.shared.objects in
+    entries_with doubt device.router.objects device.ledger device.router.queue
 
 -- An entry, if there is one: its key, and the bytes that were written.
 abbrev pub entry_in : Option ℕ → List ℕ → Option Entry

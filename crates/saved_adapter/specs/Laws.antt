@@ -1,5 +1,5 @@
 -- What holds of an adapter that starts from the state of another run.
-use Rattle.std.specs.Prelude.{◌≡◌, ◌↔◌, ℕ, true, List, Option, Some, None, Ok, option_map}
+use Rattle.std.specs.Prelude.{◌≡◌, ◌↔◌, ℕ, true, List, Option, Some, Ok, option_map}
 use Rattle.cip_ledger.specs.declared.doubt.DoubtfulCommand.{DoubtfulCommand}
 use Rattle.cip_ledger.specs.Doubt.{is_in_doubt}
 use Rattle.cip_ledger.specs.Executing.{doubted_by}
@@ -7,7 +7,6 @@ use Rattle.cip_ledger.specs.Ledger.{LedgerState}
 use Rattle.enip_adapter.specs.Calls.{AdapterState}
 use Rattle.enip_adapter.specs.Device.{with_ledger}
 use Rattle.enip_adapter.specs.Executing.{executing}
-use Rattle.enip_keep.specs.Kept.{Kept}
 use Rattle.kept_adapter.specs.Saved.{saved_adapter}
 use Rattle.saved_state.specs.Reading.{state_of}
 use Rattle.saved_state.specs.States.{Entry, State, IsState, spelled}

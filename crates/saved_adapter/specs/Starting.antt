@@ -1,5 +1,5 @@
 -- An adapter that starts from a saved state.
-use Rattle.std.specs.Prelude.{◌≡◌, ◌⊎◌, ⊤, ℕ, Bool, true, false, not, ◌&&◌, is_some, List, [], ◌∷◌, Option, Some, None, Result, Ok, Err}
+use Rattle.std.specs.Prelude.{◌≡◌, ◌⊎◌, ⊤, ℕ, Bool, true, false, not, is_some, List, Ok, Err}
 use Rattle.cip_bytes.specs.declared.protocol.TheConstants.{IDENTITY}
 use Rattle.device_state.specs.Keys.{key_of}
 use Rattle.enip_adapter.specs.Calls.{AdapterState}
@@ -11,7 +11,7 @@ use Rattle.kept_server.specs.Changes.{rise}
 use Rattle.saved_state.specs.States.{State, kept_under}
 use Rattle.saved_adapter.specs.declared.starting.RestoreFault.{RestoreFault}
 use Rattle.saved_adapter.specs.declared.starting.RestoreFault.TheVariants as fault
-use Rattle.saved_adapter.specs.Entries.{kept_in, last_state, nothing_kept}
+use Rattle.saved_adapter.specs.Entries.{kept_in, last_state}
 
 -- A state that does not say of which device it is.
 abbrev pub is_nameless : State → Bool

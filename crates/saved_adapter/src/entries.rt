@@ -1,15 +1,17 @@
 //! The entries of an adapter.
 
-ghost use Rattle.std.specs.Prelude.{◌≡◌, option_map, slice_get};
+ghost use Rattle.std.specs.Prelude.{◌≡◌, ◌++◌, Some, option_map, slice_get};
 ghost use Rattle.cip_ledger.specs.Executing.{doubted_by};
-ghost use Rattle.saved_adapter.specs.Entries.{entries_in_doubt, entry_in, IsCounted};
+ghost use Rattle.kept_adapter.specs.Saved.{saved_ledger, saved_queue};
+ghost use Rattle.saved_adapter.specs.Entries.{entries_in_doubt, entries_of, entry_in, IsCounted};
 
 use crate::marked::MarkedLedger;
 use cip_ledger::{DoubtfulCommand, Ledger, MOST_ORIGINATORS};
 use cip_objects::{Objects, ReplyBuf};
-use device_state::saved_entry;
+use cip_owner::Queue;
+use device_state::{QUEUE_ENTRIES, saved_entry, write_queue_entry};
 use enip_adapter::Adapter;
-use kept_adapter::ledger_key;
+use kept_adapter::{ledger_key, queue_key};
 use saved_state::{EntryHead, EntrySource};
 use std::marker::Model;
 
@@ -23,12 +25,13 @@ use std::marker::Model;
 pub struct AdapterEntries<'a> {
     objects: &'a Objects,
     ledger: Option<MarkedLedger<'a>>,
-    /// How many entries come before those of the ledger.
+    queue: Option<&'a Queue>,
+    /// How many entries come before those of the ledger and of the queue.
     values: usize,
 }
 
 impl<'a> Model for AdapterEntries<'a> {
-    ghost use Rattle.std.specs.Prelude.{List};
+    ghost use Rattle.std.specs.Prelude.{List, option_map};
     ghost use Rattle.std.specs.Coded.{coded_list};
     ghost use Rattle.kept_adapter.specs.Saved.{saved_device};
     ghost use Rattle.saved_state.specs.States.{Entry, entry_code};
@@ -38,7 +41,7 @@ impl<'a> Model for AdapterEntries<'a> {
 
     ghost coded = { coded_list entry_code };
 
-    ghost view = { λ s. entries_of (saved_device s.objects.now s.ledger) };
+    ghost view = { λ s. entries_of (saved_device s.objects.now s.ledger (option_map (λ q. q.now) s.queue)) };
 
     ghost invariant = { λ s. IsCounted s.objects.now s.values };
 }
@@ -53,6 +56,7 @@ impl<'a> AdapterEntries<'a> {
         AdapterEntries {
             objects,
             ledger: marked(adapter.ledger(), doubt),
+            queue: adapter.queue(),
             values: value_count(objects),
         }
     }
@@ -69,15 +73,47 @@ impl<'a> AdapterEntries<'a> {
             return None;
         }
         let number = index - self.values;
-        if number > usize::from(MOST_ORIGINATORS) {
-            return None;
+        match &self.ledger {
+            Some(ledger) => ledger_or_queue(self.objects, ledger, self.queue, number, bytes),
+            None => queue_entry(self.queue, number, bytes),
         }
-        let Some(ledger) = &self.ledger else {
-            return None;
-        };
-        ledger.write(self.objects, number as u16, bytes);
-        Some(ledger_key(number as u16))
     }
+}
+
+/// The key of the entry of a ledger or behind these of a queue, if there is one, by its index among them, and its bytes,
+/// which are written to `bytes` in place of the old content. `None` past the last entry.
+fn ledger_or_queue(
+    objects: &Objects,
+    ledger: &MarkedLedger<'_>,
+    queue: Option<&Queue>,
+    number: usize,
+    bytes: &mut ReplyBuf,
+) -> Option<u64>
+    ensures { entry_in result bytes.new.items
+        ≡ slice_get (entries_of (saved_ledger (Some ledger.now) ++ saved_queue (option_map (λ q. q.now) queue.entry)))
+        number }
+{
+    let slots = usize::from(MOST_ORIGINATORS) + 1;
+    if number < slots {
+        ledger.write(objects, number as u16, bytes);
+        return Some(ledger_key(number as u16));
+    }
+    queue_entry(queue, number - slots, bytes)
+}
+
+/// The key of an entry of a queue, if there is one, by the entry's number, and its bytes. `None` past the last entry.
+fn queue_entry(queue: Option<&Queue>, number: usize, bytes: &mut ReplyBuf) -> Option<u64>
+    ensures { entry_in result bytes.new.items
+        ≡ slice_get (entries_of (saved_queue (option_map (λ q. q.now) queue.entry))) number }
+{
+    let Some(queue) = queue else {
+        return None;
+    };
+    if number >= usize::from(QUEUE_ENTRIES) {
+        return None;
+    }
+    write_queue_entry(queue, number as u16, bytes);
+    Some(queue_key(number as u16))
 }
 
 impl EntrySource for AdapterEntries<'_> {

@@ -6,6 +6,7 @@ mod deadline;
 mod device;
 mod discovery;
 mod endings;
+mod queued;
 mod rights;
 mod serving;
 mod texts;

@@ -19,6 +19,7 @@ mod manager_shares;
 mod message;
 mod objects;
 mod own_requests;
+mod queued;
 mod route;
 mod texts;
 mod words;

@@ -18,11 +18,15 @@ mod client;
 #[cfg(test)]
 mod commands;
 #[cfg(test)]
+mod eds;
+#[cfg(test)]
 mod keep;
 #[cfg(test)]
 mod layouts;
 #[cfg(test)]
 mod owner_lines;
+#[cfg(test)]
+mod queue_fixtures;
 #[cfg(test)]
 mod server;
 #[cfg(test)]

@@ -18,7 +18,7 @@ fn texts_of_refusals(rt: HostRuntime) -> Result<(), Fail> {
         (OwnerFault::DoubledKey, "an object has a key twice"),
         (
             OwnerFault::NotRequest,
-            "expected an object with one key: done, write, read, status or state",
+            "expected an object with one key: done, answer, write, read, status or state",
         ),
         (
             OwnerFault::NotObject(RequestKey::Done),

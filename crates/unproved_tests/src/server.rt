@@ -2,10 +2,14 @@
 
 mod caller;
 mod evictions;
+mod framed;
 mod held;
 mod kept;
 mod kept_adapter;
 mod owner;
+mod owner_port;
+mod queued;
 mod saved_adapter;
 mod turns;
+mod watched;
 mod wires;

@@ -1,48 +1,10 @@
-//! A command that is about to be executed, and the slot in which it would be in doubt.
-ghost use Rattle.std.specs.Prelude.{◌≡◌};
-ghost use Rattle.cip_ledger.specs.Executing.{executed_by, IsDoubtedAt};
-ghost use Rattle.cip_ledger.specs.Services as services;
-ghost use Rattle.cip_ledger.specs.Services.{do_command};
-ghost use Rattle.cip_ledger.specs.Views.{command_in, request_in};
+//! The slot in which a command that is about to be executed would be in doubt.
+ghost use Rattle.cip_ledger.specs.Executing.{IsDoubtedAt};
 
-use super::{Ledger, Verdict};
+use super::Ledger;
 use crate::doubt::DoubtfulCommand;
-use crate::request::{Command, LedgerRequest};
-use crate::service::DO_ONCE;
 
 impl Ledger {
-    /// The command that a request to the ledger would execute now.
-    #[tactic(auto, unfolding(crate::specs::Services::do_once))]
-    pub(crate) fn executed_by(
-        &self,
-        request: LedgerRequest<'_>,
-        max_size: usize,
-    ) -> Option<DoubtfulCommand>
-        ensures { result ≡ executed_by (services.action_of self.now max_size (request_in request.entry)) }
-    {
-        if request.instance != 1 || request.service != DO_ONCE {
-            return None;
-        }
-        if request.data.len() < Command::SMALLEST {
-            return None;
-        }
-        self.executed_command(Command::read(request.data), max_size)
-    }
-
-    /// The same command, if it would be executed now.
-    fn executed_command(&self, command: Command<'_>, max_size: usize) -> Option<DoubtfulCommand>
-        ensures { result ≡ executed_by (do_command self.now max_size (command_in command.entry)) }
-    {
-        let index = self.position(command.originator);
-        match self.verdict(command, index, max_size) {
-            Verdict::Refuses(_) | Verdict::Repeats(_) | Verdict::Doubts => None,
-            Verdict::Executes => Some(DoubtfulCommand {
-                originator: command.originator,
-                number: command.number,
-            }),
-        }
-    }
-
     /// The index of the slot in which `put_in_doubt` would put a command. `None` if it would not put it in doubt.
     ///
     /// A device that keeps its ledger does so before it executes a command: with this index it writes what the ledger

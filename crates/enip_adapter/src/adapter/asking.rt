@@ -59,7 +59,7 @@ impl Adapter {
     }
 
     /// The command of the ledger that would be executed if these bytes were fed now: that of the frame which they
-    /// complete. `None` if none would. Nothing changes.
+    /// complete. `None` if none would, or if the command would be queued. Nothing changes.
     ///
     /// If `asked` returns a request that a numbered command embeds, this is the command. An owner that keeps the ledger
     /// keeps it with this command in doubt before it executes the request.

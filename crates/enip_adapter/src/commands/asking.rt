@@ -37,7 +37,7 @@ pub(crate) fn asked<'a>(
 }
 
 /// The command of the ledger that would be executed if a peer's whole frame were served. `None` if there is no frame,
-/// or if it has no command that would be executed now.
+/// or if it has no command that would be executed now, or only one that would be queued.
 pub(crate) fn executing(
     shared: &Shared,
     seen: Option<(Session, FrameView<'_>)>,

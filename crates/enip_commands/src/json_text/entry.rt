@@ -7,8 +7,8 @@ ghost use Rattle.enip_commands.specs.Json.{identity_data, identity_members, serv
 ghost use Rattle.serde_json.specs.View.{view, members_view};
 ghost use Rattle.serde_json.specs.Written.{compact_text};
 
-use crate::json_text::latin::latin_text;
 use enip_client::{IdentityView, ServiceView};
+use enip_lines::latin_text;
 use serde_json::{Map, Value, json, put};
 use std::alloc::{AllocError, Global};
 

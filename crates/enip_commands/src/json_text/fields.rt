@@ -4,14 +4,13 @@ ghost use Rattle.std.specs.Prelude.{◌≡◌, ◌≤◌, IfOk, OnOk, map, drop,
 ghost use Rattle.cip_layouts.specs.Layouts.{fields_of, name_of};
 ghost use Rattle.cip_values.specs.Values.{value_in};
 ghost use Rattle.enip_commands.specs.LayoutJson.{IsFieldsLine, IsFieldsObject, AreFieldsJson, AreMembersOf, AddsMember, AddsItems, IsFieldJson};
-ghost use Rattle.enip_commands.specs.Json.{latin};
+ghost use Rattle.enip_lines.specs.JsonValues.{latin};
 ghost use Rattle.serde_json.specs.Data.{put};
 ghost use Rattle.serde_json.specs.View.{view, members_view};
 
-use crate::json_text::latin::latin_text;
-use crate::json_text::value::{json_of, list_of};
 use cip_layouts::{Field, FieldName, Layout, split_values};
 use cip_values::Value;
+use enip_lines::{json_of, latin_text, list_of};
 use serde_json::{Map, Value as Json, json, put};
 use std::alloc::{AllocError, Global};
 

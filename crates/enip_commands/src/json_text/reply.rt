@@ -6,8 +6,8 @@ ghost use Rattle.enip_commands.specs.Json.{data_told, AreValuesJson, IsValuesLin
 ghost use Rattle.serde_json.specs.View.{view};
 ghost use Rattle.serde_json.specs.Written.{compact_text};
 
-use crate::json_text::value::list_of;
 use cip_values::{Value, ValueType};
+use enip_lines::list_of;
 use serde_json::{Value as Json, json};
 use std::alloc::{AllocError, Global};
 

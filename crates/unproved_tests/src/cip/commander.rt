@@ -4,7 +4,8 @@
 use super::counting::{ADD_ONE, objects};
 use cip_commander::{CommandOutcome, CommandRefused, Commander, LONGEST_EMBEDDED};
 use cip_ledger::{Ledger, LedgerRouter};
-use cip_objects::{Objects, ReplyBuf, Router};
+use cip_objects::{ReplyBuf, Router};
+use cip_owner::OwnedObjects;
 use std::alloc::Global;
 use std::process::Abort;
 use std::test::Fail;
@@ -21,10 +22,10 @@ fn commander(last_number: u32) -> Commander {
 }
 
 /// A device of life 7 with one slot, and a counter that is 0.
-fn device(alloc: Global, life: u64) -> Result<LedgerRouter<Objects>, Fail> {
+fn device(alloc: Global, life: u64) -> Result<LedgerRouter<OwnedObjects>, Fail> {
     Ok(LedgerRouter {
         ledger: Some(Ledger::new(alloc, 1, life)?),
-        router: objects(alloc)?,
+        router: OwnedObjects::new(objects(alloc)?),
     })
 }
 
@@ -209,7 +210,7 @@ fn a_commander_is_resumed(rt: HostRuntime) -> Result<(), Fail> {
 /// The device's reply to the pending command, within this limit.
 fn reply_to(
     commander: &Commander,
-    device: &mut LedgerRouter<Objects>,
+    device: &mut LedgerRouter<OwnedObjects>,
     max_size: usize,
 ) -> ReplyBuf {
     let mut reply = ReplyBuf::new();

@@ -3,7 +3,8 @@
 use super::counting::{ADD_ONE, objects};
 use cip_commander::{CommandOutcome, CommandRefused, Commander};
 use cip_ledger::{Ledger, LedgerRouter};
-use cip_objects::{Objects, ReplyBuf, Router};
+use cip_objects::{ReplyBuf, Router};
+use cip_owner::OwnedObjects;
 use kept_commander::{
     CommandEvent, Crash, KeptCommandError, KeptCommander, MemoryKeeper, Sent, live,
 };
@@ -25,10 +26,10 @@ fn client(alloc: Global, crash: Crash) -> Result<KeptCommander<MemoryKeeper>, Fa
 }
 
 /// A device with one slot, and a counter that is 0.
-fn device(alloc: Global) -> Result<LedgerRouter<Objects>, Fail> {
+fn device(alloc: Global) -> Result<LedgerRouter<OwnedObjects>, Fail> {
     Ok(LedgerRouter {
         ledger: Some(Ledger::new(alloc, 1, LIFE)?),
-        router: objects(alloc)?,
+        router: OwnedObjects::new(objects(alloc)?),
     })
 }
 
@@ -60,7 +61,7 @@ fn give(rt: &impl Abort, client: &mut KeptCommander<MemoryKeeper>) -> Result<boo
 fn finish(
     rt: &impl Abort,
     client: &mut KeptCommander<MemoryKeeper>,
-    device: &mut LedgerRouter<Objects>,
+    device: &mut LedgerRouter<OwnedObjects>,
     count: u8,
 ) -> Result<bool, Fail> {
     let wanted = [0xb2, 0, 0, 0, count, 0, 0, 0];

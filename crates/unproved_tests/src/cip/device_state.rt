@@ -1,7 +1,7 @@
 //! The entries of a device, and a device that starts from them. Keys and bytes are written out by hand.
 
 use super::application_objects::objects_with_conveyor;
-use cip_ledger::Ledger;
+use cip_ledger::{KeptCommand, Ledger};
 use cip_objects::{Objects, ReplyBuf};
 use device_state::{Outcome, identity_key, is_same_device, restore, saved_entry};
 use std::alloc::Global;
@@ -38,7 +38,14 @@ fn used_device(rt: &impl Abort, alloc: Global) -> Result<(Objects, Option<Ledger
     assert!(rt; objects.write_attribute(768, 2, 1, 0, b"\x03xyz"));
     assert!(rt; objects.write_attribute(768, 2, 3, 0, b"\xff\xff")); // out of the range of peers
     let mut ledger = Ledger::new(alloc, 2, 0x0102)?;
-    assert!(rt; ledger.restore(9, 5, Some(b"\xb2\x00\x00\x00".as_slice())));
+    assert!(rt;
+        ledger.restore(KeptCommand {
+            originator: 9,
+            number: 5,
+            reply: Some(b"\xb2\x00\x00\x00".as_slice()),
+            ticket: None,
+        })
+    );
     Ok((objects, Some(ledger)))
 }
 

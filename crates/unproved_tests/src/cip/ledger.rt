@@ -9,5 +9,6 @@ mod forget;
 mod get_last;
 mod node;
 mod paths;
+mod queued;
 mod refusals;
 mod slots;

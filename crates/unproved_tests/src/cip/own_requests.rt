@@ -3,6 +3,7 @@
 
 use cip_application::{
     AttributeConfig, AttributeKind, NumberRange, NumberType, ObjectConfig, ServiceConfig,
+    ServiceKind,
 };
 use cip_objects::{Objects, Refusal, ReplyBuf, Router};
 use std::alloc::Global;
@@ -63,12 +64,14 @@ fn objects(alloc: Global) -> Result<Objects, Fail> {
         least: 4,
         most: 4,
         reply: 4,
+        kind: ServiceKind::Asked,
     })?;
     services.push(ServiceConfig {
         number: 0x63,
         least: 0,
         most: 480,
         reply: 480,
+        kind: ServiceKind::Asked,
     })?;
     let mut config = config(alloc)?;
     config.objects.push(ObjectConfig {

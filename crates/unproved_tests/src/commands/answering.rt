@@ -4,7 +4,8 @@ use super::demo::demo_adapter;
 use super::streams::{
     BrokenReader, BrokenWriter, CountingWriter, FullWriter, PieceReader, WatchingReader,
 };
-use enip_commands::{LineFault, ProgramFault, answer};
+use enip_answer::answer;
+use enip_commands::{LineFault, ProgramFault};
 use std::alloc::Global;
 use std::cell::Cell;
 use std::io::{BufWriter, Read, Write};

@@ -93,7 +93,7 @@ fn of_commands_that_are_executed_once(rt: HostRuntime) -> Result<(), Fail> {
     let device = [
         (
             LedgerRefusal::NoSlot,
-            "all slots of the command ledger are taken",
+            "all slots of the command ledger are taken, or its queue of commands is full",
         ),
         (LedgerRefusal::NoLedger, "the device has no command ledger"),
         (

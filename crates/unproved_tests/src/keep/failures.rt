@@ -30,8 +30,8 @@ fn events(alloc: Global) -> Result<Vec<Event<u8, u8>>, Fail> {
 #[test]
 fn answers_leave(rt: HostRuntime) -> Result<(), Fail> {
     let mut server = start(rt.alloc(), MemoryKeeper::new(rt.alloc()))?;
-    server.round(2)?;
-    server.round(3)?;
+    server.round(2, &mut ())?;
+    server.round(3, &mut ())?;
     assert!(rt; server.device().sent() == [42, 45].as_slice());
     server.restart(rt.alloc(), &7)?;
     assert!(rt; server.device().total() == 45 && server.device().sent().is_empty());
@@ -54,15 +54,15 @@ fn check_failed_commit<A: Abort>(rt: &A, alloc: Global, keeps_failed: bool) -> R
     // the load and the commit of the start, and the commit of a round
     keeper.fail_after(3, keeps_failed);
     let mut server = start(alloc, keeper)?;
-    server.round(2)?;
-    assert!(rt; server.round(3) == Err(KeepError::Storage));
+    server.round(2, &mut ())?;
+    assert!(rt; server.round(3, &mut ()) == Err(KeepError::Storage));
     assert!(rt; server.device().sent() == [42].as_slice() && !server.is_serving());
-    assert!(rt; server.round(4) == Err(KeepError::Stopped));
+    assert!(rt; server.round(4, &mut ()) == Err(KeepError::Stopped));
     assert!(rt; server.device().sent() == [42].as_slice());
     server.restart(alloc, &FIRST)?;
     let found = if keeps_failed { 45 } else { 42 };
     assert!(rt; server.device().total() == found && server.is_serving());
-    server.round(1)?;
+    server.round(1, &mut ())?;
     assert!(rt; server.device().sent() == [found + 1].as_slice());
     Ok(())
 }
@@ -113,7 +113,7 @@ fn check_life<A: Abort>(rt: &A, alloc: Global, calls: u64, keeps_failed: bool) -
     keeper.fail_after(2 + calls, keeps_failed);
     let mut server = start(alloc, keeper)?;
     let mut went = Vec::new(alloc);
-    live(alloc, &mut server, events(alloc)?, &mut went)?;
+    live(alloc, &mut server, events(alloc)?, &mut (), &mut went)?;
     assert!(rt; went.len() == 5);
     // the failing call may be one of this start
     if server.restart(alloc, &FIRST).is_err() {

@@ -45,7 +45,7 @@ fn device_starts_again(rt: HostRuntime) -> Result<(), Fail> {
     let alloc = rt.alloc();
     let keeper = Rows::over(alloc, store(alloc, TABLE)?)?;
     let mut server: Server<Tally, Rows<MemStore>> = Server::start(alloc, keeper, &40)?;
-    server.round(2)?;
+    server.round(2, &mut ())?;
     server.restart(alloc, &7)?;
     assert!(rt; server.device().total() == 42);
     Ok(())

@@ -201,18 +201,21 @@ fn hello(rt: HostRuntime) -> Result<(), Fail> {
         product_code: 7,
         serial: 42,
         name: "Demo",
+        life: Some(1_700_000_000_000_000),
         objects: &[conveyor, lamp],
     };
     let line = told(rt.alloc(), write_hello(rt.alloc(), &device))?;
     assert_eq!(rt;
         line.as_str(),
-        "{\"hello\":{\"vendor\":1,\"product_code\":7,\"serial\":42,\"name\":\"Demo\",\"objects\":[\
+        "{\"hello\":{\"vendor\":1,\"product_code\":7,\"serial\":42,\"name\":\"Demo\",\
+         \"life\":1700000000000000,\"objects\":[\
          {\"class\":768,\"instance\":1,\"name\":\"conveyor\",\"attributes\":[\
          {\"attribute\":3,\"name\":\"speed\",\"type\":\"UINT\",\"data\":\"dc05\"},\
          {\"attribute\":4,\"type\":\"SHORT_STRING[32]\",\"data\":\"00\"}]},\
          {\"class\":769,\"instance\":2,\"attributes\":[]}]}}\n"
     );
     let bare = HelloEvent {
+        life: None,
         objects: &[],
         ..device
     };
@@ -248,6 +251,7 @@ fn large_hello(alloc: Global, attributes: usize, bytes: usize) -> Result<String,
         product_code: 7,
         serial: 42,
         name: "Demo",
+        life: None,
         objects: &[object],
     };
     told(alloc, write_hello(alloc, &device))

@@ -27,6 +27,10 @@ fn told(alloc: Global, line: &[u8]) -> Result<String, Fail> {
             let digits = hex::encode(alloc, reply.data())?;
             Ok(format!(in alloc; "done {ticket} {} {digits}", reply.status())?)
         }
+        OwnerRequest::Answer { question, reply } => {
+            let digits = hex::encode(alloc, reply.data())?;
+            Ok(format!(in alloc; "answer {question} {} {digits}", reply.status())?)
+        }
         OwnerRequest::WriteData { attribute, bytes } => {
             let digits = hex::encode(alloc, bytes.as_slice())?;
             Ok(format!(in alloc; "write {} {digits}", shown(alloc, attribute)?)?)
@@ -51,14 +55,15 @@ fn told(alloc: Global, line: &[u8]) -> Result<String, Fail> {
     }
 }
 
-const NOT_REQUEST: &str = "expected an object with one key: done, write, read, status or state";
+const NOT_REQUEST: &str =
+    "expected an object with one key: done, answer, write, read, status or state";
 
 const NOT_HEX: &str = "data: expected a string of hexadecimal digits, two per byte";
 
 const NOT_VALUES: &str = "values: expected a list of numbers, strings, true and false";
 
 /// Lines, and what they say.
-static LINES: [(&str, &str); 84] = [
+static LINES: [(&str, &str); 90] = [
     (
         r#"{"done":{"ticket":7,"status":0,"data":"05"}}"#,
         "done 7 0 05",
@@ -76,6 +81,24 @@ static LINES: [(&str, &str); 84] = [
     ("{\"done\":{\"ticket\":1,\"status\":8}}\r", "done 1 8 "),
     (r#"{"d\u006fne":{"ticket":1,"status":8}}"#, "done 1 8 "),
     (r#"{"done":{"ticket":0,"status":0}}"#, "done 0 0 "),
+    (
+        r#"{"answer":{"question":3,"status":0,"data":"05"}}"#,
+        "answer 3 0 05",
+    ),
+    (
+        r#"{"answer":{"data":"","status":255,"question":4294967295}}"#,
+        "answer 4294967295 255 ",
+    ),
+    (
+        r#"{"answer":{"question":4294967296,"status":0}}"#,
+        "question: number out of range",
+    ),
+    (r#"{"answer":{"status":0}}"#, "missing key: question"),
+    (
+        r#"{"answer":{"ticket":3,"status":0}}"#,
+        "answer: unknown key",
+    ),
+    (r#"{"answer":3}"#, "answer: expected an object"),
     (
         r#"{"write":{"class":4,"instance":100,"attribute":3,"data":"dc05"}}"#,
         "write 4/100/3 dc05",

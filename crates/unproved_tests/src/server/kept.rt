@@ -1,12 +1,18 @@
 //! Peers of a device whose state is kept, over a keeper in memory that can fail.
 
+use super::framed::in_first;
+use super::owner::{MOVE_ALONE, Machine, config_with_machine, moved_alone};
+use super::turns::joined;
 use super::wires::{Call, ScriptedWire};
 use arrayvec::ArrayVec;
 use cip_objects::{Config, Objects};
-use enip_adapter::{Adapter, Limits};
+use cip_owner::{NoOwner, OwnRequest};
+use enip_adapter::{Adapter, Limits, Peer};
 use enip_keep::{Device, Entry, KeepError, MemoryKeeper, Server};
-use enip_server::{EVICTION_SILENCE, NO_IDLE_TIMEOUT};
-use kept_server::{Accepted, KeptDevice, KeptPeers, ReadyWire, RoundInput};
+use enip_server::{
+    EVICTION_SILENCE, FrameWire, Gate, HeldWire, NO_IDLE_TIMEOUT, NoWatcher, Peers, Watcher,
+};
+use kept_server::{Accepted, KeptDevice, KeptPeers, ReadyWire, RoundGuest, RoundInput};
 use std::alloc::{AllocError, Global};
 use std::cell::Cell;
 use std::process::Abort;
@@ -98,7 +104,7 @@ impl KeptDevice for DataKept {
     ghost same_keys = { ? };
 }
 
-type Served<'a> = Server<KeptPeers<ScriptedWire<'a>, DataKept>, MemoryKeeper>;
+type Served<'a> = Server<KeptPeers<ScriptedWire<'a>, DataKept, NoWatcher>, MemoryKeeper>;
 
 /// The input of a round at a time.
 fn input<'a>(
@@ -122,11 +128,8 @@ fn input<'a>(
 }
 
 /// Asserts that these are the data of assembly 100.
-fn assert_data<A: Abort>(rt: &A, server: &Served<'_>, data: [u8; 4]) -> Result<(), Fail> {
-    let found = server
-        .device()
-        .peers()
-        .adapter()
+fn assert_data<A: Abort>(rt: &A, adapter: &Adapter, data: [u8; 4]) -> Result<(), Fail> {
+    let found = adapter
         .objects()
         .attribute(4, 100, 3)
         .ok_or("assembly 100 has data")?;
@@ -149,15 +152,18 @@ fn an_answer_leaves_once_its_change_is_kept(rt: HostRuntime) -> Result<(), Fail>
     ];
     let keeper = MemoryKeeper::new(rt.alloc());
     let mut server: Served<'_> = Server::start(rt.alloc(), keeper, &device)?;
-    server.round(input(0, Some(ScriptedWire::new(&calls, &made)), &[]))?;
+    server.round(
+        input(0, Some(ScriptedWire::new(&calls, &made)), &[]),
+        &mut NoWatcher,
+    )?;
     assert_eq!(rt; made.get(), 2);
-    server.round(input(1, None, &[0]))?;
+    server.round(input(1, None, &[0]), &mut NoWatcher)?;
     assert_eq!(rt; made.get(), 4);
     let end = server.device().last_round();
     assert_eq!(rt; (end.ended, end.ready, end.next), (0, false, None));
     // a start finds what the answer reported, and no peer
     server.restart(rt.alloc(), &device)?;
-    assert_data(&rt, &server, [7, 8, 9, 10])?;
+    assert_data(&rt, server.device().peers().adapter(), [7, 8, 9, 10])?;
     assert_eq!(rt; server.device().peers().first_free(), Some(0));
     Ok(())
 }
@@ -179,15 +185,208 @@ fn no_answer_leaves_if_the_commit_fails(rt: HostRuntime) -> Result<(), Fail> {
         // the load and the commit of the start succeed; a round without a change commits nothing
         keeper.fail_after(2, keeps_failed);
         let mut server: Served<'_> = Server::start(rt.alloc(), keeper, &device)?;
-        server.round(input(0, Some(ScriptedWire::new(&calls, &made)), &[]))?;
-        assert_eq!(rt; server.round(input(1, None, &[0])), Err(KeepError::Storage));
+        server.round(
+            input(0, Some(ScriptedWire::new(&calls, &made)), &[]),
+            &mut NoWatcher,
+        )?;
+        assert_eq!(rt;
+            server.round(input(1, None, &[0]), &mut NoWatcher),
+            Err(KeepError::Storage)
+        );
         assert_eq!(rt; made.get(), 3);
         // nothing is served any more
-        assert_eq!(rt; server.round(input(2, None, &[0])), Err(KeepError::Stopped));
+        assert_eq!(rt;
+            server.round(input(2, None, &[0]), &mut NoWatcher),
+            Err(KeepError::Stopped)
+        );
         assert_eq!(rt; made.get(), 3);
         server.restart(rt.alloc(), &device)?;
         assert_eq!(rt; made.get(), 3);
-        assert_data(&rt, &server, data)?;
+        assert_data(&rt, server.device().peers().adapter(), data)?;
+    }
+    Ok(())
+}
+
+/// A guest that writes the data of assembly 100 at the beginning of each round, and counts the frames that it sees.
+#[derive(Drop)]
+struct Writer {
+    data: [u8; 4],
+    frames: u32,
+}
+
+impl<'a> Watcher<HeldWire<ScriptedWire<'a>>> for Writer {
+    ghost use Rattle.std.specs.Prelude.{⊤};
+
+    ghost has_seen = { λ writer device. ⊤ };
+
+    fn served(&mut self, _wire: &HeldWire<ScriptedWire<'a>>, _adapter: &Adapter) {
+        self.frames += 1;
+    }
+}
+
+impl<'a> RoundGuest<ScriptedWire<'a>> for Writer {
+    ghost use Rattle.std.specs.Prelude.{⊤};
+
+    type RoundOwner = NoOwner;
+
+    ghost begins = { λ now writer before next after owner. ⊤ };
+
+    ghost admits = { λ now writer before next after. ⊤ };
+
+    fn begin_round(&mut self, _now: u64, peers: &mut Peers<HeldWire<ScriptedWire<'a>>>) -> NoOwner {
+        peers.write_data(100, 0, self.data.as_slice());
+        NoOwner
+    }
+
+    fn admit_frames(&mut self, _now: u64, _peers: &mut Peers<HeldWire<ScriptedWire<'a>>>) {}
+}
+
+#[test]
+fn what_a_guest_writes_is_kept(rt: HostRuntime) -> Result<(), Fail> {
+    let device = DataKept {
+        config: config(rt.alloc())?,
+        peers: LIMITS.peers,
+    };
+    let made = Cell::new(0);
+    let calls = [Call::GivesAll(REGISTER), Call::Takes(REGISTERED, 28)];
+    let mut keeper = MemoryKeeper::new(rt.alloc());
+    // the load and the commit of the start, and the commit of the first round
+    keeper.fail_after(3, false);
+    let mut server: Server<KeptPeers<ScriptedWire<'_>, DataKept, Writer>, MemoryKeeper> =
+        Server::start(rt.alloc(), keeper, &device)?;
+    let mut guest = Writer {
+        data: [1, 2, 3, 4],
+        frames: 0,
+    };
+    let first = input(0, Some(ScriptedWire::new(&calls, &made)), &[]);
+    server.round(first, &mut guest)?;
+    assert_eq!(rt; (made.get(), guest.frames), (2, 1));
+    guest.data = [5, 6, 7, 8];
+    assert_eq!(rt;
+        server.round(input(1, None, &[]), &mut guest),
+        Err(KeepError::Storage)
+    );
+    server.restart(rt.alloc(), &device)?;
+    assert_data(&rt, server.device().peers().adapter(), [1, 2, 3, 4])
+}
+
+/// A wire whose frames wait until they are admitted.
+type GatedScript<'a> = FrameWire<ScriptedWire<'a>>;
+
+/// A guest that writes the number of the round, and admits requests to the owner while it is open. The owner of each round
+/// is a machine that has not moved.
+#[derive(Drop)]
+struct Clerk {
+    round: u8,
+    is_open: bool,
+    shown: u32,
+}
+
+impl<'a> Watcher<HeldWire<GatedScript<'a>>> for Clerk {
+    ghost use Rattle.std.specs.Prelude.{⊤};
+
+    ghost has_seen = { λ clerk device. ⊤ };
+
+    fn served(&mut self, _wire: &HeldWire<GatedScript<'a>>, _adapter: &Adapter) {}
+}
+
+impl<W> Gate<W> for Clerk {
+    ghost use Rattle.std.specs.Prelude.{⊤};
+
+    ghost shows = { λ clerk peer wire asked numbered admitted after. ⊤ };
+
+    fn admits(
+        &mut self,
+        _peer: Peer,
+        _wire: &W,
+        _request: &OwnRequest<'_>,
+        _is_numbered: bool,
+    ) -> bool {
+        self.shown += 1;
+        self.is_open
+    }
+}
+
+impl<'a> RoundGuest<GatedScript<'a>> for Clerk {
+    ghost use Rattle.std.specs.Prelude.{⊤};
+
+    type RoundOwner = Machine;
+
+    ghost begins = { λ now clerk before next after owner. ⊤ };
+
+    ghost admits = { λ now clerk before next after. ⊤ };
+
+    fn begin_round(&mut self, _now: u64, peers: &mut Peers<HeldWire<GatedScript<'a>>>) -> Machine {
+        self.round += 1;
+        peers.write_data(100, 0, &[self.round; 4]);
+        Machine::new()
+    }
+
+    fn admit_frames(&mut self, now: u64, peers: &mut Peers<HeldWire<GatedScript<'a>>>) {
+        peers.admit_frames(now, self);
+    }
+}
+
+#[test]
+fn a_request_that_waits_is_answered_once_it_is_kept(rt: HostRuntime) -> Result<(), Fail> {
+    let ask = in_first(MOVE_ALONE);
+    let moved = in_first(&moved_alone(3));
+    let read = joined(rt.alloc(), &[REGISTER, &ask])?;
+    let calls = [
+        Call::GivesAll(read.as_slice()),
+        Call::Takes(REGISTERED, 28),
+        Call::Takes(&moved[..48], 48),
+        Call::Later,
+    ];
+    let device = DataKept {
+        config: config_with_machine(rt.alloc())?,
+        peers: LIMITS.peers,
+    };
+    // the round whose commit fails, if one does; the load and the commit of the start come before
+    for fails in [None, Some(5u8)] {
+        let made = Cell::new(0);
+        let mut keeper = MemoryKeeper::new(rt.alloc());
+        if let Some(round) = fails {
+            keeper.fail_after(1 + u64::from(round), false);
+        }
+        let mut server: Server<KeptPeers<GatedScript<'_>, DataKept, Clerk>, MemoryKeeper> =
+            Server::start(rt.alloc(), keeper, &device)?;
+        let mut clerk = Clerk {
+            round: 0,
+            is_open: false,
+            shown: 0,
+        };
+        let mut accepted = Some(Accepted::writer(FrameWire::new(
+            ScriptedWire::new(&calls, &made),
+            true,
+        )));
+        // for each round whether the gate is open, how often it was shown a request, the calls made, and whether a wire may
+        // be ready
+        for (is_open, shown, by_then, ready) in [
+            (true, 0, 1, true),
+            (true, 0, 2, true),
+            (false, 1, 2, false),
+            (true, 2, 2, true),
+            (true, 2, 3, true),
+            (true, 2, 4, false),
+        ] {
+            clerk.is_open = is_open;
+            let input = RoundInput {
+                now: 1,
+                accepted: accepted.take(),
+                ready: ArrayVec::new(),
+                room_for: None,
+            };
+            let outcome = server.round(input, &mut clerk);
+            if fails == Some(clerk.round) {
+                assert_eq!(rt; outcome, Err(KeepError::Storage));
+                assert_eq!(rt; made.get(), 2);
+                break;
+            }
+            assert_eq!(rt; outcome, Ok(()));
+            assert_eq!(rt; (clerk.shown, made.get()), (shown, by_then));
+            assert_eq!(rt; server.device().last_round().ready, ready);
+        }
     }
     Ok(())
 }
@@ -216,18 +415,21 @@ fn a_value_that_is_not_used_stays_until_it_is_written(rt: HostRuntime) -> Result
     ];
     // data of three bytes are not used, and nothing takes their place
     let found = data_entry(alloc, &[1, 2, 3])?;
-    let mut peers: KeptPeers<ScriptedWire<'_>, DataKept> = KeptPeers::start(
+    let mut peers: KeptPeers<ScriptedWire<'_>, DataKept, NoWatcher> = KeptPeers::start(
         alloc,
         &device,
         &[found],
     )?;
     assert_eq!(rt; peers.changes().len(), 0);
     peers.release();
-    peers.serve(input(0, Some(ScriptedWire::new(&calls, &made)), &[]))?;
+    peers.serve(
+        input(0, Some(ScriptedWire::new(&calls, &made)), &[]),
+        &mut NoWatcher,
+    )?;
     assert_eq!(rt; peers.changes().len(), 0);
     peers.release();
     // a set does
-    peers.serve(input(1, None, &[0]))?;
+    peers.serve(input(1, None, &[0]), &mut NoWatcher)?;
     assert_eq!(rt; peers.changes().len(), 1);
     assert_eq!(rt;
         peers.changes()[0].bytes.as_slice(),
@@ -237,7 +439,11 @@ fn a_value_that_is_not_used_stays_until_it_is_written(rt: HostRuntime) -> Result
     assert_eq!(rt; peers.changes().len(), 0);
     // data of four bytes are used, and kept again at the start
     let found = data_entry(alloc, &[1, 2, 3, 4])?;
-    let peers: KeptPeers<ScriptedWire<'_>, DataKept> = KeptPeers::start(alloc, &device, &[found])?;
+    let peers: KeptPeers<ScriptedWire<'_>, DataKept, NoWatcher> = KeptPeers::start(
+        alloc,
+        &device,
+        &[found],
+    )?;
     assert_eq!(rt; peers.changes().len(), 1);
     Ok(())
 }
@@ -252,7 +458,10 @@ fn room_is_made_at_the_end_of_a_round(rt: HostRuntime) -> Result<(), Fail> {
     let calls = [Call::Later];
     let keeper = MemoryKeeper::new(rt.alloc());
     let mut server: Served<'_> = Server::start(rt.alloc(), keeper, &device)?;
-    server.round(input(0, Some(ScriptedWire::new(&calls, &made[0])), &[]))?;
+    server.round(
+        input(0, Some(ScriptedWire::new(&calls, &made[0])), &[]),
+        &mut NoWatcher,
+    )?;
     for (now, room_for, ended) in [
         (EVICTION_SILENCE, None, 0),
         (EVICTION_SILENCE - 1, Some(7), 0),
@@ -261,7 +470,7 @@ fn room_is_made_at_the_end_of_a_round(rt: HostRuntime) -> Result<(), Fail> {
     ] {
         let mut asked = input(now, None, &[]);
         asked.room_for = room_for;
-        server.round(asked)?;
+        server.round(asked, &mut NoWatcher)?;
         let end = server.device().last_round();
         assert_eq!(rt;
             (end.ended, end.ready, end.next),
@@ -272,7 +481,7 @@ fn room_is_made_at_the_end_of_a_round(rt: HostRuntime) -> Result<(), Fail> {
     assert_eq!(rt; server.device().peers().first_free(), Some(0));
     // the client is accepted in the next round
     let client = ScriptedWire::new(&calls, &made[1]);
-    server.round(input(EVICTION_SILENCE, Some(client), &[]))?;
+    server.round(input(EVICTION_SILENCE, Some(client), &[]), &mut NoWatcher)?;
     assert_eq!(rt; server.device().peers().first_free(), None);
     assert_eq!(rt; (made[0].get(), made[1].get()), (1, 1));
     Ok(())

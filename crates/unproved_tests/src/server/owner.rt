@@ -2,8 +2,8 @@
 
 use super::turns::{OPENED, joined};
 use super::wires::{Call, ScriptedWire};
-use cip_application::{AttributeConfig, AttributeKind, ObjectConfig, ServiceConfig};
-use cip_objects::Objects;
+use cip_application::{AttributeConfig, AttributeKind, ObjectConfig, ServiceConfig, ServiceKind};
+use cip_objects::{Config, Objects};
 use cip_owner::{OwnRequest, Owner, OwnerReply};
 use enip_adapter::Adapter;
 use enip_server::{NO_IDLE_TIMEOUT, Peers, RoundEnd, Wire};
@@ -18,14 +18,14 @@ const MACHINE: u8 = 0x70;
 
 /// The machine: how far it has moved, and how often it was asked.
 #[derive(Drop)]
-struct Machine {
-    moved: u8,
-    moves: u32,
+pub(super) struct Machine {
+    pub(super) moved: u8,
+    pub(super) moves: u32,
     sets: u32,
 }
 
 impl Machine {
-    fn new() -> Machine {
+    pub(super) fn new() -> Machine {
         Machine {
             moved: 0,
             moves: 0,
@@ -52,8 +52,8 @@ impl Owner for Machine {
     }
 }
 
-/// The demo device with the machine.
-fn adapter_with_machine(alloc: Global) -> Result<Adapter, Fail> {
+/// The configuration of the demo device with the machine.
+pub(super) fn config_with_machine(alloc: Global) -> Result<Config, Fail> {
     let mut attributes = Vec::new(alloc);
     attributes.push(AttributeConfig {
         number: 1,
@@ -71,6 +71,7 @@ fn adapter_with_machine(alloc: Global) -> Result<Adapter, Fail> {
         least: 4,
         most: 4,
         reply: 4,
+        kind: ServiceKind::Asked,
     })?;
     let mut config = config(alloc)?;
     config.objects.push(ObjectConfig {
@@ -80,6 +81,12 @@ fn adapter_with_machine(alloc: Global) -> Result<Adapter, Fail> {
         attributes,
         services,
     })?;
+    Ok(config)
+}
+
+/// The demo device with the machine.
+pub(super) fn adapter_with_machine(alloc: Global) -> Result<Adapter, Fail> {
+    let config = config_with_machine(alloc)?;
     let objects = Objects::new(alloc, &config)
         .ok()
         .ok_or("the objects are made")?;
@@ -111,11 +118,12 @@ fn moved_item(count: u8, moved: u8) -> [u8; 54] {
 }
 
 /// The same without a connection, by 3 in session 2.
-const MOVE_ALONE: &[u8] = b"\x6f\0\x1a\0\x02\0\0\0\0\0\0\0\x01\x02\x03\x04\x05\x06\x07\x08\0\0\0\0\
+pub(super) const MOVE_ALONE: &[u8] =
+    b"\x6f\0\x1a\0\x02\0\0\0\0\0\0\0\x01\x02\x03\x04\x05\x06\x07\x08\0\0\0\0\
     \0\0\0\0\0\0\x02\0\0\0\0\0\xb2\0\x0a\0\x32\x02\x20\x70\x24\x01\x03\0\0\0";
 
 /// The answer to it if the machine has moved by `moved`.
-fn moved_alone(moved: u8) -> [u8; 48] {
+pub(super) fn moved_alone(moved: u8) -> [u8; 48] {
     let mut frame = [0; 48];
     frame.copy_from_slice(
         b"\x6f\0\x18\0\x02\0\0\0\0\0\0\0\x01\x02\x03\x04\x05\x06\x07\x08\0\0\0\0\
@@ -149,7 +157,7 @@ fn replied(service: u8, status: u8) -> [u8; 44] {
 }
 
 /// The answer to a RegisterSession of the second peer.
-fn registered_second() -> [u8; 28] {
+pub(super) fn registered_second() -> [u8; 28] {
     let mut frame = [0; 28];
     frame.copy_from_slice(REGISTERED);
     frame[4] = 2;

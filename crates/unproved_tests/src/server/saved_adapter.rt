@@ -27,6 +27,7 @@ fn start_in(alloc: Global, life: u64) -> Result<AdapterStart, Fail> {
             originators: 2,
             life,
         }),
+        queue: None,
         begins_life: false,
         listen: LISTEN,
         limits: LIMITS,

@@ -9,13 +9,14 @@ use Rattle.cip_commander.proofs.Logged.{IsExecuted, after-logged, once}
 use Rattle.cip_commander.proofs.laws.accepted_is_executed_once.Goals as goal
 
 pub returns : goal.returns
-returns g c = λ opening events range others.
+returns g c = λ opening events final range others.
     let after = g.R.Router.after in
     let answer = g.R.Router.answer in
-    let world = world_after after answer opening events in
-    let logged = after-logged after answer opening events in
-    let One : ℕ × List ℕ → Type 0 = λ a. IsExecuted after answer opening world.log a.0 a.1 in
-    let Once : ℕ × List ℕ → Type 0 = λ a. IsExecutedOnce after answer opening world.log a.0 a.1 in
+    let standing = g.R.Target.standing in
+    let world = world_after after answer standing opening events in
+    let logged = after-logged after answer standing opening events in
+    let One : ℕ × List ℕ → Type 0 = λ a. IsExecuted after answer standing opening world.log a.0 a.1 in
+    let Once : ℕ × List ℕ → Type 0 = λ a. IsExecutedOnce after answer standing opening world.log a.0 a.1 in
     subst (AllByRecursion Once)
-    (sym (ap (λ (seen : Seen _). seen.accepted) (worlds-agree after answer opening range events others)))
-    (all_map One Once world.accepted (λ a is. once after answer opening world.log a.0 a.1 logged.rises is) logged.accepted)
+    (sym (ap (λ (seen : Seen _). seen.accepted) (worlds-agree after answer standing opening range events final others)))
+    (all_map One Once world.accepted (λ a is. once after answer standing opening world.log a.0 a.1 logged.rises is) logged.accepted)

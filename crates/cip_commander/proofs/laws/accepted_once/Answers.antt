@@ -6,10 +6,11 @@ use Rattle.cip_commander.proofs.Numbered.{after-numbered}
 use Rattle.cip_commander.proofs.laws.accepted_once.Goals as goal
 
 pub returns : goal.returns
-returns g c = λ opening events range others.
+returns g c = λ opening events final range others.
     let after = g.R.Router.after in
     let answer = g.R.Router.answer in
+    let standing = g.R.Target.standing in
     let P : List (ℕ × List ℕ) → Type 0 = λ accepted. Rises (map (λ (a : ℕ × List ℕ). a.0) accepted) in
     subst P
-    (sym (ap (λ (seen : Seen _). seen.accepted) (worlds-agree after answer opening range events others)))
-    (after-numbered after answer opening events).rises
+    (sym (ap (λ (seen : Seen _). seen.accepted) (worlds-agree after answer standing opening range events final others)))
+    (after-numbered after answer standing opening events).rises

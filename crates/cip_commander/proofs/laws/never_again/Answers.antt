@@ -8,13 +8,14 @@ use Rattle.cip_commander.proofs.Logged.{IsExecuted, after-logged, grows_above}
 use Rattle.cip_commander.proofs.laws.never_again.Goals as goal
 
 pub returns : goal.returns
-returns g c = λ opening events later position number reply range others is.
+returns g c = λ opening events later position number reply final range others is.
     let after = g.R.Router.after in
     let answer = g.R.Router.answer in
-    let world = world_after after answer opening events in
-    let agree = ap (λ (seen : Seen _). seen.accepted) (worlds-agree after answer opening range events others) in
+    let standing = g.R.Target.standing in
+    let world = world_after after answer standing opening events in
+    let agree = ap (λ (seen : Seen _). seen.accepted) (worlds-agree after answer standing opening range events final others) in
     let found : slice_get world.accepted position ≡ Some (number, reply) =
     ap (λ accepted. slice_get accepted position) (sym agree) ∙ is in
-    let One : ℕ × List ℕ → Type 0 = λ a. IsExecuted after answer opening world.log a.0 a.1 in
-    grows_above after answer opening events later number reply
-    (all_at One world.accepted position (number, reply) (after-logged after answer opening events).accepted found)
+    let One : ℕ × List ℕ → Type 0 = λ a. IsExecuted after answer standing opening world.log a.0 a.1 in
+    grows_above after answer standing opening events later number reply
+    (all_at One world.accepted position (number, reply) (after-logged after answer standing opening events).accepted found)

@@ -6,4 +6,4 @@ use Rattle.cip_ledger.proofs.laws.only_in_its_life.Goals as goal
 
 pub returns : goal.returns
 returns g c = λ node ledger requests is.
-    journal-life g.R.Router.after g.R.Router.answer requests node ledger.life (ap (option_map (λ (l : LedgerState). l.life)) is)
+    journal-life g.R.Router.after g.R.Router.answer g.R.Target.standing requests node ledger.life (ap (option_map (λ (l : LedgerState). l.life)) is)

@@ -1,8 +1,9 @@
 use Rattle.std.proofs.Common.{ap, ◌∙◌}
 use Rattle.enip_adapter.specs.Adapter.{new_adapter}
 use Rattle.enip_config.specs.declared.configuration.Configuration.{Configuration}
-use Rattle.cip_ledger.specs.Device.{device_of}
-use Rattle.configured_adapter.specs.Configured.{ledger_from, listen_of, limits_of}
+use Rattle.cip_ledger.specs.Device.{queued_device}
+use Rattle.configured_adapter.specs.Configured.{ledger_from, queue_from, listen_of, limits_of}
+use Rattle.enip_config.specs.Commands.{queue_limit}
 use Rattle.configured_adapter.proofs.ObjectLemmas.{objects_fail}
 use Rattle.configured_adapter.proofs.adapter.unshared_adapter_from.Goals as goal
 
@@ -20,6 +21,6 @@ returns-clause-made c =
       c0,
       (
         c.in_ok-configuration.ensures.read,
-        c.in_ok-adapter.ensures ∙ ap (λ objects. new_adapter (device_of (ledger_from c0.ledger) objects) (listen_of c0) (limits_of c0)) c.in_ok-objects.ensures.made,
+        c.in_ok-adapter.ensures ∙ ap (λ objects. new_adapter (queued_device (ledger_from c0.ledger) objects (queue_from (queue_limit c0))) (listen_of c0) (limits_of c0)) c.in_ok-objects.ensures.made,
       ),
     )

@@ -3,7 +3,7 @@ use Rattle.std.proofs.KnownBytes.{Appends-trans}
 use Rattle.std.specs.Io.KnownBytes.{Appends}
 use Rattle.std.specs.List.{flat_map}
 use Rattle.enip_client.specs.Lists.{entries_left, entry_shown}
-use Rattle.enip_commands.specs.Lines.{with_newline}
+use Rattle.enip_lines.specs.Lines.{with_newline}
 use Rattle.enip_commands.specs.Listing.{entry_lines, further, list_text}
 use Rattle.enip_commands.proofs.ListingLemmas.{printed_none, printed_more, printed_all}
 use Rattle.enip_commands.proofs.listing.print_entries.Goals as goal

@@ -1,5 +1,5 @@
 use Rattle.std.specs.Prelude.{⊤}
-use Rattle.enip_commands.proofs.InputLemmas.{never_refused}
+use Rattle.enip_lines.proofs.InputLemmas.{never_refused}
 use Rattle.enip_commands.proofs.showing.show_frames.Goals as goal
 
 pub returns : goal.returns

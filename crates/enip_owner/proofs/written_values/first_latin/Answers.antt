@@ -1,5 +1,5 @@
 use Rattle.std.proofs.Common.{◌≡◌, ◌<◌, ◌≤◌, length, get_or, false, rules, sym, ◌∙◌, arith}
-use Rattle.enip_commands.proofs.InputLemmas.{bytes_from}
+use Rattle.enip_lines.proofs.InputLemmas.{bytes_from}
 use Rattle.enip_owner.specs.Values.{is_pair}
 use Rattle.enip_owner.proofs.ValueLemmas.{first_short, first_pair, first_alone, first_wide}
 use Rattle.enip_owner.proofs.written_values.first_latin.Goals as goal

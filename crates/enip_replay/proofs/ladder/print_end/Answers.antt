@@ -2,7 +2,7 @@ use Rattle.std.proofs.Common.{◌++◌, subst}
 use Rattle.std.proofs.KnownBytes.{Appends-trans}
 use Rattle.std.specs.Io.KnownBytes.{Appends}
 use Rattle.enip_bench.specs.FrameLaw.{ShowsNumbers}
-use Rattle.enip_commands.specs.Lines.{with_newline}
+use Rattle.enip_lines.specs.Lines.{with_newline}
 use Rattle.enip_replay.specs.Drawing.{same_line}
 use Rattle.enip_replay.specs.Outcome.{final_line}
 use Rattle.enip_replay.specs.Replay.{ending, objects_printed}

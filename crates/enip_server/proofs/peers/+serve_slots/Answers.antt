@@ -8,3 +8,6 @@ returns-clause-served g t c =
     c.serve_slot-ended.new.owner c.serve_slots.new.owner c.serve_slot-ended.new.adapter c.serve_slots.new.adapter
     c.serve_slot-ended.new.slot c.serve_slots.new.places c.in-Some.ensures.cases.0
     c.serve_slot-ended.ensures.served c.serve_slots.ensures.served
+
+pub returns-clause-watched : goal.returns-clause-watched
+returns-clause-watched g t c = λ seen. c.serve_slots.ensures.watched (c.serve_slot-ended.ensures.watched seen)

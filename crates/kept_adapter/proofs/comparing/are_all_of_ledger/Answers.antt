@@ -1,8 +1,7 @@
 use Rattle.std.proofs.Common.{◌≡◌, ◌<◌, sym, arith, length}
 use Rattle.kept_adapter.specs.Keys.{ledger_key}
 use Rattle.kept_adapter.specs.Saved.{ENTRIES, ledger_bytes}
-use Rattle.std.proofs.Common.{refl}
-use Rattle.kept_adapter.proofs.CompareLemmas.{false_is, ledger_differs, ledger_goes_on, not_both}
+use Rattle.kept_adapter.proofs.CompareLemmas.{false_is, numbered_differ, numbered_go_on, not_both}
 use Rattle.kept_adapter.proofs.comparing.are_all_of_ledger.Goals as goal
 
 pub returns-then-not-is_of_ledger : goal.returns-then-not-is_of_ledger
@@ -13,9 +12,9 @@ returns-then-not-is_of_ledger c =
     let below : number < ENTRIES = omega (arith, c.loop-number-test.true, c.loop-number.auto.number-end) in
     let less : index < length c.args.entries.now = omega (arith, here, below, c.if-entries-from.false, c.from.ensures) in (
       false_is _,
-      λ same. absurd (ledger_differs c.args.entries.now c.args.ledger.now ENTRIES number index (ledger_key number)
-          c.index-entries-from.result (ledger_bytes c.args.ledger.now number) here less (sym c.index-entries-from.is) below
-          refl refl (λ is. not_both c.is_of_ledger.result c.if-not-is_of_ledger.true (c.is_of_ledger.ensures.1 is)) same),
+      λ same. absurd (numbered_differ c.args.entries.now ledger_key (ledger_bytes c.args.ledger.now) ENTRIES number index
+          c.index-entries-from.result here less (sym c.index-entries-from.is) below
+          (λ is. not_both c.is_of_ledger.result c.if-not-is_of_ledger.true (c.is_of_ledger.ensures.1 is)) same),
     )
 
 pub loop-number-preserved : goal.loop-number-preserved
@@ -25,6 +24,5 @@ loop-number-preserved c =
     let here : index ≡ number = c.from-in-loop-number.ensures in
     let below : number < ENTRIES = omega (arith, c.loop-number-test.true, c.loop-number.auto.number-end) in
     let less : index < length c.args.entries.now = omega (arith, here, below, c.if-entries-from.false, c.from.ensures) in
-    ledger_goes_on c.args.entries.now c.args.ledger.now number index (ledger_key number) c.index-entries-from.result
-    (ledger_bytes c.args.ledger.now number) here less (sym c.index-entries-from.is) refl refl
-    (c.is_of_ledger.ensures.0 c.if-not-is_of_ledger.false) c.loop-number.invariant
+    numbered_go_on c.args.entries.now ledger_key (ledger_bytes c.args.ledger.now) number index c.index-entries-from.result
+    here less (sym c.index-entries-from.is) (c.is_of_ledger.ensures.0 c.if-not-is_of_ledger.false) c.loop-number.invariant

@@ -1,4 +1,4 @@
-use Rattle.std.proofs.Common.{inl, not, sym, ap, subst, ◌∙◌}
+use Rattle.std.proofs.Common.{ap, subst, ◌∙◌}
 use Rattle.enip_keep.specs.Kept.{pairs_of}
 use Rattle.saved_adapter.specs.Entries.{kept_in}
 use Rattle.saved_adapter.specs.Starting.{IsFaultWith, IsStartedWith, IsStateFault}

@@ -5,7 +5,7 @@ use super::node::{
     node, once,
 };
 use cip_ledger::{DoubtfulCommand, Ledger, LedgerRouter};
-use cip_objects::Objects;
+use cip_owner::OwnedObjects;
 use std::process::Abort;
 use std::test::Fail;
 
@@ -25,7 +25,7 @@ const DONE: &[u8] = b"\xcb\x00\x00\x00\x00\xb2\x00\x00\x00\x2a\x00\x00\x00";
 const LAST_DONE: &[u8] = b"\xcc\x00\x00\x00\x04\x00\x00\x00\x00\xb2\x00\x00\x00\x2a\x00\x00\x00";
 
 /// The ledger of a device.
-fn ledger<'a>(node: &'a mut LedgerRouter<Objects>) -> Result<&'a mut Ledger, Fail> {
+fn ledger<'a>(node: &'a mut LedgerRouter<OwnedObjects>) -> Result<&'a mut Ledger, Fail> {
     let ledger = node.ledger.as_mut().ok_or("a ledger")?;
     Ok(ledger)
 }

@@ -4,6 +4,7 @@ use arrayvec::ArrayVec;
 use cip_bytes::append;
 use cip_ledger::{Ledger, LedgerRouter};
 use cip_objects::{AssemblyConfig, Config, CounterConfig, Objects, ReplyBuf, Router};
+use cip_owner::OwnedObjects;
 use std::alloc::Global;
 use std::process::Abort;
 use std::test::Fail;
@@ -103,15 +104,19 @@ pub fn objects(alloc: Global) -> Result<Objects, Fail> {
 }
 
 /// A ledger of two slots before these objects.
-pub fn node(alloc: Global) -> Result<LedgerRouter<Objects>, Fail> {
+pub fn node(alloc: Global) -> Result<LedgerRouter<OwnedObjects>, Fail> {
     node_of(alloc, 2, LIFE)
 }
 
 /// A ledger of so many slots, in this life, before these objects.
-pub fn node_of(alloc: Global, originators: u16, life: u64) -> Result<LedgerRouter<Objects>, Fail> {
+pub fn node_of(
+    alloc: Global,
+    originators: u16,
+    life: u64,
+) -> Result<LedgerRouter<OwnedObjects>, Fail> {
     Ok(LedgerRouter {
         ledger: Some(Ledger::new(alloc, originators, life)?),
-        router: objects(alloc)?,
+        router: OwnedObjects::new(objects(alloc)?),
     })
 }
 
@@ -123,7 +128,7 @@ pub fn done(value: u8) -> [u8; 13] {
 /// Asserts the reply to a request with a reply limit.
 pub fn check(
     rt: &impl Abort,
-    node: &mut LedgerRouter<Objects>,
+    node: &mut LedgerRouter<OwnedObjects>,
     max_size: usize,
     request: &[u8],
     wanted: &[u8],
@@ -134,9 +139,9 @@ pub fn check(
 }
 
 /// Asserts the value of the counter, and how many additions were executed.
-pub fn check_counter(rt: &impl Abort, node: &LedgerRouter<Objects>, value: u8, additions: u8) {
-    let is = node.router.attribute(0x64, 1, 1);
+pub fn check_counter(rt: &impl Abort, node: &LedgerRouter<OwnedObjects>, value: u8, additions: u8) {
+    let is = node.router.objects.attribute(0x64, 1, 1);
     assert_eq!(rt; is.map(|bytes| bytes.as_slice()[0]), Some(value));
-    let counted = node.router.attribute(0x64, 1, 3);
+    let counted = node.router.objects.attribute(0x64, 1, 3);
     assert_eq!(rt; counted.map(|bytes| bytes.as_slice()[0]), Some(additions));
 }

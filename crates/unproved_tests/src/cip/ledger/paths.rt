@@ -5,6 +5,7 @@ use super::node::{
 };
 use cip_bytes::append;
 use cip_ledger::LedgerRouter;
+use cip_owner::OwnedObjects;
 use std::test::Fail;
 
 /// The attribute and the member of a path are ignored by the three services, and the class may have 16 bits.
@@ -94,7 +95,7 @@ fn others_pass(rt: HostRuntime) -> Result<(), Fail> {
 fn no_ledger(rt: HostRuntime) -> Result<(), Fail> {
     let mut node = LedgerRouter {
         ledger: None,
-        router: objects(rt.alloc())?,
+        router: OwnedObjects::new(objects(rt.alloc())?),
     };
     check(
         &rt,

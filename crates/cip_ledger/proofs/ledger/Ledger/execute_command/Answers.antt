@@ -9,7 +9,7 @@ returns-clause-rule g c =
     let after = g.R.Router.after in
     let answer = g.R.Router.answer in
     let router = c.args.router.now in
-    executed_turn after answer c.args.self.now router (command_in c.args.command) c.execute_embedded.new.router
+    executed_turn after answer g.R.Target.standing c.args.self.now router (command_in c.args.command) c.execute_embedded.new.router
     c.self.inside.life c.self.inside.slots.limit c.keep-index.new.self.limit c.self.inside.slots.taken c.keep-index.new.self.taken
     c.execute_embedded.new.reply.items c.as_slice.result.now c.reply.result.now c.write_done.new.reply.items
     c.self.view_is c.keep-index.ensures.limit c.keep-index.ensures.taken c.as_slice.ensures.value

@@ -1,4 +1,4 @@
-use Rattle.std.proofs.Common.{rules, ◌≡◌, [], ◌∷◌, ◌++◌, ap, sym, ◌∙◌, subst, refl, List, get_or, Some}
+use Rattle.std.proofs.Common.{rules, ◌≡◌, [], ◌∷◌, ◌++◌, ap, sym, ◌∙◌, subst, refl, List, get_or, Some, None}
 use Rattle.std.specs.Prelude.{slice_set}
 use Rattle.cip_ledger.specs.Ledger.{SlotState, IsSlot, AreApart, AreSlots, with_slot}
 use Rattle.cip_ledger.specs.Slots.{SlotsState, IsFound, IsAt, IsMissing}
@@ -12,13 +12,13 @@ returns-clause-taken c =
     let taken = c.args.self.now.taken in
     let index = c.in-Some.index in
     let old = c.index_mut.result.now in
-    let slot : SlotState = record { originator = c.args.originator; number = c.args.number; reply = Some c.args.reply.now } in
+    let slot : SlotState = record { originator = c.args.originator; number = c.args.number; reply = Some c.args.reply.now; ticket = None } in
     let same = ap (λ (s : SlotsState). s.taken) c.self.view_is in
     let at : IsAt taken c.args.originator index = subst (λ o. IsFound taken c.args.originator o) c.in-Some.is c.requires.found in
     let read : get_or taken index old ≡ old = ap (λ (xs : List SlotState). get_or xs index old) (sym same) ∙ sym c.index_mut.ensures.value in
     let own = slot_of-originator taken c.args.originator old (at.is old ∙ ap (λ (s : SlotState). Some s) read) in
     let is : c.keep.new.self ≡ slot
-    = c.keep.ensures ∙ ap (λ o. (let s : SlotState = record { originator = o; number = c.args.number; reply = Some c.args.reply.now } in s)) own in
+    = c.keep.ensures ∙ ap (λ o. (let s : SlotState = record { originator = o; number = c.args.number; reply = Some c.args.reply.now; ticket = None } in s)) own in
     ap (λ (s : SlotState). slice_set items index s) is
     ∙ ap (λ (xs : List SlotState). slice_set xs index slot) same
     ∙ sym (at.put slot refl)
@@ -28,12 +28,12 @@ invariant_of-self c =
     let old = c.self.invariant in
     let items = c.self.inside.taken.items in
     let taken = c.args.self.now.taken in
-    let slot : SlotState = record { originator = c.args.originator; number = c.args.number; reply = Some c.args.reply.now } in
+    let slot : SlotState = record { originator = c.args.originator; number = c.args.number; reply = Some c.args.reply.now; ticket = None } in
     let same = ap (λ (s : SlotsState). s.taken) c.self.view_is in
     let none : IsMissing taken c.args.originator = missing_if taken c.args.originator c.args.index c.requires.found c.in_default.not-Some in
     let kept : c.push_reserved.new.self.items ≡ with_slot slot taken
     = c.push_reserved.ensures.items ∙ ap (λ (s : SlotState). items ++ s ∷ []) c.new.ensures ∙ ap (λ (xs : List SlotState). xs ++ slot ∷ []) same ∙ sym (none.put slot refl) in
-    let fits : IsSlot slot = record { originator = search rules; number = search rules; short = c.requires.fits } in
+    let fits : IsSlot slot = record { originator = search rules; number = search rules; short = c.requires.fits; ticket = search rules; one = refl } in
     record {
       few = old.few;
       memory = search rules;
@@ -49,16 +49,16 @@ invariant_of-self-2 c =
     let taken = c.args.self.now.taken in
     let index = c.in-Some.index in
     let old = c.index_mut.result.now in
-    let slot : SlotState = record { originator = c.args.originator; number = c.args.number; reply = Some c.args.reply.now } in
+    let slot : SlotState = record { originator = c.args.originator; number = c.args.number; reply = Some c.args.reply.now; ticket = None } in
     let same = ap (λ (s : SlotsState). s.taken) c.self.view_is in
     let at : IsAt taken c.args.originator index = subst (λ o. IsFound taken c.args.originator o) c.in-Some.is c.requires.found in
     let read : get_or taken index old ≡ old = ap (λ (xs : List SlotState). get_or xs index old) (sym same) ∙ sym c.index_mut.ensures.value in
     let own = slot_of-originator taken c.args.originator old (at.is old ∙ ap (λ (s : SlotState). Some s) read) in
     let is : c.keep.new.self ≡ slot
-    = c.keep.ensures ∙ ap (λ o. (let s : SlotState = record { originator = o; number = c.args.number; reply = Some c.args.reply.now } in s)) own in
+    = c.keep.ensures ∙ ap (λ o. (let s : SlotState = record { originator = o; number = c.args.number; reply = Some c.args.reply.now; ticket = None } in s)) own in
     let kept : slice_set items index c.keep.new.self ≡ with_slot slot taken
     = ap (λ (s : SlotState). slice_set items index s) is ∙ ap (λ (xs : List SlotState). slice_set xs index slot) same ∙ sym (at.put slot refl) in
-    let fits : IsSlot slot = record { originator = search rules; number = search rules; short = c.requires.fits } in
+    let fits : IsSlot slot = record { originator = search rules; number = search rules; short = c.requires.fits; ticket = search rules; one = refl } in
     record {
       few = before.few;
       memory = search rules;

@@ -1,7 +1,7 @@
 use Rattle.std.proofs.Common.{None, sym, ap, ◌∙◌, refl}
 use Rattle.std.specs.Prelude.{option_copied}
 use Rattle.cip_objects.specs.OwnRequests.{asked_in}
-use Rattle.cip_owner.specs.Owned.{OwnedState, answer_with, after_reply}
+use Rattle.cip_owner.specs.Owned.{answer_with, after_reply}
 use Rattle.cip_owner.proofs.OwnedLemmas.{given_fit, given_unfit}
 use Rattle.cip_owner.proofs.owned.OwnedObjects.give_prepared.Goals as goal
 
@@ -21,7 +21,7 @@ returns-then-not-is_fit-clause-reply c =
 pub returns-clause-state : goal.returns-clause-state
 returns-clause-state c =
     c.store_accepted.ensures
-    ∙ ap (λ s. (let w : OwnedState = record { objects = after_reply c.args.self.now.objects (asked_in c.args.own) s; prepared = None } in w)) c.status-status.ensures
+    ∙ ap (λ s. (record c.args.self.now { objects = after_reply c.args.self.now.objects (asked_in c.args.own) s; prepared = None })) c.status-status.ensures
     ∙ sym (ap (λ x. x.after) (given_fit c.args.self.now c.args.service (asked_in c.args.own) c.in-Some.prepared.now
     (sym c.as_ref.ensures.value ∙ ap option_copied c.in-Some.is)
     (sym (c.is_fit.ensures (asked_in c.args.own) refl) ∙ c.if-not-is_fit.false)))

@@ -1,4 +1,4 @@
-use Rattle.enip_commands.proofs.StatusLemmas.{devices_at}
+use Rattle.enip_lines.proofs.InputLemmas.{devices_at}
 use Rattle.enip_commands.proofs.showing.PrinterTakeLines.take_line.Goals as goal
 
 pub returns-clause-refused : goal.returns-clause-refused

@@ -1,5 +1,5 @@
 use Rattle.std.proofs.Common.{drop}
-use Rattle.enip_commands.proofs.InputLemmas.{first_line, none_found, bytes_from}
+use Rattle.enip_lines.proofs.InputLemmas.{first_line, none_found, bytes_from}
 use Rattle.enip_owner.proofs.StreamLemmas.{fed_line, fed_part, none_left}
 use Rattle.enip_owner.proofs.line_buffer.LineBuffer.feed.Goals as goal
 

@@ -3,7 +3,7 @@ use Rattle.std.specs.Io.KnownBytes.{Keeps}
 use Rattle.enip_bench.specs.Stored.{event_in}
 use Rattle.enip_replay.specs.Script.{IsRefusedLine}
 use Rattle.enip_faults.specs.Statuses.{IsOfDevices}
-use Rattle.enip_commands.proofs.StatusLemmas.{devices_at}
+use Rattle.enip_lines.proofs.InputLemmas.{devices_at}
 use Rattle.enip_replay.proofs.PlayLemmas.{on_ok}
 use Rattle.enip_replay.proofs.RunLemmas.{silent-event}
 use Rattle.enip_replay.proofs.ladder.LadderWriterTakeLines.take_line.Goals as goal

@@ -12,6 +12,8 @@ invariant-loop-self g l = record {
   fed : AreFed g.O.Owner.answer g.O.Owner.after l.now l.fn.self.peer
       l.fn.owner (peer_state_of g.W.Wire.left g.W.Wire.written g.W.Wire.known g.W.Wire.counts l.fn.adapter l.fn.self)
       l.owner (peer_state_of g.W.Wire.left g.W.Wire.written g.W.Wire.known g.W.Wire.counts l.adapter l.self);
+  watched : g.T.Watcher.has_seen l.fn.watcher l.fn.adapter.state.shared.objects →
+      g.T.Watcher.has_seen l.watcher l.adapter.state.shared.objects;
 }
 
 abbrev pub decreases-loop-self : goal.decreases-loop-self

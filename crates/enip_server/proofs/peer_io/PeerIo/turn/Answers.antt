@@ -107,3 +107,9 @@ returns-clause-fits_counts g c =
     (g.W.Wire.counts c.args.self.now.wire) (g.W.Wire.counts c.flush.new.self.wire)
     (g.W.Wire.counts c.fetch-turn.new.self.wire) (g.W.Wire.counts c.feed_all.new.self.wire) c.in_default.ensures.end_reported
     c.in_default.ensures.goes_on c.fetch-turn.ensures.fits_counts c.in_default-feed_all.ensures.goes_on
+
+pub returns-in-Some-feed_all-clause-watched : goal.returns-in-Some-feed_all-clause-watched
+returns-in-Some-feed_all-clause-watched g c = c.in-Some-feed_all.ensures.watched
+
+pub returns-clause-watched : goal.returns-clause-watched
+returns-clause-watched g c = c.in_default-feed_all.ensures.watched

@@ -20,7 +20,7 @@ returns-then-is_saved-clause-served g c =
       same_contents g.C.KeptDevice.saved (state_of c.args.self.now.peers).adapter new saved
           (newest table.is_settled table.kept table.current).waits.items (pairs_of table.found.items) round.0
           round.1.executed same,
-      round.1,
+      (c.args.guest.now, c.take_round-self.new.guest, round.1),
     )
 
 pub invariant_of-self-3 : goal.invariant_of-self-3

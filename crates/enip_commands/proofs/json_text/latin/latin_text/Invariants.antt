@@ -1,6 +1,0 @@
-use Rattle.std.proofs.Common.{◌≡◌, string_bytes, take}
-use Rattle.enip_commands.specs.Json.{latin}
-use Rattle.enip_commands.proofs.json_text.latin.latin_text.Given as goal
-
-abbrev pub invariant-loop-byte : goal.invariant-loop-byte
-invariant-loop-byte l = string_bytes l.text ≡ latin (take l.byte-index l.bytes)

@@ -1,0 +1,216 @@
+//! `enip serve --owner`: the device that the arguments describe, with the program behind it.
+
+ghost use Rattle.std.specs.Prelude.{◌≡◌, IfOk};
+ghost use Rattle.enip_keep.specs.Server.{IsReady};
+ghost use Rattle.kept_server.specs.Rounds.{kept_of};
+
+use crate::keeping::Keeping;
+use crate::kept_file::{KeptFile, OpenFile};
+use crate::observer::{Observer, OwnerLog};
+use crate::owned::Owned;
+use crate::owner_link::OwnerLink;
+use crate::owner_options::OwnerOptions;
+use crate::owner_sockets::OwnerSockets;
+use crate::serve_command::{
+    ServeOptions, adapter_of, adapter_start, listen_and_serve, listen_of, shares_from, start_server,
+};
+use crate::serving::Serving;
+use enip_access::Access;
+use enip_adapter::Adapter;
+use enip_cli::OsArg;
+use enip_common::{CommandError, NamedFile, need_at_once};
+use enip_config::Configuration;
+use enip_keep::{Device, Keeper, Server};
+use enip_server::{FrameWire, Peers, Wire};
+use kept_adapter::AdapterStart;
+use kept_server::KeptPeers;
+use owner_port::{DeviceTable, HasAddress, OwnerPort};
+use std::net::SocketAddr;
+
+/// What a configuration and the arguments say about an owner.
+#[derive(Drop)]
+struct PortParts {
+    table: DeviceTable,
+    token: Option<Vec<u8>>,
+    /// Whether the owner is asked while a client waits.
+    asks: bool,
+}
+
+impl PortParts {
+    /// Reads the token, if an owner has to show one.
+    fn read<'a>(
+        rt: &HostRuntime,
+        args: &[OsArg],
+        owner: OwnerOptions<'a>,
+        configuration: &Configuration,
+    ) -> Result<PortParts, CommandError<'a>> {
+        let token = owner.read_token(rt, args)?;
+        let table = DeviceTable::new(rt.alloc(), configuration)?;
+        let asks = need_at_once(&configuration.objects.objects).is_some();
+        Ok(PortParts { table, token, asks })
+    }
+}
+
+/// Serves the device of a configuration, and its owner.
+pub(crate) fn serve_owned<'a, O: Observer + Drop>(
+    rt: &HostRuntime,
+    args: &[OsArg],
+    owner: OwnerOptions<'a>,
+    config: &NamedFile<'a>,
+    options: ServeOptions<'a>,
+    observer: O,
+) -> Result<u8, CommandError<'a>> {
+    match options.keep() {
+        None => serve_unkept(rt, args, owner, config, options, observer),
+        Some(file) => serve_configured(rt, args, file, owner, config, options, observer),
+    }
+}
+
+/// Serves the device of a configuration, which keeps nothing, and its owner.
+fn serve_unkept<'a, O: Observer + Drop>(
+    rt: &HostRuntime,
+    args: &[OsArg],
+    owner: OwnerOptions<'a>,
+    config: &NamedFile<'a>,
+    options: ServeOptions<'a>,
+    observer: O,
+) -> Result<u8, CommandError<'a>> {
+    let mut configuration = config.configuration(rt.alloc())?;
+    let access = configuration.access.take();
+    let parts = PortParts::read(rt, args, owner, &configuration)?;
+    let adapter = adapter_of(rt, config, &configuration)?;
+    let options = options.with_reported(config.name(), listen_of(&configuration));
+    serve_peers(rt, owner, parts, adapter, options, access, observer)
+}
+
+/// Serves the device of a configuration, whose state is kept in a file, and its owner.
+fn serve_configured<'a, O: Observer + Drop>(
+    rt: &HostRuntime,
+    args: &[OsArg],
+    file: KeptFile<'a>,
+    owner: OwnerOptions<'a>,
+    config: &NamedFile<'a>,
+    options: ServeOptions<'a>,
+    observer: O,
+) -> Result<u8, CommandError<'a>> {
+    let mut configuration = config.configuration(rt.alloc())?;
+    let access = configuration.access.take();
+    let parts = PortParts::read(rt, args, owner, &configuration)?;
+    let start = adapter_start(rt, config, configuration, shares_from(&access), options)?;
+    let options = options.with_reported(config.name(), start.listen);
+    open_and_serve(
+        rt, args, file, owner, parts, &start, options, access, observer,
+    )
+}
+
+/// Opens the file that keeps the state of a device, and serves the device and its owner.
+fn open_and_serve<'a, O: Observer + Drop>(
+    rt: &HostRuntime,
+    args: &[OsArg],
+    file: KeptFile<'a>,
+    owner: OwnerOptions<'a>,
+    parts: PortParts,
+    start: &AdapterStart,
+    options: ServeOptions<'a>,
+    access: Option<Access>,
+    observer: O,
+) -> Result<u8, CommandError<'a>> {
+    let opened = file.open(rt, args)?;
+    serve_kept(
+        rt, file, opened, owner, parts, start, options, access, observer,
+    )
+}
+
+/// Serves a device that keeps nothing, and its owner.
+fn serve_peers<'a, O: Observer + Drop>(
+    rt: &HostRuntime,
+    owner: OwnerOptions<'a>,
+    parts: PortParts,
+    adapter: Adapter,
+    options: ServeOptions<'a>,
+    access: Option<Access>,
+    observer: O,
+) -> Result<u8, CommandError<'a>> {
+    let asks = parts.asks;
+    let (link, address) = owner_link(rt, owner, parts, &adapter, observer.owner_log())?;
+    let peers = Peers::new(rt.alloc(), adapter, options.idle_timeout())?;
+    let options = options.with_owner_at(address);
+    listen_and_serve(rt, options, access, Owned::new(peers, link, asks), observer)
+}
+
+/// Serves a device that goes on with what is kept in an open file, and its owner.
+fn serve_kept<'a, O: Observer + Drop, K: Keeper + Drop>(
+    rt: &HostRuntime,
+    file: KeptFile<'a>,
+    opened: OpenFile<K>,
+    owner: OwnerOptions<'a>,
+    parts: PortParts,
+    start: &AdapterStart,
+    options: ServeOptions<'a>,
+    access: Option<Access>,
+    observer: O,
+) -> Result<u8, CommandError<'a>>
+    requires { K.doubt opened.rows ≡ 0 → K.is_up opened.rows }
+{
+    let keeper = file.numbered(rt.alloc(), opened)?;
+    let (server, values) = start_server(rt.alloc(), file, keeper, start)?;
+    let (peers, address) = keeping(rt, owner, parts, server, observer.owner_log())?;
+    values.report_unused(rt, file);
+    listen_and_serve(rt, options.with_owner_at(address), access, peers, observer)
+}
+
+/// The peers of a device whose state is kept, with its owner, and the address at which it listens for one.
+fn keeping<'a, W: Wire + HasAddress + Drop, K: Keeper + Drop, L: OwnerLog + Drop>(
+    rt: &HostRuntime,
+    owner: OwnerOptions<'a>,
+    parts: PortParts,
+    server: Server<KeptPeers<FrameWire<W>, AdapterStart, OwnerLink<L>>, K>,
+    log: L,
+) -> Result<
+    (
+        Keeping<FrameWire<W>, AdapterStart, K, OwnerLink<L>>,
+        SocketAddr,
+    ),
+    CommandError<'a>,
+>
+    requires { IsReady K.doubt K.is_up K.kept ⟦<KeptPeers<FrameWire<W>, AdapterStart, OwnerLink<L>> as Device>⟧.contents
+        ⟦<KeptPeers<FrameWire<W>, AdapterStart, OwnerLink<L>> as Device>⟧.known_kept kept_of server }
+    ensures { IfOk result (λ r. ⟦<Keeping<FrameWire<W>, AdapterStart, K, OwnerLink<L>> as Serving<W>>⟧.is_ready r.0) }
+{
+    let asks = parts.asks;
+    let (link, address) = owner_link(rt, owner, parts, server.device().peers().adapter(), log)?;
+    Ok((Keeping::new(server, link, asks), address))
+}
+
+/// The port and the sockets of an owner, and the address at which they listen for one.
+fn owner_link<'a, L: OwnerLog + Drop>(
+    rt: &HostRuntime,
+    owner: OwnerOptions<'a>,
+    parts: PortParts,
+    adapter: &Adapter,
+    log: L,
+) -> Result<(OwnerLink<L>, SocketAddr), CommandError<'a>> {
+    let (sockets, address) = owner_sockets(rt, owner, log)?;
+    let PortParts {
+        table,
+        token,
+        asks: _,
+    } = parts;
+    let port = OwnerPort::new(rt.alloc(), table, token, owner.timeout(), adapter)?;
+    Ok((OwnerLink::new(port, sockets), address))
+}
+
+/// Listens for an owner. Returns the sockets, and the address.
+fn owner_sockets<'a, L: OwnerLog + Drop>(
+    rt: &HostRuntime,
+    owner: OwnerOptions<'a>,
+    log: L,
+) -> Result<(OwnerSockets<L>, SocketAddr), CommandError<'a>> {
+    let listener = owner.bind(rt)?;
+    let address = listener
+        .local_addr()
+        .map_err(|error| CommandError::of_system(owner.address(), error))?;
+    let listener = mio::net::TcpListener::from_std(listener);
+    let sockets = OwnerSockets::new(rt.alloc(), listener, owner.from(), log);
+    Ok((sockets, address))
+}

@@ -1,0 +1,9 @@
+use Rattle.std.proofs.Common.{take, string_bytes}
+use Rattle.enip_eds.specs.Params.{attribute_step}
+use Rattle.enip_eds.specs.Steps.{Steps, written}
+use Rattle.enip_eds.proofs.params.add_attributes.Given as goal
+
+abbrev pub invariant-loop-index : goal.invariant-loop-index
+invariant-loop-index l =
+    Steps (attribute_step l.object l.types) (written l.first (string_bytes l.fn.text)) (take l.index l.attributes)
+    (written l.number (string_bytes l.text))

@@ -1,0 +1,10 @@
+pub mod Texts
+pub mod Types
+pub mod Numbers
+pub mod Steps
+pub mod Params
+pub mod Dates
+pub mod Icons
+pub mod DeviceTypes
+pub mod Eds
+pub mod Profile

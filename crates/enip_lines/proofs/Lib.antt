@@ -1,0 +1,4 @@
+pub mod DigitLemmas
+pub mod DecimalLemmas
+pub mod InputLemmas
+pub mod JsonLemmas

@@ -1,0 +1,4 @@
+pub mod Digits
+pub mod Lines
+pub mod InputLines
+pub mod JsonValues

@@ -1,0 +1,174 @@
+-- Commands that are handed over.
+use Rattle.std.proofs.Common.{◌≡◌, ◌++◌, drop, length, is_ok, Result, Ok, Err, ℕ, zero, suc, ◌+◌, ◌<◌, ◌≤◌, ◌==◌, nat_lt, Bool, true, false, if◌then◌else◌, List, [], ◌∷◌, map, Option, Some, None, refl, sym, ap, subst, ◌∙◌, append_assoc, arith}
+use Rattle.std.specs.Prelude.{option_map, slice_get, OnOk}
+use Rattle.std.proofs.lemmas.Bool.{false≢true, eq-eqb, ltb-true, ltb-false, lt-ltb, le-ltb}
+use Rattle.std.proofs.lemmas.Option.{none-some, same_Some}
+use Rattle.cip_owner.specs.Queue.{QueueState, QueuedCommand, command_of, command_ticket}
+use Rattle.enip_owner.specs.declared.hand_over.HandOver.{HandOver}
+use Rattle.enip_owner.specs.declared.hand_over.HandedOver.{HandedOver}
+use Rattle.enip_owner.specs.HandOvers.{first_above, handed_over, next_in, after_next, with_handed}
+use Rattle.owner_port.specs.declared.senders.Sender.{Sender}
+use Rattle.owner_port.specs.declared.session.Session.{Session}
+use Rattle.owner_port.specs.Handing.{waits_law, AreAllHanded, NoneLeft, Hands, IsCommandSent}
+use Rattle.owner_port.specs.Sessions.{has_space}
+
+-- ---- what is handed over waits
+
+-- The command with this ticket is among these.
+abbrev IsAmong : List QueuedCommand → ℕ → Type 0
+IsAmong commands ticket = (command : QueuedCommand) × (command_of ticket commands ≡ Some command)
+
+found-by : (command : QueuedCommand) (commands : List QueuedCommand) (least first : ℕ) (above same : Bool)
+    → nat_lt least command.ticket ≡ above → (command.ticket == first) ≡ same
+    → first_above least (map command_ticket (command ∷ commands)) ≡ Some first
+    → (first_above least (map command_ticket commands) ≡ Some first → IsAmong commands first)
+    → IsAmong (command ∷ commands) first
+found-by command commands least first above true over own is more = (command, rw own refl)
+found-by command commands least first true false over own is more =
+    let same : command.ticket ≡ first = same_Some command.ticket first (rw over at is) in
+    absurd (false≢true (sym own ∙ eq-eqb command.ticket first same))
+found-by command commands least first false false over own is more =
+    let later = more (rw over at is) in (later.0, rw own later.1)
+
+found-at : (commands : List QueuedCommand) (least first : ℕ) → first_above least (map command_ticket commands) ≡ Some first
+    → IsAmong commands first
+found-at [] least first is = absurd (none-some first is)
+found-at (command ∷ commands) least first is =
+    found-by command commands least first (nat_lt least command.ticket) (command.ticket == first) refl refl is
+    (found-at commands least first)
+
+first_of : (o : Option ℕ) (h : HandOver) (handed : HandedOver) → option_map (handed_over h) o ≡ Some handed → o ≡ Some handed.ticket
+first_of None h handed is = absurd (none-some handed is)
+first_of (Some ticket) h handed is =
+    ap (λ (o : HandedOver). Some o.ticket) (same_Some (handed_over h ticket) handed is)
+
+pub waits : waits_law
+waits queue h handed is =
+    found-at queue.waiting h.handed handed.ticket
+    (first_of (first_above h.handed (map command_ticket queue.waiting)) h handed is)
+
+-- ---- each hand-over leaves fewer
+
+-- How many of these tickets are above this one.
+unfoldable pub left_above : ℕ → List ℕ → ℕ
+left_above ticket [] = 0
+left_above ticket (other ∷ waiting) = if nat_lt ticket other then suc (left_above ticket waiting) else left_above ticket waiting
+
+fewer-at : (least first other : ℕ) (waiting : List ℕ) (over beyond : Bool) → nat_lt least other ≡ over → nat_lt first other ≡ beyond
+    → least ≤ first → left_above first waiting ≤ left_above least waiting
+    → left_above first (other ∷ waiting) ≤ left_above least (other ∷ waiting)
+unfolding left_above
+fewer-at least first other waiting true true over beyond above more = rw (over, beyond) (omega (arith, more))
+fewer-at least first other waiting true false over beyond above more = rw (over, beyond) (omega (arith, more))
+fewer-at least first other waiting false true over beyond above more =
+    absurd (let a = ltb-true first other beyond in let b = ltb-false least other over in omega (arith, a, b, above))
+fewer-at least first other waiting false false over beyond above more = rw (over, beyond) more
+
+not_more : (least first : ℕ) (waiting : List ℕ) → least ≤ first → left_above first waiting ≤ left_above least waiting
+unfolding left_above
+not_more least first [] above = omega arith
+not_more least first (other ∷ waiting) above =
+    fewer-at least first other waiting (nat_lt least other) (nat_lt first other) refl refl above (not_more least first waiting above)
+
+above_by : (least first other : ℕ) (waiting : List ℕ) (over : Bool) → nat_lt least other ≡ over
+    → first_above least (other ∷ waiting) ≡ Some first → (first_above least waiting ≡ Some first → least < first) → least < first
+above_by least first other waiting true over is more =
+    let same : other ≡ first = same_Some other first (rw over at is) in
+    let above : least < other = ltb-true least other over in
+    omega (arith, same, above)
+above_by least first other waiting false over is more = more (rw over at is)
+
+above_at : (least first : ℕ) (waiting : List ℕ) → first_above least waiting ≡ Some first → least < first
+above_at least first [] is = absurd (none-some first is)
+above_at least first (other ∷ waiting) is =
+    above_by least first other waiting (nat_lt least other) refl is (above_at least first waiting)
+
+later_by : (least first other : ℕ) (waiting : List ℕ) (beyond : Bool) → nat_lt first other ≡ beyond → nat_lt least other ≡ false
+    → least < first → left_above first waiting < left_above least waiting
+    → left_above first (other ∷ waiting) < left_above least (other ∷ waiting)
+unfolding left_above
+later_by least first other waiting true beyond over above more =
+    absurd (let a = ltb-true first other beyond in let b = ltb-false least other over in omega (arith, a, b, above))
+later_by least first other waiting false beyond over above more = rw (beyond, over) more
+
+fewer-by : (least first other : ℕ) (waiting : List ℕ) (over : Bool) → nat_lt least other ≡ over
+    → first_above least (other ∷ waiting) ≡ Some first
+    → (first_above least waiting ≡ Some first → left_above first waiting < left_above least waiting)
+    → left_above first (other ∷ waiting) < left_above least (other ∷ waiting)
+unfolding left_above
+fewer-by least first other waiting true over is more =
+    let same : other ≡ first = same_Some other first (rw over at is) in
+    let above : least < other = ltb-true least other over in
+    let own : nat_lt first other ≡ false = le-ltb first other (omega (arith, same)) in
+    let rest : left_above first waiting ≤ left_above least waiting = not_more least first waiting (omega (arith, same, above)) in
+    rw (own, over) (omega (arith, rest))
+fewer-by least first other waiting false over is more =
+    later_by least first other waiting (nat_lt first other) refl over (above_at least first waiting (rw over at is))
+    (more (rw over at is))
+
+pub fewer : (least first : ℕ) (waiting : List ℕ) → first_above least waiting ≡ Some first
+    → left_above first waiting < left_above least waiting
+fewer least first [] is = absurd (none-some first is)
+fewer least first (other ∷ waiting) is =
+    fewer-by least first other waiting (nat_lt least other) refl is (fewer least first waiting)
+
+-- ---- a step
+
+stays_by : (h : HandOver) (first : Option ℕ) → option_map (handed_over h) first ≡ None → with_handed h first ≡ h
+stays_by h None is = refl
+stays_by h (Some ticket) is = absurd (cc)
+
+-- There is none that was not handed over in this session.
+pub none_left : (queue : QueueState) (known : List Sender) (waiting : List ℕ) (h last : HandOver) (s : Session)
+    (result : Option HandedOver) → result ≡ next_in h waiting → last ≡ after_next h waiting → result ≡ None
+    → AreAllHanded queue known waiting h s last s
+none_left queue known waiting h last s result next after is =
+    let none : next_in h waiting ≡ None = sym next ∙ is in
+    subst (λ (l : HandOver). AreAllHanded queue known waiting h s l s)
+    (sym (after ∙ stays_by h (first_above h.handed waiting) none)) (NoneLeft h s none)
+
+-- One is handed over, and then the others.
+pub one_more : (queue : QueueState) (known : List Sender) (waiting : List ℕ) (h after last : HandOver) (s between new : Session)
+    (result : Option HandedOver) (handed : HandedOver) → has_space s ≡ true → result ≡ next_in h waiting → result ≡ Some handed
+    → after ≡ after_next h waiting → IsCommandSent queue known handed s between
+    → AreAllHanded queue known waiting after between last new → AreAllHanded queue known waiting h s last new
+one_more queue known waiting h after last s between new result handed space next is later sent more =
+    Hands h last s between new handed space (sym next ∙ is) sent
+    (subst (λ (l : HandOver). AreAllHanded queue known waiting l between last new) later more)
+
+fewer-from : (h : HandOver) (waiting : List ℕ) (first : Option ℕ) (handed : HandedOver) → first_above h.handed waiting ≡ first
+    → option_map (handed_over h) first ≡ Some handed
+    → left_above (with_handed h first).handed waiting < left_above h.handed waiting
+fewer-from h waiting None handed found is = absurd (none-some handed is)
+fewer-from h waiting (Some first) handed found is = fewer h.handed first waiting found
+
+-- So fewer are left.
+pub fewer_left : (h after : HandOver) (waiting : List ℕ) (result : Option HandedOver) (handed : HandedOver)
+    → result ≡ next_in h waiting → result ≡ Some handed → after ≡ after_next h waiting
+    → left_above after.handed waiting < left_above h.handed waiting
+fewer_left h after waiting result handed next is later =
+    subst (λ (l : HandOver). left_above l.handed waiting < left_above h.handed waiting) (sym later)
+    (fewer-from h waiting (first_above h.handed waiting) handed refl (sym next ∙ is))
+
+-- ---- tickets that are collected
+
+drop-at : {X : Type 0} (xs : List X) (index : ℕ) (x : X) → slice_get xs index ≡ Some x → drop index xs ≡ x ∷ drop (index + 1) xs
+drop-at [] index x is = absurd (none-some x is)
+drop-at (y ∷ xs) zero x is = ap (λ a. a ∷ xs) (same_Some y x is)
+drop-at (y ∷ xs) (suc index) x is =
+    drop-at xs index x is ∙ ap (λ n. x ∷ drop n (y ∷ xs)) (let e : suc (index + 1) ≡ suc index + 1 = omega arith in e)
+
+on_ok : {A E : Type 0} {P Q : Type 0} (r : Result A E) → (P → Q) → OnOk r P → OnOk r Q
+on_ok (Ok x) f p = f p
+on_ok (Err e) f p = tt
+
+-- One more ticket, and then the others.
+pub collected : {E : Type 0} (r : Result (Unit {0}) E) (waiting : List QueuedCommand) (index : ℕ) (command : QueuedCommand)
+    (old pushed new : List ℕ) → slice_get waiting index ≡ Some command → pushed ≡ old ++ command.ticket ∷ []
+    → OnOk r (new ≡ pushed ++ map command_ticket (drop (index + 1) waiting))
+    → OnOk r (new ≡ old ++ map command_ticket (drop index waiting))
+collected r waiting index command old pushed new is pushes more =
+    on_ok r (λ (e : new ≡ pushed ++ map command_ticket (drop (index + 1) waiting)).
+    e ∙ ap (λ l. l ++ map command_ticket (drop (index + 1) waiting)) pushes
+    ∙ append_assoc old (command.ticket ∷ []) (map command_ticket (drop (index + 1) waiting))
+    ∙ ap (λ l. old ++ map command_ticket l) (sym (drop-at waiting index command is))) more

@@ -1,0 +1,7 @@
+pub mod SetLemmas
+pub mod HandLemmas
+pub mod SessionLemmas
+pub mod PortLemmas
+pub mod WriteLemmas
+pub mod QuestionLemmas
+pub mod AskingLemmas

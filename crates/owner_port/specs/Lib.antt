@@ -1,0 +1,9 @@
+pub mod Tables
+pub mod Sets
+pub mod Senders
+pub mod Sessions
+pub mod Questions
+pub mod Execution
+pub mod Handing
+pub mod Ports
+pub mod Asking
