@@ -26,9 +26,9 @@ use enip_config::EXAMPLE;
 use enip_device::{print_kept_values, run_serve, warn_of_address};
 use enip_eds::profile_text;
 use enip_requests::{
-    Query, is_help_of_objects, run_batch, run_call, run_get, run_help_of_objects, run_inspect,
-    run_query, run_set, run_watch,
+    Query, is_help_of_objects, run_call, run_get, run_help_of_objects, run_query, run_set,
 };
+use enip_sessions::{run_batch, run_inspect, run_watch};
 use replay::{draw, replay};
 use report::Reported;
 use shells::{Page, run_page};
