@@ -4,8 +4,8 @@ use Rattle.cip_objects.specs.declared.config.ConfigFault.{ConfigFault}
 use Rattle.cip_objects.specs.declared.config.ConfigFault.TheVariants.{Memory}
 use Rattle.cip_objects.specs.Configuration.{fault_of}
 use Rattle.enip_config.specs.declared.configuration.Configuration.{Configuration}
-use Rattle.enip_config.specs.declared.fault.LoadFault.{LoadFault}
-use Rattle.enip_config.specs.Refusals.{fault_of_objects}
+use Rattle.config_refusal.specs.declared.fault.LoadFault.{LoadFault}
+use Rattle.config_refusal.specs.Refusals.{fault_of_objects}
 use Rattle.enip_config.specs.Documents.{IsDescribed, IsFaultOf}
 
 -- The objects accept what was read: only memory can fail.

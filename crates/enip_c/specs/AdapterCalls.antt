@@ -15,13 +15,13 @@ use Rattle.enip_adapter.specs.Calls.Call.{Begins_peer, Feeds}
 use Rattle.enip_adapter.specs.Discovery.{discovered}
 use Rattle.enip_adapter.specs.Turn.{Output, Answer}
 use Rattle.enip_adapter.specs.Turn.Output.{NoReply, Sends, Begins, Refuses}
-use Rattle.enip_config.specs.declared.fault.ConfigurationRefusal.{ConfigurationRefusal}
-use Rattle.enip_config.specs.declared.fault.ConfigurationRefusal.TheVariants as refused
+use Rattle.config_refusal.specs.declared.fault.ConfigurationRefusal.{ConfigurationRefusal}
+use Rattle.config_refusal.specs.declared.fault.ConfigurationRefusal.TheVariants as refused
 use Rattle.enip_config.specs.declared.configuration.Configuration.{Configuration}
-use Rattle.enip_config.specs.declared.fault.LoadFault.{LoadFault}
-use Rattle.enip_config.specs.declared.fault.LoadFault.TheVariants as load_fault
+use Rattle.config_refusal.specs.declared.fault.LoadFault.{LoadFault}
+use Rattle.config_refusal.specs.declared.fault.LoadFault.TheVariants as load_fault
 use Rattle.enip_config.specs.Commands.{queue_limit}
-use Rattle.enip_config.specs.Refusals.{refusal_number}
+use Rattle.config_refusal.specs.Refusals.{refusal_number}
 use Rattle.enip_config.specs.Documents.{IsDescribed, IsRefused}
 use Rattle.enip_c.specs.declared.adapter.Fed.{Fed}
 use Rattle.enip_c.specs.declared.make_fault.MakeFault.{MakeFault}

@@ -1,9 +1,9 @@
 use Rattle.std.proofs.Common.{◌≡◌, ℕ, List, Option, inl, inr, Result, Ok, Err, IfErr, refl, arith}
 use Rattle.std.specs.Result.{IsErr, IsErrAnd}
 use Rattle.enip_adapter.specs.Calls.{AdapterState}
-use Rattle.enip_config.specs.declared.fault.LoadFault.{LoadFault}
-use Rattle.enip_config.specs.declared.fault.LoadFault.TheVariants as load
-use Rattle.enip_config.specs.declared.fault.ConfigurationRefusal.{ConfigurationRefusal}
+use Rattle.config_refusal.specs.declared.fault.LoadFault.{LoadFault}
+use Rattle.config_refusal.specs.declared.fault.LoadFault.TheVariants as load
+use Rattle.config_refusal.specs.declared.fault.ConfigurationRefusal.{ConfigurationRefusal}
 use Rattle.configured_adapter.specs.Configured.{IsAccepted, IsUnsharedAdapterOf}
 use Rattle.enip_config.specs.Documents.{IsRefused, IsFaultOf as IsLoadFault}
 use Rattle.enip_faults.specs.declared.fault.ProgramFault.{ProgramFault}

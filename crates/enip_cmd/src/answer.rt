@@ -1,7 +1,7 @@
 //! `enip answer`: reads lines with pieces of streams, and prints the adapter's answers.
 
 ghost use Rattle.std.specs.Prelude.{◌≡◌, IfOk, IfErr};
-ghost use Rattle.enip_config.specs.declared.fault.ConfigurationRefusal.{ConfigurationRefusal};
+ghost use Rattle.config_refusal.specs.declared.fault.ConfigurationRefusal.{ConfigurationRefusal};
 ghost use Rattle.configured_adapter.specs.Configured.{IsAccepted};
 ghost use Rattle.enip_config.specs.Documents.{IsRefused};
 ghost use Rattle.enip_cmd.specs.Statuses.{IsStatus, IsFaultOf};

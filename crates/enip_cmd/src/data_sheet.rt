@@ -2,10 +2,10 @@
 
 use cip_values::Date;
 use clap::ArgMatches;
+use config_file::ConfigFile;
 use enip_cli::{OsArg, option_file_name, read_option_file};
 use enip_common::{
-    ArgumentError, CLOCK, CommandError, NamedFile, NamedReason, OUTPUT, Reason,
-    print_argument_error,
+    ArgumentError, CLOCK, CommandError, NamedReason, OUTPUT, Reason, print_argument_error,
 };
 use enip_eds::{EdsSource, ICON_LIMIT, Icon, date_at, date_in, eds_text, is_icon};
 use std::io::Write;
@@ -24,7 +24,7 @@ pub(crate) fn run_eds<'a>(
         },
         None => today(rt)?,
     };
-    let config = NamedFile::read_config(rt, args, matches)?;
+    let config = ConfigFile::read(rt, args, matches)?;
     let Some(file) = matches.get_str("icon") else {
         return print_eds(rt, &config, date, None);
     };
@@ -66,7 +66,7 @@ fn base_name(name: &[u8]) -> &[u8] {
 /// Prints the EDS of the device that the configuration in a file describes. Returns the exit status.
 fn print_eds<'a>(
     rt: &HostRuntime,
-    config: &NamedFile<'a>,
+    config: &ConfigFile<'a>,
     date: Date,
     icon: Option<Icon<'_>>,
 ) -> Result<u8, CommandError<'a>> {

@@ -13,21 +13,22 @@ use answer::answer;
 use checking::print_device;
 use clap::ArgMatches;
 use clap::error::ErrorKind;
+use config_file::{ConfigFile, error_of_run};
 use data_sheet::{print_text, run_eds};
 use enip_adapter::Listen;
 use enip_cli::{OsArg, PROGRAM, arguments_after, os_args, program, reserve_streams};
 use enip_client::ListCommand;
 use enip_common::{
     ARGUMENTS_REFUSED, ArgumentError, CommandError, ErrorKeeping, Fault, INPUT, NamedFile,
-    NamedReason, OUTPUT, Reason, error_of_run, is_input, parse_ip, print_argument_error,
+    NamedReason, OUTPUT, Reason, is_input, parse_ip, print_argument_error,
 };
 use enip_config::EXAMPLE;
 use enip_device::{print_kept_values, run_serve, warn_of_address};
 use enip_eds::profile_text;
 use enip_requests::{
-    Query, is_help_of_objects, run_batch, run_call, run_get, run_help_of_objects, run_inspect,
-    run_query, run_set, run_watch,
+    Query, is_help_of_objects, run_call, run_get, run_help_of_objects, run_query, run_set,
 };
+use enip_sessions::{run_batch, run_inspect, run_watch};
 use replay::{draw, replay};
 use report::Reported;
 use shells::{Page, run_page};
@@ -78,8 +79,8 @@ fn run_answer<'a>(
     if is_input(matches, "CONFIG") {
         return Ok(print_argument_error(rt, ArgumentError::InputOfLines));
     }
-    let config = NamedFile::read_config(rt, args, matches)?;
-    let text = config.config_text(rt.alloc())?;
+    let config = ConfigFile::read(rt, args, matches)?;
+    let text = config.text(rt.alloc())?;
     let mut input = ErrorKeeping::new(rt.stdin());
     let mut output = ErrorKeeping::new(rt.stdout());
     let mut reported = Reported::new();
@@ -102,7 +103,7 @@ fn run_replay<'a>(
     if is_input(matches, "CONFIG") && is_input(matches, "SCRIPT") {
         return Ok(print_argument_error(rt, ArgumentError::InputTwice));
     }
-    let config = NamedFile::read_config(rt, args, matches)?;
+    let config = ConfigFile::read(rt, args, matches)?;
     let rest = arguments_after(args, matches.get_str("CONFIG").unwrap_or(""));
     let script = NamedFile::read(rt, rest, matches, "SCRIPT")?;
     replay_files(rt, &config, &script, matches.get_flag("ladder"))
@@ -111,11 +112,11 @@ fn run_replay<'a>(
 /// Runs or draws the script in a file.
 fn replay_files<'a>(
     rt: &HostRuntime,
-    config: &NamedFile<'a>,
+    config: &ConfigFile<'a>,
     script: &NamedFile<'a>,
     ladder: bool,
 ) -> Result<u8, CommandError<'a>> {
-    let config_text = config.config_text(rt.alloc())?;
+    let config_text = config.text(rt.alloc())?;
     let script_text = script.script_text(rt.alloc())?;
     let mut output = ErrorKeeping::new(rt.stdout());
     let mut reported = Reported::new();
@@ -170,7 +171,7 @@ fn run_check<'a>(
         Ok(client) => client,
         Err(error) => return Ok(print_argument_error(rt, error)),
     };
-    let config = NamedFile::read_config(rt, args, matches)?;
+    let config = ConfigFile::read(rt, args, matches)?;
     let configuration = config.configuration(rt.alloc())?;
     if matches.get_flag("profile") {
         let text = profile_text(rt.alloc(), &configuration.objects)?;

@@ -1,7 +1,7 @@
 //! `enip replay`: runs a client and an adapter by the lines of a script.
 
 ghost use Rattle.std.specs.Prelude.{◌≡◌, IfOk, IfErr};
-ghost use Rattle.enip_config.specs.declared.fault.ConfigurationRefusal.{ConfigurationRefusal};
+ghost use Rattle.config_refusal.specs.declared.fault.ConfigurationRefusal.{ConfigurationRefusal};
 ghost use Rattle.configured_adapter.specs.Configured.{IsAccepted};
 ghost use Rattle.enip_config.specs.Documents.{IsRefused};
 ghost use Rattle.enip_cmd.specs.Statuses.{IsOpeningRefused, IsReplayFaultOf, IsReplayStatus};

@@ -6,8 +6,8 @@ use Rattle.cip_application.specs.declared.config.ObjectConfig.{ObjectConfig}
 use Rattle.cip_application.specs.declared.config.ServiceConfig.{ServiceConfig}
 use Rattle.cip_application.specs.declared.config.ServiceKind.{ServiceKind}
 use Rattle.cip_application.specs.declared.config.ServiceKind.TheVariants as kinds
-use Rattle.enip_config.specs.declared.fault.ConfigurationRefusal.{ConfigurationRefusal}
-use Rattle.enip_config.specs.declared.fault.ConfigurationRefusal.TheVariants as refusals
+use Rattle.config_refusal.specs.declared.fault.ConfigurationRefusal.{ConfigurationRefusal}
+use Rattle.config_refusal.specs.declared.fault.ConfigurationRefusal.TheVariants as refusals
 use Rattle.enip_common.specs.declared.owner.OwnerNeed.{OwnerNeed}
 use Rattle.enip_common.specs.declared.owner.OwnerNeed.TheVariants.{Attribute, Service, Queued}
 

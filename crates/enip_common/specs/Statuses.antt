@@ -1,7 +1,7 @@
 -- How the program ends.
 use Rattle.std.specs.Prelude.{ℕ}
-use Rattle.enip_config.specs.declared.fault.LoadFault.{LoadFault}
-use Rattle.enip_config.specs.declared.fault.LoadFault.TheVariants as load
+use Rattle.config_refusal.specs.declared.fault.LoadFault.{LoadFault}
+use Rattle.config_refusal.specs.declared.fault.LoadFault.TheVariants as load
 use Rattle.enip_faults.specs.declared.fault.ProgramFault.TheVariants as program
 use Rattle.enip_faults.specs.declared.replay_failure.ReplayFailure.{ReplayFailure}
 use Rattle.enip_faults.specs.declared.replay_failure.ReplayFailure.TheVariants as failures

@@ -3,7 +3,7 @@
 ghost use Rattle.std.specs.Prelude.{◌≡◌};
 ghost use Rattle.enip_common.specs.Statuses.{exit_status};
 
-use enip_config::ConfigurationRefusal;
+use config_refusal::{ConfigurationRefusal, LoadFault};
 use enip_faults::{OnceRefusal, ReplayFailure, RequestFailure};
 use std::alloc::AllocError;
 use std::io;
@@ -88,15 +88,15 @@ impl From<io::Error> for Fault {
     }
 }
 
-impl From<enip_config::LoadFault> for Fault {
+impl From<LoadFault> for Fault {
     ghost use Rattle.enip_common.specs.Statuses.{fault_of_configuration};
 
     ghost from_gives = { λ refused fault. fault ≡ fault_of_configuration refused };
 
-    fn from(fault: enip_config::LoadFault) -> Fault {
+    fn from(fault: LoadFault) -> Fault {
         match fault {
-            enip_config::LoadFault::Refused(refusal) => Fault::Configuration(refusal),
-            enip_config::LoadFault::Memory => Fault::Run(enip_faults::ProgramFault::Memory),
+            LoadFault::Refused(refusal) => Fault::Configuration(refusal),
+            LoadFault::Memory => Fault::Run(enip_faults::ProgramFault::Memory),
         }
     }
 }

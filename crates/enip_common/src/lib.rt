@@ -25,7 +25,7 @@ pub use argument_error::{
 pub use error_keeping::ErrorKeeping;
 pub use fault::Fault;
 pub use host_port::{HostPort, Timeout};
-pub use named_file::{NamedFile, error_of_run, is_input};
+pub use named_file::{NamedFile, is_input};
 pub use number_argument::{NumberArgument, path_of, service_of, u16_of, u32_of};
 pub use owner::{OwnerNeed, need_at_once, owner_need};
 pub use reason::{

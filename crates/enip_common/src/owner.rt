@@ -6,7 +6,7 @@ ghost use Rattle.enip_common.specs.Owner.{asked_number, checked_number, first_as
 ghost use Rattle.enip_common.specs.Owner.{first_need_at_once, is_asked, need_of_service, refusal_of_need};
 
 use cip_application::{AttributeConfig, ObjectConfig, ServiceConfig, ServiceKind};
-use enip_config::ConfigurationRefusal;
+use config_refusal::ConfigurationRefusal;
 use thiserror::Error;
 
 /// A part of an own object that needs an owner: the class and the instance of the object, and the number of the part.

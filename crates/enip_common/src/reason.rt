@@ -9,7 +9,6 @@ use cip_bytes::StatusText;
 use cip_route::RouteFailure;
 use cip_values::{ValueFault, ValueType};
 use enip_client::ClientFault;
-use enip_config::Explanation;
 use enip_faults::{
     CommandFileFault, Digits, LedgerRefusal, LineFault, ProgramFault, RequestFailure,
 };
@@ -161,9 +160,9 @@ pub enum NamedReason {
 /// Why a command refuses a configuration.
 #[derive(Debug, Drop, Error)]
 pub enum ConfigurationReason {
-    /// A check of the configuration fails.
+    /// A check of the configuration fails: what is wrong, and in which line.
     #[error("{0}")]
-    Check(Explanation),
+    Check(String),
     /// It is longer than any device needs.
     #[error("over 1 MiB")]
     TooLong,

@@ -4,7 +4,7 @@ use Rattle.std.specs.Prelude.{unwrap_or, if◌then◌else◌}
 use Rattle.std.specs.List.{list_any}
 use Rattle.cip_application.specs.declared.config.ServiceConfig.{ServiceConfig}
 use Rattle.enip_config.specs.declared.configuration.Configuration.{Configuration}
-use Rattle.enip_config.specs.declared.fault.LoadFault.{LoadFault}
+use Rattle.config_refusal.specs.declared.fault.LoadFault.{LoadFault}
 use Rattle.enip_config.specs.Commands.{is_queued, is_queued_kind, has_queued, queue_limit}
 use Rattle.enip_config.specs.Documents.{IsBadOrMemory, IsQueueInRange}
 use Rattle.enip_config.specs.Objects.{ServiceSeen, service_seen, get_result, with_result}

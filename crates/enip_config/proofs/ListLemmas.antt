@@ -10,7 +10,7 @@ use Rattle.cip_objects.specs.Configuration.{fault_of}
 use Rattle.enip_access.specs.declared.access.Access.{Access}
 use Rattle.enip_access.specs.declared.prefix.Prefix.{Prefix}
 use Rattle.enip_config.specs.declared.configuration.Configuration.{Configuration}
-use Rattle.enip_config.specs.declared.fault.LoadFault.{LoadFault}
+use Rattle.config_refusal.specs.declared.fault.LoadFault.{LoadFault}
 use Rattle.enip_config.specs.declared.key.NumberKey.{NumberKey}
 use Rattle.enip_config.specs.declared.key.NumberKey.TheVariants.{Vendor, DeviceType, ProductCode, Major, Minor, Serial, Status, State, Port, Peers, Connections, FirstHandle, FirstId, CounterValue, CounterLimit}
 use Rattle.enip_config.specs.Keys.{each, read_or}

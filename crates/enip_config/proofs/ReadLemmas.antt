@@ -7,10 +7,10 @@ use Rattle.std.proofs.NetLemmas.Options.{map_some}
 use Rattle.toml.specs.Data.{Data, string, integer, float, boolean, datetime, array, table, Members, get_member}
 use Rattle.cip_objects.specs.Configuration.{fault_of}
 use Rattle.enip_config.specs.declared.configuration.Configuration.{Configuration}
-use Rattle.enip_config.specs.declared.fault.LoadFault.{LoadFault}
+use Rattle.config_refusal.specs.declared.fault.LoadFault.{LoadFault}
 use Rattle.enip_config.specs.declared.ledger.LedgerConfig.{LedgerConfig}
-use Rattle.enip_config.specs.declared.fault.ConfigurationRefusal.TheVariants.{Commands}
-use Rattle.enip_config.specs.declared.fault.LoadFault.TheVariants.{Refused}
+use Rattle.config_refusal.specs.declared.fault.ConfigurationRefusal.TheVariants.{Commands}
+use Rattle.config_refusal.specs.declared.fault.LoadFault.TheVariants.{Refused}
 use Rattle.enip_config.specs.Keys.{originators_row, life_row, number_by, read_or, ledger_in, queue_in}
 use Rattle.enip_config.specs.Access.{lists_of, lists_seen, IsBadList}
 use Rattle.enip_config.specs.Documents.{HasValues, IsKnown, IsDescribed, IsFaultOf, IsInRange, IsLedgerInRange, IsQueueInRange, AreSharesInRange, HasRanges}

@@ -6,9 +6,9 @@ use Rattle.enip_access.specs.Access.{list_seen}
 use Rattle.enip_access.specs.Prefix.{prefix_in}
 use Rattle.enip_access.specs.declared.access.Access.{Access}
 use Rattle.enip_access.specs.declared.prefix.Prefix.{Prefix}
-use Rattle.enip_config.specs.declared.fault.LoadFault.{LoadFault}
-use Rattle.enip_config.specs.declared.fault.LoadFault.TheVariants.{Refused}
-use Rattle.enip_config.specs.declared.fault.ConfigurationRefusal.TheVariants as refused
+use Rattle.config_refusal.specs.declared.fault.LoadFault.{LoadFault}
+use Rattle.config_refusal.specs.declared.fault.LoadFault.TheVariants.{Refused}
+use Rattle.config_refusal.specs.declared.fault.ConfigurationRefusal.TheVariants as refused
 use Rattle.enip_config.specs.Keys.{number_in, read_or, both, each}
 
 -- a share, from 1 to a greatest one, that may be left out

@@ -9,10 +9,10 @@ use Rattle.toml.specs.Data.{Members}
 use Rattle.cip_objects.specs.declared.config.AssemblyConfig.{AssemblyConfig}
 use Rattle.cip_objects.specs.Configuration.{fault_of}
 use Rattle.enip_config.specs.declared.configuration.Configuration.{Configuration}
-use Rattle.enip_config.specs.declared.fault.LoadFault.{LoadFault}
-use Rattle.enip_config.specs.declared.fault.LoadFault.TheVariants.{Refused, Memory}
-use Rattle.enip_config.specs.declared.fault.ConfigurationRefusal.{ConfigurationRefusal}
-use Rattle.enip_config.specs.declared.fault.ConfigurationRefusal.TheVariants.{NotToml, BadValue, UnknownKey, Access, Commands}
+use Rattle.config_refusal.specs.declared.fault.LoadFault.{LoadFault}
+use Rattle.config_refusal.specs.declared.fault.LoadFault.TheVariants.{Refused, Memory}
+use Rattle.config_refusal.specs.declared.fault.ConfigurationRefusal.{ConfigurationRefusal}
+use Rattle.config_refusal.specs.declared.fault.ConfigurationRefusal.TheVariants.{NotToml, BadValue, UnknownKey, Access, Commands}
 use Rattle.enip_config.specs.declared.key.NumberKey.{NumberKey}
 use Rattle.enip_config.specs.declared.key.NumberKey.TheVariants.{Vendor, DeviceType, ProductCode, Major, Minor, Serial}
 use Rattle.enip_config.specs.declared.key.NumberKey.TheVariants.{Status, State, Port, Peers, Connections, FirstHandle}
@@ -25,7 +25,7 @@ use Rattle.enip_config.specs.Keys.{row, originators_row, life_row, queue_row, nu
 use Rattle.enip_config.specs.Keys.{ledger_of, queue_of, counter_enabled}
 use Rattle.enip_config.specs.Objects.{objects_of, object_seen}
 use Rattle.enip_config.specs.ObjectTypes.{types_of, types_seen}
-use Rattle.enip_config.specs.Refusals.{fault_of_objects}
+use Rattle.config_refusal.specs.Refusals.{fault_of_objects}
 use Rattle.enip_config.specs.Access.{shares_of, shares_seen, lists_of, lists_seen, HasShares}
 
 -- the number that a configuration has for a key

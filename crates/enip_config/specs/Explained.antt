@@ -2,7 +2,7 @@
 use Rattle.std.specs.Prelude.{ℕ, List, Option, Some, None}
 use Rattle.enip_config.specs.declared.configuration.Configuration.{Configuration}
 use Rattle.enip_config.specs.declared.explanation.Explanation.{Explanation}
-use Rattle.enip_config.specs.declared.fault.ConfigurationRefusal.{ConfigurationRefusal}
+use Rattle.config_refusal.specs.declared.fault.ConfigurationRefusal.{ConfigurationRefusal}
 use Rattle.enip_config.specs.Documents.{IsDescribed, IsRefused}
 
 -- the check that it explains

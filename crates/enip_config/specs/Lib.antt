@@ -4,7 +4,6 @@ pub mod Commands
 pub mod Objects
 pub mod ObjectTypes
 pub mod Known
-pub mod Refusals
 pub mod Access
 pub mod Documents
 pub mod Numbers

@@ -9,9 +9,9 @@ ghost use Rattle.enip_config.specs.Access.{share_by, shares_in, shares_of, share
 ghost use Rattle.enip_config.specs.Access.{rule_in, few, rules_in, list_by, lists_in, lists_of, IsBadList};
 ghost use Rattle.enip_config.specs.Documents.{IsBad, IsUnread};
 
-use crate::fault::{ConfigurationRefusal, LoadFault};
 use crate::values::{BAD_VALUE, number_in, value_of};
 use crate::width::Width;
+use config_refusal::{ConfigurationRefusal, LoadFault};
 use enip_access::{Access, Prefix, PrefixList};
 use toml::{Table, Value};
 

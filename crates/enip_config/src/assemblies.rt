@@ -6,11 +6,11 @@ ghost use Rattle.enip_config.specs.Keys.{each, number_in, sizes_of, assembly_in}
 ghost use Rattle.enip_config.specs.Keys.{assemblies_of};
 ghost use Rattle.enip_config.specs.Documents.{IsBadOrMemory, IsUnread, assembly_seen};
 
-use crate::fault::LoadFault;
 use crate::key::INSTANCE;
 use crate::values::{BAD_VALUE, flag_of, number_by, number_in, value_of};
 use crate::width::Width;
 use cip_objects::AssemblyConfig;
+use config_refusal::LoadFault;
 use std::alloc::Global;
 use toml::{Table, Value};
 

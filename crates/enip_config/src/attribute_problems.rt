@@ -2,10 +2,10 @@
 
 use crate::attribute_type::{AttributeType, width_of};
 use crate::explanation::part_at;
-use crate::fault::LoadFault;
 use crate::typed::{bound, number_type, value_bytes};
 use cip_application::{AttributeConfig, AttributeKind, SetFault};
 use cip_values::ElementaryType;
+use config_refusal::LoadFault;
 use std::alloc::{AllocError, Global};
 use thiserror::Error;
 use toml::{Table, Value};

@@ -7,10 +7,10 @@ ghost use Rattle.enip_config.specs.Commands.{has_queued, is_queued};
 ghost use Rattle.enip_config.specs.Keys.{queue_in, queue_of};
 ghost use Rattle.enip_config.specs.Documents.{IsBad, IsUnread};
 
-use crate::fault::LoadFault;
 use crate::key::QUEUE;
 use crate::values::{BAD_VALUE, number_by, value_of};
 use cip_application::{ObjectConfig, ServiceConfig, ServiceKind};
+use config_refusal::LoadFault;
 use toml::{Table, Value};
 
 /// Reads the table `commands`: how many queued commands can wait. `None` if it is left out.

@@ -9,9 +9,9 @@ ghost use Rattle.enip_config.specs.Types.{element_bytes, all_bytes};
 ghost use Rattle.enip_config.specs.Documents.{IsBad, IsBadOrMemory};
 
 use crate::attribute_type::width_of;
-use crate::fault::LoadFault;
 use crate::values::{BAD_VALUE, number_in};
 use cip_values::ElementaryType;
+use config_refusal::LoadFault;
 use std::alloc::{AllocError, Global};
 use std::num::{
     f32_to_bits_with_nan, f64_to_bits_with_nan, nearest_f64_to_f32_with_nan, nearest_i64_to_f32,

@@ -5,9 +5,9 @@ ghost use Rattle.toml.specs.View.{view, table_view};
 ghost use Rattle.enip_config.specs.Keys.{ledger_in, ledger_of};
 ghost use Rattle.enip_config.specs.Documents.{IsBad, IsUnread, ledger_seen};
 
-use crate::fault::LoadFault;
 use crate::key::{LIFE, ORIGINATORS};
 use crate::values::{BAD_VALUE, number_by, value_of};
+use config_refusal::LoadFault;
 use toml::{Table, Value};
 
 /// The command ledger of a device.

@@ -38,7 +38,6 @@ mod configuration;
 mod elements;
 mod example;
 mod explanation;
-mod fault;
 mod key;
 mod known;
 mod ledger;
@@ -56,9 +55,9 @@ mod values;
 mod width;
 
 pub use attribute_type::AttributeType;
+pub use config_refusal::{ConfigurationRefusal, LoadFault};
 pub use configuration::Configuration;
 pub use example::EXAMPLE;
 pub use explanation::{Explanation, explain};
-pub use fault::{ConfigurationRefusal, LoadFault};
 pub use key::NumberKey;
 pub use ledger::LedgerConfig;

@@ -12,7 +12,6 @@ ghost use Rattle.enip_config.specs.Objects.{sizes_from, two_sizes};
 ghost use Rattle.enip_config.specs.Documents.{IsBad, IsBadOrMemory, IsUnread};
 
 use crate::commands::has_queued_service;
-use crate::fault::LoadFault;
 use crate::key::{ATTRIBUTE_NUMBER, CLASS, INSTANCE, REPLY, SERVICE_NUMBER};
 use crate::typed::typed_in;
 use crate::values::{BAD_VALUE, flag_of, number_by, number_in, value_of};
@@ -20,6 +19,7 @@ use crate::width::Width;
 use cip_application::{
     AttributeConfig, GET_RESULT, ObjectConfig, QUEUED_REPLY_LIMIT, ServiceConfig, ServiceKind,
 };
+use config_refusal::LoadFault;
 use std::alloc::Global;
 use toml::{Table, Value};
 

@@ -9,10 +9,10 @@ ghost use Rattle.enip_config.specs.Documents.{IsBad, IsBadOrMemory};
 
 use crate::attribute_type::AttributeType;
 use crate::elements::{all_bytes, element_bits, element_bytes};
-use crate::fault::LoadFault;
 use crate::values::{BAD_VALUE, value_of};
 use cip_application::{AttributeKind, NumberRange, NumberType};
 use cip_values::ElementaryType;
+use config_refusal::LoadFault;
 use std::alloc::Global;
 use toml::{Table, Value};
 

@@ -8,9 +8,9 @@ ghost use Rattle.enip_config.specs.Keys.{flag_of, counter_enabled, name_of};
 ghost use Rattle.enip_config.specs.Keys.{number_in, address_in, address_of};
 ghost use Rattle.enip_config.specs.Documents.{IsBad, IsUnread};
 
-use crate::fault::{ConfigurationRefusal, LoadFault};
 use crate::key::{NumberKey, Row};
 use crate::width::Width;
+use config_refusal::{ConfigurationRefusal, LoadFault};
 use toml::{Table, Value};
 
 /// A required key is missing, or a value has another type or is out of range.

@@ -17,13 +17,14 @@ use crate::serve::{ServeLimits, Sockets, serve_connections};
 use crate::serve_owner::serve_owned;
 use crate::serving::{ServeFault, Serving};
 use clap::ArgMatches;
+use config_file::ConfigFile;
 use configured_adapter::{adapter_from, adapter_in_life};
 use enip_access::Access;
 use enip_adapter::{Adapter, Limits, Listen, Shares};
 use enip_cli::OsArg;
 use enip_common::{
-    ArgumentError, CLOCK, CommandError, ERRORS, HostPort, NamedFile, NamedReason, NumberArgument,
-    OUTPUT, Reason, print_argument_error, u16_of,
+    ArgumentError, CLOCK, CommandError, ERRORS, HostPort, NamedReason, NumberArgument, OUTPUT,
+    Reason, print_argument_error, u16_of,
 };
 use enip_config::Configuration;
 use enip_keep::{Device, KeepError, Keeper, Server};
@@ -131,7 +132,7 @@ pub fn run_serve<'a>(
         Ok(options) => options,
         Err(error) => return Ok(print_argument_error(rt, error)),
     };
-    let config = NamedFile::read_config(rt, args, matches)?;
+    let config = ConfigFile::read(rt, args, matches)?;
     let style = match matches.get_str("log") {
         None => {
             let report = TurnedAwayReport::new(rt, rt.alloc());
@@ -153,7 +154,7 @@ pub fn run_serve<'a>(
 fn serve_config<'a, O: Observer + Drop>(
     rt: &HostRuntime,
     args: &[OsArg],
-    config: &NamedFile<'a>,
+    config: &ConfigFile<'a>,
     options: ServeOptions<'a>,
     observer: O,
 ) -> Result<u8, CommandError<'a>> {
@@ -221,7 +222,7 @@ pub(crate) fn start_server<'a, W: Wire + Drop, K: Keeper + Drop, G: RoundGuest<W
 pub fn print_kept_values<'a>(
     rt: &HostRuntime,
     args: &[OsArg],
-    config: &NamedFile<'a>,
+    config: &ConfigFile<'a>,
     name: &'a str,
 ) -> Result<(), CommandError<'a>> {
     let file = KeptFile::to_read(name);
@@ -236,7 +237,7 @@ pub fn print_kept_values<'a>(
 /// What the adapter of a configuration is started from, to be read and not served.
 fn start_to_read<'a>(
     rt: &HostRuntime,
-    config: &NamedFile<'a>,
+    config: &ConfigFile<'a>,
 ) -> Result<AdapterStart, CommandError<'a>> {
     let mut configuration = config.configuration(rt.alloc())?;
     let access = configuration.access.take();
@@ -322,7 +323,7 @@ pub(crate) fn listen_of(configuration: &Configuration) -> Listen {
 /// The adapter of a configuration. A command ledger gets another life with each start, because it is empty then.
 pub(crate) fn adapter_of<'a>(
     rt: &HostRuntime,
-    config: &NamedFile<'a>,
+    config: &ConfigFile<'a>,
     configuration: &Configuration,
 ) -> Result<Adapter, CommandError<'a>> {
     let loaded = match configuration.ledger {
@@ -339,7 +340,7 @@ pub(crate) fn adapter_of<'a>(
 /// begins a life now.
 pub(crate) fn adapter_start<'a>(
     rt: &HostRuntime,
-    config: &NamedFile<'a>,
+    config: &ConfigFile<'a>,
     configuration: Configuration,
     shares: Shares,
     options: ServeOptions<'a>,

@@ -15,10 +15,11 @@ use crate::serve_command::{
     ServeOptions, adapter_of, adapter_start, listen_and_serve, listen_of, shares_from, start_server,
 };
 use crate::serving::Serving;
+use config_file::ConfigFile;
 use enip_access::Access;
 use enip_adapter::Adapter;
 use enip_cli::OsArg;
-use enip_common::{CommandError, NamedFile, need_at_once};
+use enip_common::{CommandError, need_at_once};
 use enip_config::Configuration;
 use enip_keep::{Device, Keeper, Server};
 use enip_server::{FrameWire, Peers, Wire};
@@ -56,7 +57,7 @@ pub(crate) fn serve_owned<'a, O: Observer + Drop>(
     rt: &HostRuntime,
     args: &[OsArg],
     owner: OwnerOptions<'a>,
-    config: &NamedFile<'a>,
+    config: &ConfigFile<'a>,
     options: ServeOptions<'a>,
     observer: O,
 ) -> Result<u8, CommandError<'a>> {
@@ -71,7 +72,7 @@ fn serve_unkept<'a, O: Observer + Drop>(
     rt: &HostRuntime,
     args: &[OsArg],
     owner: OwnerOptions<'a>,
-    config: &NamedFile<'a>,
+    config: &ConfigFile<'a>,
     options: ServeOptions<'a>,
     observer: O,
 ) -> Result<u8, CommandError<'a>> {
@@ -89,7 +90,7 @@ fn serve_configured<'a, O: Observer + Drop>(
     args: &[OsArg],
     file: KeptFile<'a>,
     owner: OwnerOptions<'a>,
-    config: &NamedFile<'a>,
+    config: &ConfigFile<'a>,
     options: ServeOptions<'a>,
     observer: O,
 ) -> Result<u8, CommandError<'a>> {

@@ -5,14 +5,12 @@ use crate::listing::{run_discovery, run_list};
 use crate::once::run_once;
 use crate::once_options::OnceOptions;
 use crate::polling::{PollOptions, run_polling};
-use crate::request::{Device, Request, run_request};
-use crate::{
-    GET_ATTRIBUTE_SINGLE, GET_ATTRIBUTES_ALL, GET_MEMBER, SET_ATTRIBUTE_SINGLE, SET_MEMBER,
-};
+use crate::request::run_request;
 use clap::ArgMatches;
 use enip_cli::OsArg;
 use enip_client::ListCommand;
 use enip_common::{ArgumentError, CommandError, Timeout, print_argument_error, service_of};
+use remote_device::{Device, Request, service_of_get, service_of_set};
 
 /// What is requested without a session.
 #[derive(Clone, Copy)]
@@ -75,26 +73,6 @@ pub fn run_call<'a>(
     match service_of(matches) {
         Ok(service) => run_client(rt, args, service, matches),
         Err(error) => Ok(print_argument_error(rt, error)),
-    }
-}
-
-/// The service of `enip get`: with `--member` that of a member, without ATTRIBUTE that of all attributes.
-pub(crate) fn service_of_get(matches: &ArgMatches<'_>) -> u8 {
-    if matches.contains_id("member") {
-        GET_MEMBER
-    } else if matches.contains_id("ATTRIBUTE") {
-        GET_ATTRIBUTE_SINGLE
-    } else {
-        GET_ATTRIBUTES_ALL
-    }
-}
-
-/// The service of `enip set`: with `--member` that of a member.
-pub(crate) fn service_of_set(matches: &ArgMatches<'_>) -> u8 {
-    if matches.contains_id("member") {
-        SET_MEMBER
-    } else {
-        SET_ATTRIBUTE_SINGLE
     }
 }
 

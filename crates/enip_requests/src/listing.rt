@@ -3,13 +3,13 @@
 ghost use Rattle.std.specs.Prelude.{◌≤◌, length, IfOk, IfSome};
 
 use crate::found_devices::{DeviceForm, FoundDevices};
-use crate::request::reason_of_client;
 use enip_client::ListCommand;
 use enip_commands::{RequestFailure, list_over, objects_over};
 use enip_common::{
     CLOCK, CommandError, ErrorKeeping, Fault, HostPort, NamedReason, Reason, SocketSink,
     SocketSource, Timeout,
 };
+use remote_device::reason_of_client;
 use std::io::{ErrorKind, Write};
 use std::net::{SocketAddr, UdpSocket};
 use std::time::Instant;

@@ -6,7 +6,7 @@
 
 use crate::once_options::OnceOptions;
 use crate::pauses::next_pause;
-use crate::request::{Device, Request, error_of_failure, print_refusal};
+use crate::request::print_refusal;
 use cip_bytes::StatusText;
 use cip_commander::{CommandOutcome, CommandRefused, Commander};
 use cip_objects::ReplyBuf;
@@ -20,6 +20,7 @@ use enip_common::{
     CLOCK, CommandError, ErrorKeeping, Fault, HostPort, NamedReason, Note, OwnedDigits, Reason,
     SocketSink, SocketSource, print_reason,
 };
+use remote_device::{Device, Request, error_of_failure};
 use std::io::{self, ErrorKind};
 use std::random::RandomSource;
 use std::thread;

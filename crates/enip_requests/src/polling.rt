@@ -1,14 +1,15 @@
 //! `enip get --every`: sends the same request to a device again and again.
 
-use crate::request::{Request, ask, error_of_failure, print_refusal};
+use crate::request::print_refusal;
 use clap::ArgMatches;
 use enip_commands::{
     DeviceSession, LONG_LIVED, Readings, ReplyOutcome, RequestFailure, print_reading,
 };
 use enip_common::{
-    ArgumentError, CLOCK, CommandError, ErrorKeeping, HostPort, NumberArgument, Reason, SocketSink,
-    SocketSource, Timeout, parse_seconds, print_reason,
+    ArgumentError, CLOCK, CommandError, ErrorKeeping, HostPort, NumberArgument, SocketSink,
+    SocketSource, parse_seconds, print_reason,
 };
+use remote_device::{Request, SessionEnd, ask, error_of_failure, pause_after_loss, session_end_of};
 use std::rt::Clock;
 use std::thread;
 use std::time::{Duration, Instant};
@@ -18,9 +19,6 @@ const OUTPUT: &str = "standard output";
 /// Our own limit, in seconds: the longest interval within one session. A device may end a session that is silent for
 /// longer.
 const MAX_SESSION_INTERVAL: u64 = 60;
-
-/// The seconds before a lost device is tried again, if the timeout has no limit.
-const RECONNECT_DELAY: u64 = 5;
 
 /// How often the request is sent, and which replies are printed.
 #[derive(Clone, Copy)]
@@ -47,21 +45,6 @@ impl PollOptions {
             count: NumberArgument::REPLIES.value(matches)?.unwrap_or(u64::MAX),
             print_all: matches.get_flag("all"),
         }))
-    }
-}
-
-/// Why a session ends before all replies were taken.
-#[derive(Drop)]
-pub(crate) enum SessionEnd<'a> {
-    /// The device is lost, and may return.
-    DeviceLost(Reason<'a>),
-    /// The command fails.
-    Fatal(CommandError<'a>),
-}
-
-impl From<std::alloc::AllocError> for SessionEnd<'_> {
-    fn from(_error: std::alloc::AllocError) -> Self {
-        SessionEnd::Fatal(CommandError::of_memory())
     }
 }
 
@@ -110,13 +93,6 @@ pub(crate) fn run_polling<'a>(
         }
     }
     Ok(poller.last.exit_status())
-}
-
-/// How long to wait before a lost device is tried again.
-pub(crate) fn pause_after_loss(timeout: Timeout<'_>) -> Duration {
-    timeout
-        .limit()
-        .unwrap_or(Duration::from_secs(RECONNECT_DELAY))
 }
 
 impl<'a> Poller<'a, '_, '_> {
@@ -230,27 +206,5 @@ impl<'a> Poller<'a, '_, '_> {
             self.request.device.timeout,
         ));
         session_end_of(error_of_failure(failure, self.request.device.address, reason))
-    }
-}
-
-/// The end of a session by the error that a single request would end with. Only a lack of memory and the deadline are
-/// fatal. After any other error the device is tried again.
-pub(crate) fn session_end_of<'a>(error: CommandError<'a>) -> SessionEnd<'a> {
-    let reason = error.into_reason();
-    match fatal_error(&reason) {
-        Some(error) => SessionEnd::Fatal(error),
-        None => SessionEnd::DeviceLost(reason),
-    }
-}
-
-/// The error of a command that fails for this reason, if it is fatal.
-fn fatal_error<'a>(reason: &Reason<'a>) -> Option<CommandError<'a>> {
-    match reason {
-        Reason::Memory => Some(CommandError::of_memory()),
-        Reason::DeadlineOver(address, seconds) => {
-            let reason = Reason::DeadlineOver(address, seconds);
-            Some(CommandError::of_reason(reason))
-        }
-        _ => None,
     }
 }

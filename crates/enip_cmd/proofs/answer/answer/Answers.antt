@@ -1,5 +1,5 @@
 use Rattle.std.proofs.Common.{ℕ, List, subst, sym, ◌∙◌}
-use Rattle.enip_config.specs.declared.fault.ConfigurationRefusal.{ConfigurationRefusal}
+use Rattle.config_refusal.specs.declared.fault.ConfigurationRefusal.{ConfigurationRefusal}
 use Rattle.enip_config.specs.Documents.{IsRefused}
 use Rattle.configured_adapter.specs.Configured.{IsAccepted}
 use Rattle.enip_cmd.proofs.StatusLemmas.{status_of_fault, line_refused, configuration_refused}

@@ -4,10 +4,10 @@ use Rattle.cip_objects.specs.declared.config.ConfigFault.{ConfigFault}
 use Rattle.cip_objects.specs.declared.config.ConfigFault.TheVariants.{Name, Size, Members, DoubleInstance, Limit}
 use Rattle.cip_objects.specs.declared.config.ConfigFault.TheVariants.{Object, Attribute, Service}
 use Rattle.cip_objects.specs.declared.config.ConfigFault.TheVariants.{Memory as NoMemory}
-use Rattle.enip_config.specs.declared.fault.LoadFault.{LoadFault}
-use Rattle.enip_config.specs.declared.fault.LoadFault.TheVariants.{Refused, Memory}
-use Rattle.enip_config.specs.declared.fault.ConfigurationRefusal.{ConfigurationRefusal}
-use Rattle.enip_config.specs.declared.fault.ConfigurationRefusal.TheVariants as refused
+use Rattle.config_refusal.specs.declared.fault.LoadFault.{LoadFault}
+use Rattle.config_refusal.specs.declared.fault.LoadFault.TheVariants.{Refused, Memory}
+use Rattle.config_refusal.specs.declared.fault.ConfigurationRefusal.{ConfigurationRefusal}
+use Rattle.config_refusal.specs.declared.fault.ConfigurationRefusal.TheVariants as refused
 
 -- the number that is printed
 abbrev pub refusal_number : ConfigurationRefusal → ℕ

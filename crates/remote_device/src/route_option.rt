@@ -6,15 +6,13 @@ use enip_common::{ArgumentError, CommandError, NamedReason, Reason};
 
 /// The route that the arguments give, as text that was parsed once.
 #[derive(Clone, Copy)]
-pub(crate) struct RouteOption<'a> {
+pub struct RouteOption<'a> {
     hops: Option<&'a str>,
 }
 
 impl<'a> RouteOption<'a> {
     /// The option in the arguments.
-    pub(crate) fn from_matches(
-        matches: &ArgMatches<'a>,
-    ) -> Result<RouteOption<'a>, ArgumentError<'a>> {
+    pub fn from_matches(matches: &ArgMatches<'a>) -> Result<RouteOption<'a>, ArgumentError<'a>> {
         let hops = matches.get_str("route");
         if let Some(hops) = hops {
             if let Err(fault) = Route::parse(hops.as_bytes()) {
@@ -25,7 +23,7 @@ impl<'a> RouteOption<'a> {
     }
 
     /// The route. Without the option it has no hops.
-    pub(crate) fn route(self) -> Result<Route, CommandError<'a>> {
+    pub fn route(self) -> Result<Route, CommandError<'a>> {
         let Some(hops) = self.hops else {
             return Ok(Route::new());
         };

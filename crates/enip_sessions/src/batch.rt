@@ -3,7 +3,6 @@
 ghost use Rattle.std.specs.Prelude.{⊤};
 
 use crate::line_request::{LineRefusal, read_request};
-use crate::request::{Device, ask, error_in_session, error_of_failure, reason_of_refusal};
 use cip_bytes::StatusText;
 use clap::ArgMatches;
 use enip_client::ClientFault;
@@ -16,6 +15,7 @@ use enip_common::{
     SocketSink, SocketSource, Timeout, print_argument_error,
 };
 use enip_lines::{TakeLines, read_lines};
+use remote_device::{Device, ask, error_in_session, error_of_failure, reason_of_refusal};
 use std::fmt::Display;
 use std::io::Write;
 use std::time::Instant;

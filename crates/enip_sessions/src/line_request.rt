@@ -1,12 +1,11 @@
 //! Requests as text: the lines of `enip batch`, and the arguments of `enip watch`.
 
-use crate::client::{service_of_get, service_of_set};
-use crate::request::Request;
 use clap::ArgMatches;
 use clap::error::ErrorKind;
 use enip_cli::line_command;
 use enip_commands::Style;
 use enip_common::{ArgumentError, Reason, Timeout, service_of};
+use remote_device::{Request, service_of_get, service_of_set};
 use std::alloc::{AllocError, AllocFailed, Global};
 use std::fmt::Display;
 

@@ -1,8 +1,6 @@
 //! `enip inspect`: reads what a device says of itself.
 
-use crate::GET_ATTRIBUTE_SINGLE;
 use crate::inspected::{Form, INSPECTED, InspectedObject};
-use crate::request::{Device, ask, error_in_session, error_of_failure};
 use cip_layouts::ValueShape;
 use cip_message::{Path, ReplyView};
 use clap::ArgMatches;
@@ -15,6 +13,7 @@ use enip_common::{
     ArgumentError, CLOCK, CommandError, ErrorKeeping, HostPort, NamedReason, OUTPUT, Reason,
     SocketSink, SocketSource, Timeout, print_argument_error,
 };
+use remote_device::{Device, GET_ATTRIBUTE_SINGLE, ask, error_in_session, error_of_failure};
 use std::alloc::{AllocError, Global};
 use std::io::Write;
 use std::time::Instant;

@@ -1,8 +1,6 @@
 //! `enip watch`: reads several attributes of a device again and again.
 
 use crate::line_request::{LineRefusal, read_request};
-use crate::polling::{SessionEnd, pause_after_loss, session_end_of};
-use crate::request::{Device, ask, error_in_session, error_of_failure};
 use crate::watch_table::{JsonText, WatchTable};
 use clap::ArgMatches;
 use enip_commands::{DeviceSession, LONG_LIVED, Readings, RequestFailure, Style, show_reply};
@@ -10,6 +8,9 @@ use enip_common::{
     ARGUMENTS_REFUSED, ArgumentError, CLOCK, CommandError, ErrorKeeping, HostPort, NamedReason,
     NumberArgument, OUTPUT, Reason, SocketSink, SocketSource, Timeout, parse_seconds,
     print_argument_error, print_reason,
+};
+use remote_device::{
+    Device, SessionEnd, ask, error_in_session, error_of_failure, pause_after_loss, session_end_of,
 };
 use std::io::{IsTerminal, Write};
 use std::rt::Clock;

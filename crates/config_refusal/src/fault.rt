@@ -1,7 +1,7 @@
 //! Why a configuration is refused.
 
 ghost use Rattle.std.specs.Prelude.{◌≡◌};
-ghost use Rattle.enip_config.specs.Refusals.{refusal_number};
+ghost use Rattle.config_refusal.specs.Refusals.{refusal_number};
 
 use cip_objects::ConfigFault;
 use std::alloc::{AllocError, AllocFailed};
@@ -60,7 +60,7 @@ pub enum LoadFault {
 }
 
 impl From<AllocError> for LoadFault {
-    ghost use Rattle.enip_config.specs.declared.fault.LoadFault.TheVariants.{Memory};
+    ghost use Rattle.config_refusal.specs.declared.fault.LoadFault.TheVariants.{Memory};
 
     ghost from_gives = { λ _ fault. fault ≡ Memory };
 
@@ -70,7 +70,7 @@ impl From<AllocError> for LoadFault {
 }
 
 impl<T: Drop> From<AllocFailed<T>> for LoadFault {
-    ghost use Rattle.enip_config.specs.declared.fault.LoadFault.TheVariants.{Memory};
+    ghost use Rattle.config_refusal.specs.declared.fault.LoadFault.TheVariants.{Memory};
 
     ghost from_gives = { λ _ fault. fault ≡ Memory };
 
@@ -81,7 +81,7 @@ impl<T: Drop> From<AllocFailed<T>> for LoadFault {
 
 /// The check of the objects that fails.
 impl From<ConfigFault> for LoadFault {
-    ghost use Rattle.enip_config.specs.Refusals.{fault_of_objects};
+    ghost use Rattle.config_refusal.specs.Refusals.{fault_of_objects};
 
     ghost from_gives = { λ refused fault. fault ≡ fault_of_objects refused };
 

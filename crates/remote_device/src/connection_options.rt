@@ -24,7 +24,7 @@ enum Serial {
 
 /// The connection that the options ask for.
 #[derive(Clone, Copy)]
-pub(crate) struct ConnectionOptions {
+pub struct ConnectionOptions {
     connection_serial: Serial,
     originator_serial: Serial,
     /// The size of an item in each direction, in bytes.
@@ -37,7 +37,7 @@ pub(crate) struct ConnectionOptions {
 
 impl ConnectionOptions {
     /// The options in the arguments.
-    pub(crate) fn from_matches<'a>(
+    pub fn from_matches<'a>(
         matches: &ArgMatches<'a>,
     ) -> Result<ConnectionOptions, ArgumentError<'a>> {
         let connection_serial = serial_of(
@@ -69,11 +69,7 @@ impl ConnectionOptions {
     }
 
     /// The connection to open, with this timeout multiplier unless an option gives another.
-    pub(crate) fn wants<'a>(
-        self,
-        rt: &HostRuntime,
-        multiplier: u8,
-    ) -> Result<Wants, CommandError<'a>>
+    pub fn wants<'a>(self, rt: &HostRuntime, multiplier: u8) -> Result<Wants, CommandError<'a>>
         ensures least { IfOk result (λ wants. 10 ≤ wants.t_to_o_size) }
         ensures most { IfOk result (λ wants. wants.t_to_o_size ≤ LARGEST_CONNECTION_SIZE) }
         ensures both { IfOk result (λ wants. wants.o_to_t_size ≡ wants.t_to_o_size) }
@@ -102,7 +98,7 @@ impl ConnectionOptions {
     }
 
     /// The size of an item from originator to target, in bytes.
-    pub(crate) fn size(self) -> u16 {
+    pub fn size(self) -> u16 {
         self.size
     }
 }

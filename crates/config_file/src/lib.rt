@@ -1,0 +1,10 @@
+//! The configuration of a device in a file that an argument of the program `enip` names.
+//!
+//! - A [`ConfigFile`] has the content of the file. It reads the configuration, or makes the error that says why it is
+//!   refused.
+//! - [`error_of_run`] makes the error of a command that runs the device of a configuration over lines.
+#![tactic(auto)]
+
+mod config_file;
+
+pub use config_file::{ConfigFile, error_of_run};
