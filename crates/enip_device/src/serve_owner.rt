@@ -20,6 +20,7 @@ use kept_adapter::AdapterStart;
 use kept_server::KeptPeers;
 use owner_port::{DeviceTable, HasAddress, OwnerPort};
 use owner_sockets::{Owned, OwnerLink, OwnerSockets};
+use std::alloc::{AllocError, Global};
 use std::net::SocketAddr;
 
 /// What a configuration and the arguments say about an owner.
@@ -53,6 +54,21 @@ impl PortParts {
         let table = DeviceTable::new(rt.alloc(), configuration)?;
         let asks = need_at_once(&configuration.objects.objects).is_some();
         Ok(PortParts { table, token, asks })
+    }
+
+    /// The port of the owner, who has this time for an answer, in microseconds.
+    fn into_port(
+        self,
+        alloc: Global,
+        timeout: u64,
+        adapter: &Adapter,
+    ) -> Result<OwnerPort, AllocError> {
+        let PortParts {
+            table,
+            token,
+            asks: _,
+        } = self;
+        OwnerPort::new(alloc, table, token, timeout, adapter)
     }
 }
 
@@ -231,12 +247,7 @@ fn owner_link<'a, L: OwnerLog + Drop>(
     log: L,
 ) -> Result<(OwnerLink<L>, SocketAddr), CommandError<'a>> {
     let (sockets, address) = owner_sockets(rt, owner, log)?;
-    let PortParts {
-        table,
-        token,
-        asks: _,
-    } = parts;
-    let port = OwnerPort::new(rt.alloc(), table, token, owner.timeout(), adapter)?;
+    let port = parts.into_port(rt.alloc(), owner.timeout(), adapter)?;
     Ok((OwnerLink::new(port, sockets), address))
 }
 
