@@ -2,36 +2,28 @@
 #![tactic(auto)]
 
 pub mod answer;
-mod checking;
-mod data_sheet;
 pub mod replay;
 pub mod report;
-mod shells;
 pub mod show;
 
 use answer::answer;
-use checking::print_device;
 use clap::ArgMatches;
-use clap::error::ErrorKind;
+use command_line::{Page, parse, run_page};
 use config_file::{ConfigFile, error_of_run};
-use data_sheet::{print_text, run_eds};
-use enip_adapter::Listen;
-use enip_cli::{OsArg, PROGRAM, arguments_after, os_args, program, reserve_streams};
+use described_device::{run_check, run_eds};
+use enip_cli::{OsArg, PROGRAM, arguments_after, os_args, reserve_streams};
 use enip_client::ListCommand;
 use enip_common::{
     ARGUMENTS_REFUSED, ArgumentError, CommandError, ErrorKeeping, Fault, INPUT, NamedFile,
-    NamedReason, OUTPUT, Reason, is_input, parse_ip, print_argument_error,
+    NamedReason, OUTPUT, Reason, is_input, print_argument_error,
 };
-use enip_config::EXAMPLE;
-use enip_device::{print_kept_values, run_serve, warn_of_address};
-use enip_eds::profile_text;
+use enip_device::run_serve;
 use enip_requests::{
     Query, is_help_of_objects, run_call, run_get, run_help_of_objects, run_query, run_set,
 };
 use enip_sessions::{run_batch, run_inspect, run_watch};
 use replay::{draw, replay};
 use report::Reported;
-use shells::{Page, run_page};
 use show::show;
 use std::process::ExitCode;
 
@@ -157,68 +149,30 @@ fn run_show<'a>(rt: &HostRuntime) -> Result<u8, CommandError<'a>> {
     }
 }
 
-/// `enip check`.
-fn run_check<'a>(
-    rt: &HostRuntime,
-    args: &[OsArg],
-    matches: &ArgMatches<'a>,
-) -> Result<u8, CommandError<'a>> {
-    if matches.get_flag("example") {
-        print!(rt; "{EXAMPLE}").map_err(|error| CommandError::of_system(OUTPUT, error))?;
-        return Ok(0);
+/// Runs the command of these arguments. Returns the exit status.
+fn run_arguments(rt: &HostRuntime, args: &[OsArg]) -> u8 {
+    if is_help_of_objects(args) {
+        return status_of(rt, run_help_of_objects(rt));
     }
-    let client = match parse_ip("from", matches.get_str("from")) {
-        Ok(client) => client,
-        Err(error) => return Ok(print_argument_error(rt, error)),
-    };
-    let config = ConfigFile::read(rt, args, matches)?;
-    let configuration = config.configuration(rt.alloc())?;
-    if matches.get_flag("profile") {
-        let text = profile_text(rt.alloc(), &configuration.objects)?;
-        return print_text(rt, text.as_str());
+    match parse(rt, args) {
+        Ok(matches) => status_of(rt, run_command(rt, args, &matches)),
+        Err(status) => status,
     }
-    print_device(rt.alloc(), &configuration, client, rt.stdout()).map_err(|error| {
-        CommandError::of_system(OUTPUT, error)
-    })?;
-    if let Some(address) = matches.get_str("address") {
-        let listen = Listen {
-            address: configuration.address,
-            port: configuration.port,
-        };
-        warn_of_address(rt, config.name(), listen, address)?;
-    }
-    if let Some(file) = matches.get_str("keep") {
-        print_kept_values(rt, args, &config, file)?;
-    }
-    Ok(0)
 }
 
-/// Parses the command line, and runs its command. Returns the exit status.
-fn run_program(rt: &HostRuntime) -> u8 {
-    let alloc = rt.alloc();
-    let (Ok(args), Ok(program)) = (os_args(rt, alloc, PROGRAM), program(alloc)) else {
-        return CommandError::of_memory().print(rt);
-    };
-    if is_help_of_objects(args.as_slice()) {
-        return match run_help_of_objects(rt) {
-            Ok(status) => status,
-            Err(error) => error.print(rt),
-        };
+/// The exit status of a command. Prints why it failed, if it has.
+fn status_of(rt: &HostRuntime, ended: Result<u8, CommandError<'_>>) -> u8 {
+    match ended {
+        Ok(status) => status,
+        Err(error) => error.print(rt),
     }
-    match program.try_get_matches_from(args.as_slice()) {
-        Ok(matches) => match run_command(rt, args.as_slice(), &matches) {
-            Ok(status) => status,
-            Err(error) => error.print(rt),
-        },
-        Err(error) if error.kind() == ErrorKind::OutOfMemory => CommandError::of_memory().print(rt),
-        Err(error) if error.use_stderr() => {
-            let _ = error.print(rt);
-            ARGUMENTS_REFUSED
-        }
-        Err(error) => match error.print(rt) {
-            Ok(()) => 0,
-            Err(error) => CommandError::of_system(OUTPUT, error).print(rt),
-        },
+}
+
+/// Reads the arguments, and runs their command. Returns the exit status.
+fn run_program(rt: &HostRuntime) -> u8 {
+    match os_args(rt, rt.alloc(), PROGRAM) {
+        Ok(args) => run_arguments(rt, args.as_slice()),
+        Err(_) => CommandError::of_memory().print(rt),
     }
 }
 

@@ -1,41 +1,32 @@
 //! `enip serve`: the device that the arguments describe, its sockets, and what observes it.
 
-ghost use Rattle.std.specs.Prelude.{◌≡◌, ◌<◌, ◌≤◌, ◌*◌, ◌-◌, ◌^◌, IfSome, IfOk, IsTrue};
-ghost use Rattle.configured_adapter.specs.Configured.{shares_from};
-ghost use Rattle.enip_keep.specs.Server.{IsReady};
-ghost use Rattle.kept_server.specs.Rounds.{kept_of};
+ghost use Rattle.std.specs.Prelude.{◌≡◌, ◌<◌, ◌*◌, ◌-◌, ◌^◌};
 
-use crate::frame_log::FrameLog;
-use crate::keeping::Keeping;
-use crate::kept_file::{KeptFile, OpenFile};
-use crate::kept_values::KeptValues;
-use crate::log_event::{LogClock, LogStyle};
-use crate::observer::{Observer, TurnedAwayReport};
 use crate::owner_options::OwnerOptions;
-use crate::reported_address::ReportedAddress;
-use crate::serve::{ServeLimits, Sockets, serve_connections};
 use crate::serve_owner::serve_owned;
-use crate::serving::{ServeFault, Serving};
 use clap::ArgMatches;
 use config_file::ConfigFile;
-use configured_adapter::{adapter_from, adapter_in_life};
+use device_log::{FrameLog, LogClock, LogStyle, TurnedAwayReport};
+use device_rounds::{Keeping, ServeLimits, Sockets, serve_connections};
+use device_sockets::{Observer, ServeFault, Serving};
+use device_start::{
+    KeptFile, OpenFile, ReportedAddress, adapter_of, adapter_start, listen_of, start_kept,
+};
 use enip_access::Access;
-use enip_adapter::{Adapter, Limits, Listen, Shares};
+use enip_adapter::Listen;
 use enip_cli::OsArg;
 use enip_common::{
-    ArgumentError, CLOCK, CommandError, ERRORS, HostPort, NamedReason, NumberArgument, OUTPUT,
+    ArgumentError, CLOCK, CommandError, ERRORS, HostPort, NamedReason, NumberArgument,
     Reason, print_argument_error, u16_of,
 };
 use enip_config::Configuration;
-use enip_keep::{Device, KeepError, Keeper, Server};
+use enip_keep::{KeepError, Keeper};
 use enip_server::{NO_IDLE_TIMEOUT, NoWatcher, Peers, Wire};
-use kept_adapter::{AdapterStart, LedgerStart};
-use kept_server::{KeptDevice, KeptPeers, RoundGuest};
+use kept_adapter::AdapterStart;
 use mio::net::UdpSocket;
-use std::alloc::Global;
 use std::io;
 use std::net::{SocketAddr, TcpListener};
-use std::time::{Instant, UNIX_EPOCH};
+use std::time::Instant;
 
 /// The microseconds of a second.
 const SECOND: u64 = 1_000_000;
@@ -98,7 +89,7 @@ impl<'a> ServeOptions<'a> {
     }
 
     /// Whether a state is taken that is damaged, or older than it was: its ledger then begins another life.
-    fn begins_life(self) -> bool {
+    pub(crate) fn begins_life(self) -> bool {
         match self.keep {
             Some(file) => file.accepts_older(),
             None => false,
@@ -158,21 +149,99 @@ fn serve_config<'a, O: Observer + Drop>(
     options: ServeOptions<'a>,
     observer: O,
 ) -> Result<u8, CommandError<'a>> {
-    if let Some(owner) = options.owner {
-        return serve_owned(rt, args, owner, config, options, observer);
+    match (options.owner, options.keep) {
+        (Some(owner), _) => serve_owned(rt, args, owner, config, options, observer),
+        (None, Some(file)) => serve_configured(rt, args, file, config, options, observer),
+        (None, None) => serve_unkept(rt, config, options, observer),
     }
+}
+
+/// Serves the device of a configuration, which keeps nothing.
+fn serve_unkept<'a, O: Observer + Drop>(
+    rt: &HostRuntime,
+    config: &ConfigFile<'a>,
+    options: ServeOptions<'a>,
+    observer: O,
+) -> Result<u8, CommandError<'a>> {
+    let (peers, access, listen) = unkept_peers(rt, config, options)?;
+    let options = options.with_reported(config.name(), listen);
+    listen_and_serve(rt, options, access, peers, observer)
+}
+
+/// The peers of a device that keeps nothing, who may connect, and where discovery reports it.
+fn unkept_peers<'a, W: Wire + Drop>(
+    rt: &HostRuntime,
+    config: &ConfigFile<'a>,
+    options: ServeOptions<'a>,
+) -> Result<(Peers<W>, Option<Access>, Listen), CommandError<'a>> {
     let mut configuration = config.configuration_to_serve(rt.alloc())?;
-    let access = configuration.access.take();
-    let Some(file) = options.keep else {
-        let adapter = adapter_of(rt, config, &configuration)?;
-        let peers = Peers::new(rt.alloc(), adapter, options.idle_timeout)?;
-        let options = options.with_reported(config.name(), listen_of(&configuration));
-        return listen_and_serve(rt, options, access, peers, observer);
-    };
-    let start = adapter_start(rt, config, configuration, shares_from(&access), options)?;
-    let opened = file.open(rt, args)?;
+    let adapter = adapter_of(rt, config, &configuration)?;
+    let peers = Peers::new(rt.alloc(), adapter, options.idle_timeout)?;
+    Ok((
+        peers,
+        configuration.access.take(),
+        listen_of(&configuration),
+    ))
+}
+
+/// Serves the device of a configuration, whose state is kept in a file.
+fn serve_configured<'a, O: Observer + Drop>(
+    rt: &HostRuntime,
+    args: &[OsArg],
+    file: KeptFile<'a>,
+    config: &ConfigFile<'a>,
+    options: ServeOptions<'a>,
+    observer: O,
+) -> Result<u8, CommandError<'a>> {
+    let (start, access) = kept_start(rt, config, options)?;
     let options = options.with_reported(config.name(), start.listen);
-    serve_kept(rt, file, opened, &start, options, access, observer)
+    open_and_serve(rt, args, file, &start, options, access, observer)
+}
+
+/// What the device of a configuration starts from, whose state is kept, and who may connect.
+fn kept_start<'a>(
+    rt: &HostRuntime,
+    config: &ConfigFile<'a>,
+    options: ServeOptions<'a>,
+) -> Result<(AdapterStart, Option<Access>), CommandError<'a>> {
+    let configuration = config.configuration_to_serve(rt.alloc())?;
+    start_and_access(rt, config, configuration, options)
+}
+
+/// What a device starts from whose state is kept, and who may connect.
+pub(crate) fn start_and_access<'a>(
+    rt: &HostRuntime,
+    config: &ConfigFile<'a>,
+    configuration: Configuration,
+    options: ServeOptions<'a>,
+) -> Result<(AdapterStart, Option<Access>), CommandError<'a>> {
+    let mut configuration = configuration;
+    let access = configuration.access.take();
+    match adapter_start(
+        rt,
+        config,
+        configuration,
+        &access,
+        options.begins_life(),
+        options.idle_timeout,
+    ) {
+        Ok(start) => Ok((start, access)),
+        Err(error) => Err(error),
+    }
+}
+
+/// Opens the file that keeps the state of a device, and serves the device.
+fn open_and_serve<'a, O: Observer + Drop>(
+    rt: &HostRuntime,
+    args: &[OsArg],
+    file: KeptFile<'a>,
+    start: &AdapterStart,
+    options: ServeOptions<'a>,
+    access: Option<Access>,
+    observer: O,
+) -> Result<u8, CommandError<'a>> {
+    let opened = file.open(rt, args)?;
+    serve_kept(rt, file, opened, start, options, access, observer)
 }
 
 /// Serves a device that goes on with what is kept in an open file.
@@ -187,8 +256,7 @@ fn serve_kept<'a, O: Observer + Drop, K: Keeper + Drop>(
 ) -> Result<u8, CommandError<'a>>
     requires { K.doubt opened.rows ≡ 0 → K.is_up opened.rows }
 {
-    let keeper = file.numbered(rt.alloc(), opened)?;
-    let (server, values) = start_server(rt.alloc(), file, keeper, start)?;
+    let (server, values) = start_kept(rt.alloc(), file, opened, start)?;
     values.report_unused(rt, file);
     listen_and_serve(
         rt,
@@ -197,78 +265,6 @@ fn serve_kept<'a, O: Observer + Drop, K: Keeper + Drop>(
         Keeping::new(server, NoWatcher, false),
         observer,
     )
-}
-
-/// Starts a device from what is kept. Returns its server, and what is kept.
-pub(crate) fn start_server<'a, W: Wire + Drop, K: Keeper + Drop, G: RoundGuest<W>>(
-    alloc: Global,
-    file: KeptFile<'a>,
-    keeper: K,
-    start: &AdapterStart,
-) -> Result<(Server<KeptPeers<W, AdapterStart, G>, K>, KeptValues), CommandError<'a>>
-    requires { K.doubt keeper ≡ 0 → K.is_up keeper }
-    ensures { IfOk result (λ r. IsReady K.doubt K.is_up K.kept
-        ⟦<KeptPeers<W, AdapterStart, G> as Device>⟧.contents
-        ⟦<KeptPeers<W, AdapterStart, G> as Device>⟧.known_kept kept_of r.0) }
-{
-    let (keeper, values) = KeptValues::read(alloc, file, keeper, start)?;
-    match Server::start(alloc, keeper, start) {
-        Ok(server) => Ok((server, values)),
-        Err(error) => Err(file.refused(error)),
-    }
-}
-
-/// `enip check --keep`: prints what is kept in FILE of the device of a configuration.
-pub fn print_kept_values<'a>(
-    rt: &HostRuntime,
-    args: &[OsArg],
-    config: &ConfigFile<'a>,
-    name: &'a str,
-) -> Result<(), CommandError<'a>> {
-    let file = KeptFile::to_read(name);
-    let start = start_to_read(rt, config)?;
-    let opened = file.open(rt, args)?;
-    let values = kept_values(rt.alloc(), file, opened, &start)?;
-    values
-        .print(rt.alloc(), rt.stdout())
-        .map_err(|error| CommandError::of_system(OUTPUT, error))
-}
-
-/// What the adapter of a configuration is started from, to be read and not served.
-fn start_to_read<'a>(
-    rt: &HostRuntime,
-    config: &ConfigFile<'a>,
-) -> Result<AdapterStart, CommandError<'a>> {
-    let mut configuration = config.configuration(rt.alloc())?;
-    let access = configuration.access.take();
-    let life = life_now(rt)?;
-    match start_of(
-        configuration,
-        shares_from(&access),
-        life,
-        false,
-        NO_IDLE_TIMEOUT,
-    ) {
-        Some(start) => Ok(start),
-        None => Err(CommandError::of_reason(Reason::Named(config.name(), NamedReason::Failed))),
-    }
-}
-
-/// What is kept in an open file, if a device starts from it.
-fn kept_values<'a, K: Keeper + Drop>(
-    alloc: Global,
-    file: KeptFile<'a>,
-    opened: OpenFile<K>,
-    start: &AdapterStart,
-) -> Result<KeptValues, CommandError<'a>>
-    requires { K.doubt opened.rows ≡ 0 → K.is_up opened.rows }
-{
-    let keeper = file.numbered(alloc, opened)?;
-    let (_, values) = KeptValues::read(alloc, file, keeper, start)?;
-    match start.start(alloc, values.entries()) {
-        Ok(_) => Ok(values),
-        Err(error) => Err(file.refused(error)),
-    }
 }
 
 /// Binds the sockets of a device, and serves its peers.
@@ -281,11 +277,7 @@ pub(crate) fn listen_and_serve<'a, O: Observer + Drop, S: Serving<O::Wire> + Dro
 ) -> Result<u8, CommandError<'a>>
     requires { S.is_ready peers }
 {
-    let address = HostPort::parse(options.address)?;
-    let sockets = bind(rt, address, options.discovery)?;
-    print_listening(rt, &sockets, options, address.port()).map_err(|error| CommandError::of_system(
-        ERRORS, error,
-    ))?;
+    let (address, sockets) = listen(rt, options)?;
     let limits = ServeLimits {
         count: options.count,
         access,
@@ -294,6 +286,19 @@ pub(crate) fn listen_and_serve<'a, O: Observer + Drop, S: Serving<O::Wire> + Dro
         Ok(()) => Ok(0),
         Err(fault) => Err(serve_error(options, address, fault)),
     }
+}
+
+/// Binds the sockets of a device, and prints where it listens.
+fn listen<'a>(
+    rt: &HostRuntime,
+    options: ServeOptions<'a>,
+) -> Result<(HostPort<'a>, Sockets), CommandError<'a>> {
+    let address = HostPort::parse(options.address)?;
+    let sockets = bind(rt, address, options.discovery)?;
+    print_listening(rt, &sockets, options, address.port()).map_err(|error| CommandError::of_system(
+        ERRORS, error,
+    ))?;
+    Ok((address, sockets))
 }
 
 /// The error of a device that is not served any longer.
@@ -309,167 +314,6 @@ fn serve_error<'a>(
             CommandError::of_memory()
         }
         _ => CommandError::of_reason(Reason::Named(address.text(), NamedReason::Failed)),
-    }
-}
-
-/// Where discovery reports the device of a configuration.
-pub(crate) fn listen_of(configuration: &Configuration) -> Listen {
-    Listen {
-        address: configuration.address,
-        port: configuration.port,
-    }
-}
-
-/// The adapter of a configuration. A command ledger gets another life with each start, because it is empty then.
-pub(crate) fn adapter_of<'a>(
-    rt: &HostRuntime,
-    config: &ConfigFile<'a>,
-    configuration: &Configuration,
-) -> Result<Adapter, CommandError<'a>> {
-    let loaded = match configuration.ledger {
-        None => adapter_from(rt.alloc(), config.bytes()),
-        Some(_) => adapter_in_life(rt.alloc(), config.bytes(), life_now(rt)?),
-    };
-    match loaded {
-        Ok(adapter) => Ok(adapter),
-        Err(fault) => Err(config.refused(rt.alloc(), fault)),
-    }
-}
-
-/// What the adapter of a configuration is started from, whose device keeps its state. A ledger of which nothing is kept
-/// begins a life now.
-pub(crate) fn adapter_start<'a>(
-    rt: &HostRuntime,
-    config: &ConfigFile<'a>,
-    configuration: Configuration,
-    shares: Shares,
-    options: ServeOptions<'a>,
-) -> Result<AdapterStart, CommandError<'a>> {
-    let life = life_now(rt)?;
-    let begins_life = options.begins_life();
-    match start_of(
-        configuration,
-        shares,
-        life,
-        begins_life,
-        options.idle_timeout,
-    ) {
-        Some(start) => Ok(start),
-        None => Err(CommandError::of_reason(Reason::Named(config.name(), NamedReason::Failed))),
-    }
-}
-
-/// What an adapter is started from. The entries that are kept of it are in the order of their keys, so its assemblies and
-/// its own objects are in the order of their numbers. `None` if the configuration was not accepted before.
-fn start_of(
-    configuration: Configuration,
-    shares: Shares,
-    life: u64,
-    begins_life: bool,
-    idle_timeout: u64,
-) -> Option<AdapterStart> {
-    let queue = configuration.queue_limit();
-    let Configuration {
-        mut objects,
-        address,
-        port,
-        peers,
-        connections,
-        first_handle,
-        first_id,
-        ledger,
-        queue: _,
-        access: _,
-        attribute_types: _,
-    } = configuration;
-    objects
-        .assemblies
-        .sort_unstable_by_key(|assembly| assembly.instance);
-    objects
-        .objects
-        .sort_unstable_by_key(|object| (object.class, object.instance));
-    let ledger = ledger.map(|ledger| LedgerStart {
-        originators: ledger.originators,
-        life,
-    });
-    let limits = Limits {
-        peers,
-        connections,
-        first_handle,
-        first_id,
-    };
-    let is_accepted = objects.fault().is_none() && is_queue(queue);
-    if !is_accepted || !are_in_range(limits, ledger) || !are_shares(shares) {
-        return None;
-    }
-    Some(AdapterStart {
-        objects,
-        ledger,
-        queue,
-        begins_life,
-        listen: Listen { address, port },
-        limits,
-        shares,
-        idle_timeout,
-    })
-}
-
-/// How many peers and connections one address may have.
-pub(crate) fn shares_from(access: &Option<Access>) -> Shares
-    ensures { result ≡ shares_from access.now }
-{
-    match access {
-        Some(access) => Shares {
-            peers: access.peers_per_address(),
-            connections: access.most_connections_per_address(),
-        },
-        None => Shares::NONE,
-    }
-}
-
-/// Whether an adapter can have these shares.
-fn are_shares(shares: Shares) -> bool
-    ensures peers { IsTrue result → (1 ≤ shares.peers) × (shares.peers ≤ 16) }
-    ensures connections { IsTrue result → (1 ≤ shares.connections) × (shares.connections ≤ 64) }
-{
-    1 <= shares.peers && shares.peers <= 16 && 1 <= shares.connections && shares.connections <= 64
-}
-
-/// Whether so many commands can wait in a queue, if there is one.
-fn is_queue(queue: Option<u16>) -> bool
-    ensures { IsTrue result → IfSome queue (λ n. (1 ≤ n) × (n ≤ 256)) }
-{
-    match queue {
-        Some(limit) => 1 <= limit && limit <= 256,
-        None => true,
-    }
-}
-
-/// Whether an adapter has these limits, and a ledger so many slots.
-fn are_in_range(limits: Limits, ledger: Option<LedgerStart>) -> bool
-    ensures peers { IsTrue result → (1 ≤ limits.peers) × (limits.peers ≤ 16) }
-    ensures connections { IsTrue result → (1 ≤ limits.connections) × (limits.connections ≤ 64) }
-    ensures first { IsTrue result → (1 ≤ limits.first_handle) × (1 ≤ limits.first_id) }
-    ensures ledger { IsTrue result → IfSome ledger (λ l. (1 ≤ l.originators) × (l.originators ≤ 64)) }
-{
-    let has_slots = match ledger {
-        Some(ledger) => 1 <= ledger.originators && ledger.originators <= 64,
-        None => true,
-    };
-    has_slots
-        && 1 <= limits.peers
-        && limits.peers <= 16
-        && 1 <= limits.connections
-        && limits.connections <= 64
-        && 1 <= limits.first_handle
-        && 1 <= limits.first_id
-}
-
-/// The number of a life that starts now: the microseconds of the wall clock since 1970 (ours).
-fn life_now<'a>(rt: &HostRuntime) -> Result<u64, CommandError<'a>> {
-    match UNIX_EPOCH.elapsed(rt) {
-        Ok(age) => Ok(u64::try_from(age.as_micros()).unwrap_or(u64::MAX)),
-        Err(error) => Err(CommandError::of_system(CLOCK, error)),
     }
 }
 
@@ -493,21 +337,6 @@ fn print_listening(
         Some(address) => eprintln!(rt; "owner at {address}"),
         None => Ok(()),
     }
-}
-
-/// Prints a warning if discovery reports a device of this configuration elsewhere than where it is to be served.
-pub fn warn_of_address<'a>(
-    rt: &HostRuntime,
-    config: &'a str,
-    listen: Listen,
-    address: &'a str,
-) -> Result<(), CommandError<'a>> {
-    let address = HostPort::parse(address)?;
-    let bound = address.first_address(rt)?;
-    if let Some(warning) = (ReportedAddress { config, listen }).warning(address.port(), bound) {
-        let _ = eprintln!(rt; "{warning}");
-    }
-    Ok(())
 }
 
 /// The idle timeout of so many seconds, in microseconds. 0 is no limit.

@@ -4,20 +4,14 @@ ghost use Rattle.std.specs.Prelude.{◌≡◌, IfOk};
 ghost use Rattle.enip_keep.specs.Server.{IsReady};
 ghost use Rattle.kept_server.specs.Rounds.{kept_of};
 
-use crate::keeping::Keeping;
-use crate::kept_file::{KeptFile, OpenFile};
-use crate::observer::{Observer, OwnerLog};
-use crate::owned::Owned;
-use crate::owner_link::OwnerLink;
 use crate::owner_options::OwnerOptions;
-use crate::owner_sockets::OwnerSockets;
-use crate::serve_command::{
-    ServeOptions, adapter_of, adapter_start, listen_and_serve, listen_of, shares_from, start_server,
-};
-use crate::serving::Serving;
+use crate::serve_command::{ServeOptions, listen_and_serve, start_and_access};
 use config_file::ConfigFile;
+use device_rounds::Keeping;
+use device_sockets::{Observer, OwnerLog, Serving};
+use device_start::{KeptFile, OpenFile, adapter_of, listen_of, start_kept};
 use enip_access::Access;
-use enip_adapter::Adapter;
+use enip_adapter::{Adapter, Listen};
 use enip_cli::OsArg;
 use enip_common::{CommandError, need_at_once};
 use enip_config::Configuration;
@@ -26,15 +20,27 @@ use enip_server::{FrameWire, Peers, Wire};
 use kept_adapter::AdapterStart;
 use kept_server::KeptPeers;
 use owner_port::{DeviceTable, HasAddress, OwnerPort};
+use owner_sockets::{Owned, OwnerLink, OwnerSockets};
+use std::alloc::{AllocError, Global};
 use std::net::SocketAddr;
 
 /// What a configuration and the arguments say about an owner.
-#[derive(Drop)]
 struct PortParts {
     table: DeviceTable,
     token: Option<Vec<u8>>,
     /// Whether the owner is asked while a client waits.
     asks: bool,
+}
+
+// Written out, so that each exit of a function that owns one calls it, and has no drop of every part.
+impl Drop for PortParts {
+    fn drop(self) {
+        let PortParts {
+            table: _,
+            token: _,
+            asks: _,
+        } = self;
+    }
 }
 
 impl PortParts {
@@ -49,6 +55,21 @@ impl PortParts {
         let table = DeviceTable::new(rt.alloc(), configuration)?;
         let asks = need_at_once(&configuration.objects.objects).is_some();
         Ok(PortParts { table, token, asks })
+    }
+
+    /// The port of the owner, who has this time for an answer, in microseconds.
+    fn into_port(
+        self,
+        alloc: Global,
+        timeout: u64,
+        adapter: &Adapter,
+    ) -> Result<OwnerPort, AllocError> {
+        let PortParts {
+            table,
+            token,
+            asks: _,
+        } = self;
+        OwnerPort::new(alloc, table, token, timeout, adapter)
     }
 }
 
@@ -76,12 +97,24 @@ fn serve_unkept<'a, O: Observer + Drop>(
     options: ServeOptions<'a>,
     observer: O,
 ) -> Result<u8, CommandError<'a>> {
+    let (parts, adapter, access, listen) = unkept_parts(rt, args, owner, config)?;
+    let options = options.with_reported(config.name(), listen);
+    serve_peers(rt, owner, parts, adapter, options, access, observer)
+}
+
+/// What the arguments and a configuration say of a device that keeps nothing: of its owner, its adapter, who may connect, and
+/// where discovery reports it.
+fn unkept_parts<'a>(
+    rt: &HostRuntime,
+    args: &[OsArg],
+    owner: OwnerOptions<'a>,
+    config: &ConfigFile<'a>,
+) -> Result<(PortParts, Adapter, Option<Access>, Listen), CommandError<'a>> {
     let mut configuration = config.configuration(rt.alloc())?;
-    let access = configuration.access.take();
     let parts = PortParts::read(rt, args, owner, &configuration)?;
     let adapter = adapter_of(rt, config, &configuration)?;
-    let options = options.with_reported(config.name(), listen_of(&configuration));
-    serve_peers(rt, owner, parts, adapter, options, access, observer)
+    let access = configuration.access.take();
+    Ok((parts, adapter, access, listen_of(&configuration)))
 }
 
 /// Serves the device of a configuration, whose state is kept in a file, and its owner.
@@ -94,14 +127,26 @@ fn serve_configured<'a, O: Observer + Drop>(
     options: ServeOptions<'a>,
     observer: O,
 ) -> Result<u8, CommandError<'a>> {
-    let mut configuration = config.configuration(rt.alloc())?;
-    let access = configuration.access.take();
-    let parts = PortParts::read(rt, args, owner, &configuration)?;
-    let start = adapter_start(rt, config, configuration, shares_from(&access), options)?;
+    let (parts, start, access) = kept_parts(rt, args, owner, config, options)?;
     let options = options.with_reported(config.name(), start.listen);
     open_and_serve(
         rt, args, file, owner, parts, &start, options, access, observer,
     )
+}
+
+/// What the arguments and a configuration say of a device whose state is kept: of its owner, what it starts from, and who may
+/// connect.
+fn kept_parts<'a>(
+    rt: &HostRuntime,
+    args: &[OsArg],
+    owner: OwnerOptions<'a>,
+    config: &ConfigFile<'a>,
+    options: ServeOptions<'a>,
+) -> Result<(PortParts, AdapterStart, Option<Access>), CommandError<'a>> {
+    let configuration = config.configuration(rt.alloc())?;
+    let parts = PortParts::read(rt, args, owner, &configuration)?;
+    let (start, access) = start_and_access(rt, config, configuration, options)?;
+    Ok((parts, start, access))
 }
 
 /// Opens the file that keeps the state of a device, and serves the device and its owner.
@@ -132,11 +177,23 @@ fn serve_peers<'a, O: Observer + Drop>(
     access: Option<Access>,
     observer: O,
 ) -> Result<u8, CommandError<'a>> {
+    let (peers, address) = owned(rt, owner, parts, adapter, options, observer.owner_log())?;
+    listen_and_serve(rt, options.with_owner_at(address), access, peers, observer)
+}
+
+/// The peers of a device that keeps nothing, with its owner, and the address at which it listens for one.
+fn owned<'a, W: Wire + Drop, L: OwnerLog + Drop>(
+    rt: &HostRuntime,
+    owner: OwnerOptions<'a>,
+    parts: PortParts,
+    adapter: Adapter,
+    options: ServeOptions<'a>,
+    log: L,
+) -> Result<(Owned<W, L>, SocketAddr), CommandError<'a>> {
     let asks = parts.asks;
-    let (link, address) = owner_link(rt, owner, parts, &adapter, observer.owner_log())?;
+    let (link, address) = owner_link(rt, owner, parts, &adapter, log)?;
     let peers = Peers::new(rt.alloc(), adapter, options.idle_timeout())?;
-    let options = options.with_owner_at(address);
-    listen_and_serve(rt, options, access, Owned::new(peers, link, asks), observer)
+    Ok((Owned::new(peers, link, asks), address))
 }
 
 /// Serves a device that goes on with what is kept in an open file, and its owner.
@@ -153,8 +210,7 @@ fn serve_kept<'a, O: Observer + Drop, K: Keeper + Drop>(
 ) -> Result<u8, CommandError<'a>>
     requires { K.doubt opened.rows ≡ 0 → K.is_up opened.rows }
 {
-    let keeper = file.numbered(rt.alloc(), opened)?;
-    let (server, values) = start_server(rt.alloc(), file, keeper, start)?;
+    let (server, values) = start_kept(rt.alloc(), file, opened, start)?;
     let (peers, address) = keeping(rt, owner, parts, server, observer.owner_log())?;
     values.report_unused(rt, file);
     listen_and_serve(rt, options.with_owner_at(address), access, peers, observer)
@@ -192,12 +248,7 @@ fn owner_link<'a, L: OwnerLog + Drop>(
     log: L,
 ) -> Result<(OwnerLink<L>, SocketAddr), CommandError<'a>> {
     let (sockets, address) = owner_sockets(rt, owner, log)?;
-    let PortParts {
-        table,
-        token,
-        asks: _,
-    } = parts;
-    let port = OwnerPort::new(rt.alloc(), table, token, owner.timeout(), adapter)?;
+    let port = parts.into_port(rt.alloc(), owner.timeout(), adapter)?;
     Ok((OwnerLink::new(port, sockets), address))
 }
 

@@ -2,7 +2,7 @@ use Rattle.std.proofs.Common.{ℕ, List, subst, sym, ◌∙◌}
 use Rattle.config_refusal.specs.declared.fault.ConfigurationRefusal.{ConfigurationRefusal}
 use Rattle.enip_config.specs.Documents.{IsRefused}
 use Rattle.configured_adapter.specs.Configured.{IsAccepted}
-use Rattle.enip_cmd.proofs.StatusLemmas.{status_of_fault, line_refused, configuration_refused}
+use Rattle.configured_runs.proofs.StatusLemmas.{status_of_fault, line_refused, configuration_refused}
 use Rattle.enip_cmd.proofs.answer.answer.Goals as goal
 
 pub returns-in-Ok-clause-accepted : goal.returns-in-Ok-clause-accepted

@@ -2,8 +2,8 @@ use Rattle.std.proofs.Common.{ℕ, List, subst, sym, ◌∙◌}
 use Rattle.config_refusal.specs.declared.fault.ConfigurationRefusal.{ConfigurationRefusal}
 use Rattle.enip_config.specs.Documents.{IsRefused}
 use Rattle.configured_adapter.specs.Configured.{IsAccepted}
-use Rattle.enip_cmd.specs.Statuses.{IsOpeningRefused}
-use Rattle.enip_cmd.proofs.StatusLemmas.{status_of_replay_fault, replay_line_refused, replay_configuration_refused, replay_setup}
+use Rattle.configured_runs.specs.Statuses.{IsOpeningRefused}
+use Rattle.configured_runs.proofs.StatusLemmas.{status_of_replay_fault, replay_line_refused, replay_configuration_refused, replay_setup}
 use Rattle.enip_cmd.proofs.replay.draw.Goals as goal
 
 pub returns-in-Ok-clause-accepted : goal.returns-in-Ok-clause-accepted

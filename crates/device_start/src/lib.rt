@@ -1,0 +1,21 @@
+//! What a served device starts from: its configuration, and FILE of `--keep`.
+//!
+//! - [`adapter_of`] is the adapter of a configuration that keeps nothing, and [`adapter_start`] what the adapter of one that
+//!   keeps its state starts from.
+//! - A [`KeptFile`] is FILE: how it is opened, and why it is refused. [`start_kept`] starts a device from it, and
+//!   [`print_kept_values`] prints what it has.
+//! - A [`ReportedAddress`] is where discovery reports the device, compared with where it listens.
+#![tactic(auto)]
+
+mod file_identity;
+mod kept_file;
+mod kept_start;
+mod kept_values;
+mod reported_address;
+mod start;
+
+pub use kept_file::{FileNote, FileRows, KeptFile, OpenFile};
+pub use kept_start::{print_kept_values, start_kept};
+pub use kept_values::KeptValues;
+pub use reported_address::{Elsewhere, ReportedAddress, listen_of, warn_of_address};
+pub use start::{adapter_of, adapter_start};

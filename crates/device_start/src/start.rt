@@ -1,0 +1,182 @@
+//! What a device starts from: the adapter of its configuration.
+
+ghost use Rattle.std.specs.Prelude.{◌≡◌, ◌≤◌, IfSome, IsTrue};
+ghost use Rattle.configured_adapter.specs.Configured.{shares_from};
+
+use config_file::ConfigFile;
+use configured_adapter::{adapter_from, adapter_in_life};
+use enip_access::Access;
+use enip_adapter::{Adapter, Limits, Listen, Shares};
+use enip_common::{CLOCK, CommandError, NamedReason, Reason};
+use enip_config::Configuration;
+use enip_server::NO_IDLE_TIMEOUT;
+use kept_adapter::{AdapterStart, LedgerStart};
+use std::time::UNIX_EPOCH;
+
+/// The adapter of a configuration. A command ledger gets another life with each start, because it is empty then.
+pub fn adapter_of<'a>(
+    rt: &HostRuntime,
+    config: &ConfigFile<'a>,
+    configuration: &Configuration,
+) -> Result<Adapter, CommandError<'a>> {
+    let loaded = match configuration.ledger {
+        None => adapter_from(rt.alloc(), config.bytes()),
+        Some(_) => adapter_in_life(rt.alloc(), config.bytes(), life_now(rt)?),
+    };
+    match loaded {
+        Ok(adapter) => Ok(adapter),
+        Err(fault) => Err(config.refused(rt.alloc(), fault)),
+    }
+}
+
+/// What the adapter of a configuration is started from, whose device keeps its state. A ledger of which nothing is kept
+/// begins a life now, and so does any ledger if `begins_life` is set.
+pub fn adapter_start<'a>(
+    rt: &HostRuntime,
+    config: &ConfigFile<'a>,
+    configuration: Configuration,
+    access: &Option<Access>,
+    begins_life: bool,
+    idle_timeout: u64,
+) -> Result<AdapterStart, CommandError<'a>> {
+    let life = life_now(rt)?;
+    let shares = shares_from(access);
+    match start_of(configuration, shares, life, begins_life, idle_timeout) {
+        Some(start) => Ok(start),
+        None => Err(CommandError::of_reason(Reason::Named(config.name(), NamedReason::Failed))),
+    }
+}
+
+/// What the adapter of a configuration is started from, to be read and not served.
+pub(crate) fn start_to_read<'a>(
+    rt: &HostRuntime,
+    config: &ConfigFile<'a>,
+) -> Result<AdapterStart, CommandError<'a>> {
+    let mut configuration = config.configuration(rt.alloc())?;
+    let access = configuration.access.take();
+    let life = life_now(rt)?;
+    match start_of(
+        configuration,
+        shares_from(&access),
+        life,
+        false,
+        NO_IDLE_TIMEOUT,
+    ) {
+        Some(start) => Ok(start),
+        None => Err(CommandError::of_reason(Reason::Named(config.name(), NamedReason::Failed))),
+    }
+}
+
+/// What an adapter is started from. The entries that are kept of it are in the order of their keys, so its assemblies and
+/// its own objects are in the order of their numbers. `None` if the configuration was not accepted before.
+fn start_of(
+    configuration: Configuration,
+    shares: Shares,
+    life: u64,
+    begins_life: bool,
+    idle_timeout: u64,
+) -> Option<AdapterStart> {
+    let queue = configuration.queue_limit();
+    let Configuration {
+        mut objects,
+        address,
+        port,
+        peers,
+        connections,
+        first_handle,
+        first_id,
+        ledger,
+        queue: _,
+        access: _,
+        attribute_types: _,
+    } = configuration;
+    objects
+        .assemblies
+        .sort_unstable_by_key(|assembly| assembly.instance);
+    objects
+        .objects
+        .sort_unstable_by_key(|object| (object.class, object.instance));
+    let ledger = ledger.map(|ledger| LedgerStart {
+        originators: ledger.originators,
+        life,
+    });
+    let limits = Limits {
+        peers,
+        connections,
+        first_handle,
+        first_id,
+    };
+    let is_accepted = objects.fault().is_none() && is_queue(queue);
+    if !is_accepted || !are_in_range(limits, ledger) || !are_shares(shares) {
+        return None;
+    }
+    Some(AdapterStart {
+        objects,
+        ledger,
+        queue,
+        begins_life,
+        listen: Listen { address, port },
+        limits,
+        shares,
+        idle_timeout,
+    })
+}
+
+/// How many peers and connections one address may have.
+fn shares_from(access: &Option<Access>) -> Shares
+    ensures { result ≡ shares_from access.now }
+{
+    match access {
+        Some(access) => Shares {
+            peers: access.peers_per_address(),
+            connections: access.most_connections_per_address(),
+        },
+        None => Shares::NONE,
+    }
+}
+
+/// Whether an adapter can have these shares.
+fn are_shares(shares: Shares) -> bool
+    ensures peers { IsTrue result → (1 ≤ shares.peers) × (shares.peers ≤ 16) }
+    ensures connections { IsTrue result → (1 ≤ shares.connections) × (shares.connections ≤ 64) }
+{
+    1 <= shares.peers && shares.peers <= 16 && 1 <= shares.connections && shares.connections <= 64
+}
+
+/// Whether so many commands can wait in a queue, if there is one.
+fn is_queue(queue: Option<u16>) -> bool
+    ensures { IsTrue result → IfSome queue (λ n. (1 ≤ n) × (n ≤ 256)) }
+{
+    match queue {
+        Some(limit) => 1 <= limit && limit <= 256,
+        None => true,
+    }
+}
+
+/// Whether an adapter has these limits, and a ledger so many slots.
+fn are_in_range(limits: Limits, ledger: Option<LedgerStart>) -> bool
+    ensures peers { IsTrue result → (1 ≤ limits.peers) × (limits.peers ≤ 16) }
+    ensures connections { IsTrue result → (1 ≤ limits.connections) × (limits.connections ≤ 64) }
+    ensures first { IsTrue result → (1 ≤ limits.first_handle) × (1 ≤ limits.first_id) }
+    ensures ledger { IsTrue result → IfSome ledger (λ l. (1 ≤ l.originators) × (l.originators ≤ 64)) }
+{
+    let has_slots = match ledger {
+        Some(ledger) => 1 <= ledger.originators && ledger.originators <= 64,
+        None => true,
+    };
+    has_slots
+        && 1 <= limits.peers
+        && limits.peers <= 16
+        && 1 <= limits.connections
+        && limits.connections <= 64
+        && 1 <= limits.first_handle
+        && 1 <= limits.first_id
+}
+
+/// The number of a life that starts now: the microseconds of the wall clock since 1970 (ours).
+fn life_now<'a>(rt: &HostRuntime) -> Result<u64, CommandError<'a>> {
+    match UNIX_EPOCH.elapsed(rt) {
+        Ok(age) => Ok(u64::try_from(age.as_micros()).unwrap_or(u64::MAX)),
+        Err(error) => Err(CommandError::of_system(CLOCK, error)),
+    }
+}

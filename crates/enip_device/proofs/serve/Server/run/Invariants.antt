@@ -1,5 +1,0 @@
-use Rattle.enip_device.proofs.serve.Server.run.Given as goal
-
--- The peers are ready at each turn.
-abbrev pub invariant-loop : goal.invariant-loop
-invariant-loop g l = g.S.Serving.is_ready l.self.peers

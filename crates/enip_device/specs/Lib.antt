@@ -1,4 +1,0 @@
-pub mod Admission
-pub mod Owners
-pub mod Readiness
-pub mod Reads

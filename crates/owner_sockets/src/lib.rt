@@ -1,0 +1,19 @@
+//! The sockets of a served device for its owner, a program that executes its commands. What the lines of an owner do is in
+//! `owner_port`.
+//!
+//! - [`OwnerSockets`] are the listener and the connection of the owner that there is. `specs/Owners.antt` says who may be
+//!   one.
+//! - An [`OwnerLink`] is the owner as the rounds of a device use it: the port for its lines, and its sockets. If the state
+//!   of the device is kept, it is the guest of the rounds.
+//! - [`Owned`] is a device with an owner that keeps nothing.
+#![tactic(auto)]
+
+mod connection;
+mod guest;
+mod link;
+mod owned;
+mod sockets;
+
+pub use link::OwnerLink;
+pub use owned::Owned;
+pub use sockets::OwnerSockets;
