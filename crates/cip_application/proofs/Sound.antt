@@ -15,7 +15,7 @@ use Rattle.cip_application.specs.Check.{demand}
 use Rattle.cip_application.specs.Attributes.{AttributeValues, attribute_at, with_placed, in_order, AreAllowed}
 use Rattle.cip_application.specs.Objects.{position_of, AllAllowed}
 use Rattle.cip_application.specs.Values.{capacity, is_allowed, check_value}
-use Rattle.cip_application.specs.Configuration.{is_taken_class, has_invalid_name, is_invalid_object, has_object, are_invalid_objects, has_invalid_range, is_invalid_kind, is_invalid_attribute, are_invalid_attributes, has_invalid_attributes, is_invalid_as, is_invalid_service, are_invalid_services, has_invalid_services, total_capacity, fault_of, attribute_of_config, object_of_config, AreOwn, IsBefore, AreInOrder}
+use Rattle.cip_application.specs.Configuration.{is_taken_class, is_misplaced, has_taken_class, has_invalid_name, is_invalid_object, has_object, are_invalid_objects, has_invalid_range, is_invalid_kind, is_invalid_attribute, are_invalid_attributes, has_invalid_attributes, is_invalid_as, is_invalid_service, are_invalid_services, has_invalid_services, total_capacity, fault_of, attribute_of_config, object_of_config, AreOwn, IsBefore, AreInOrder}
 use Rattle.cip_application.specs.Whole.{IsShort, IsSound}
 
 none_cond : (b : Bool) (x : ObjectFault) (r : Option ObjectFault) → cond b (Some x) r ≡ None → (b ≡ false) × (r ≡ None)
@@ -114,10 +114,11 @@ object_sound o e f =
 
 own_object : (counter : Bool) (o : ObjectConfig) → is_invalid_object counter o ≡ false → (is_taken_class counter o.class ≡ false) × (0 < o.class) × (0 < o.instance)
 own_object counter o e =
-    let a = or_false ((eqb o.class 0 || is_taken_class counter o.class) || eqb o.instance 0) (has_invalid_name o.name) e in
-    let b = or_false (eqb o.class 0 || is_taken_class counter o.class) (eqb o.instance 0) a.0 in
-    let c = or_false (eqb o.class 0) (is_taken_class counter o.class) b.0 in
-    (c.1, above o.class c.0, above o.instance b.1)
+    let a = or_false ((eqb o.class 0 || has_taken_class counter o) || eqb o.instance 0) (has_invalid_name o.name) e in
+    let b = or_false (eqb o.class 0 || has_taken_class counter o) (eqb o.instance 0) a.0 in
+    let c = or_false (eqb o.class 0) (has_taken_class counter o) b.0 in
+    let t = or_false (is_taken_class counter o.class) (is_misplaced o) c.1 in
+    (t.0, above o.class c.0, above o.instance b.1)
 
 -- no object has the class and the instance number
 alone : (class instance : ℕ) (xs : List ObjectConfig) → has_object class instance xs ≡ false → position_of class instance (map object_of_config xs) ≡ None

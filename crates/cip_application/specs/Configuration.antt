@@ -29,12 +29,24 @@ object_fault_number Object = 10
 object_fault_number Attribute = 11
 object_fault_number Service = 12
 
--- The classes that the adapter has itself. The command ledger is 0x65; the TCP/IP Interface and the Ethernet Link
--- object are 0xf5 and 0xf6. The counter's class is free if the counter is left out.
+-- The classes that the adapter has itself. The command ledger is 0x65. The counter's class is free if the counter is
+-- left out.
 abbrev pub is_taken_class : Bool → ℕ → Bool
 is_taken_class counter class =
     (class == IDENTITY) || (class == MESSAGE_ROUTER) || (class == ASSEMBLY) || (class == CONNECTION_MANAGER)
-    || (class == 0x65) || (class == 0xf5) || (class == 0xf6) || (counter && (class == COUNTER))
+    || (class == 0x65) || (counter && (class == COUNTER))
+
+-- The TCP/IP Interface and the Ethernet Link object are 0xf5 and 0xf6.
+abbrev pub is_standard_class : ℕ → Bool
+is_standard_class class = (class == 0xf5) || (class == 0xf6)
+
+-- An object of the standard has one of these two classes and instance number 1. No other object has one of them.
+abbrev pub is_misplaced : ObjectConfig → Bool
+is_misplaced o =
+    if o.standard then not (is_standard_class o.class) || not (o.instance == 1) else is_standard_class o.class
+
+abbrev pub has_taken_class : Bool → ObjectConfig → Bool
+has_taken_class counter o = is_taken_class counter o.class || is_misplaced o
 
 -- A name is optional. It has 1 to 32 bytes, each 0x20 to 0x7e.
 abbrev pub is_invalid_name : List ℕ → Bool
@@ -48,7 +60,7 @@ has_invalid_name (Some name) = is_invalid_name (string_bytes name)
 -- Class 0 does not exist, and instance 0 is the class itself.
 abbrev pub is_invalid_object : Bool → ObjectConfig → Bool
 is_invalid_object counter o =
-    (o.class == 0) || is_taken_class counter o.class || (o.instance == 0) || has_invalid_name o.name
+    (o.class == 0) || has_taken_class counter o || (o.instance == 0) || has_invalid_name o.name
 
 abbrev pub has_object : ℕ → ℕ → List ObjectConfig → Bool
 has_object class instance objects = list_any (λ o. (o.class == class) && (o.instance == instance)) objects

@@ -5,5 +5,6 @@ pub mod Configuration
 pub mod Attributes
 pub mod Objects
 pub mod Whole
+pub mod Standard
 pub mod Laws
 pub mod Rows

@@ -1,8 +1,9 @@
 -- Worked examples: each order of numbers at its limits, the sizes of a SHORT_STRING, and the order of attributes.
-use Rattle.std.specs.Prelude.{◌≡◌, ℕ, [], ◌∷◌, Some, None, true, false, Ok, Err, refl}
+use Rattle.std.specs.Prelude.{◌≡◌, ℕ, Bool, [], ◌∷◌, Some, None, true, false, Ok, Err, refl}
 use Rattle.cip_application.specs.declared.attribute.SetFault.TheVariants.{NotEnoughData, TooMuchData}
 use Rattle.cip_application.specs.declared.attribute.SetFault.TheVariants.{InvalidAttributeValue, AttributeNotSettable}
 use Rattle.cip_application.specs.declared.attribute.SetFault.TheVariants.{AttributeNotSupported}
+use Rattle.cip_application.specs.declared.config.ObjectConfig.{ObjectConfig}
 use Rattle.cip_application.specs.declared.config.ServiceConfig.{ServiceConfig}
 use Rattle.cip_application.specs.declared.config.ServiceKind.TheVariants as kinds
 use Rattle.cip_application.specs.declared.kind.AttributeKind.{AttributeKind}
@@ -11,10 +12,11 @@ use Rattle.cip_application.specs.declared.number.NumberRange.{NumberRange}
 use Rattle.cip_application.specs.declared.number.NumberType.{NumberType}
 use Rattle.cip_application.specs.declared.number.NumberType.TheVariants.{Uint, Sint, Int, Lint, Real, Lreal}
 use Rattle.cip_application.specs.Attributes.{AttributeValues, check_before_asking, in_order}
-use Rattle.cip_application.specs.Configuration.{is_taken_class, is_invalid_name, is_invalid_kind, is_invalid_service}
+use Rattle.cip_application.specs.Configuration.{is_taken_class, is_invalid_object, is_invalid_name, is_invalid_kind, is_invalid_service}
 use Rattle.cip_application.specs.Numbers.{is_at_most, is_within, are_within, numbers_of}
 use Rattle.cip_application.specs.Objects.{ObjectValues, object_set, object_write, objects_set, objects_approved}
 use Rattle.cip_application.specs.Objects.{position_of, class_of}
+use Rattle.cip_application.specs.Standard.{address_bytes, string_value, timeout}
 use Rattle.cip_application.specs.Values.{check_value, written_value}
 
 abbrev pub range : NumberType → ℕ → ℕ → NumberRange
@@ -287,6 +289,55 @@ counter_free = refl
 
 pub identity_taken : is_taken_class false 1 ≡ true
 identity_taken = refl
+
+-- The TCP/IP Interface has class 0xf5 and instance 1. No object of a device's own has class 0xf5 or 0xf6.
+abbrev pub placed : Bool → ℕ → ℕ → ObjectConfig → ObjectConfig
+placed standard class instance o =
+    record o { class = class; instance = instance; standard = standard; name = None }
+
+pub standard_allowed : (o : ObjectConfig) → is_invalid_object true (placed true 0xf5 1 o) ≡ false
+standard_allowed o = refl
+
+pub standard_of_another_class : (o : ObjectConfig) → is_invalid_object true (placed true 768 1 o) ≡ true
+standard_of_another_class o = refl
+
+pub standard_second : (o : ObjectConfig) → is_invalid_object true (placed true 0xf6 2 o) ≡ true
+standard_second o = refl
+
+pub own_interface : (o : ObjectConfig) → is_invalid_object true (placed false 0xf5 1 o) ≡ true
+own_interface o = refl
+
+pub own_link : (o : ObjectConfig) → is_invalid_object true (placed false 0xf6 1 o) ≡ true
+own_link o = refl
+
+pub own_of_a_vendor : (o : ObjectConfig) → is_invalid_object true (placed false 768 1 o) ≡ false
+own_of_a_vendor o = refl
+
+-- 10.0.0.9 is the UDINT 0x0a000009, whose least byte goes first.
+pub address_on_the_wire : address_bytes (10 ∷ 0 ∷ 0 ∷ 9 ∷ []) ≡ 9 ∷ 0 ∷ 0 ∷ 10 ∷ []
+address_on_the_wire = refl
+
+-- A STRING of no byte, of an even length and of an odd one.
+pub string_empty : string_value [] ≡ 0 ∷ 0 ∷ []
+string_empty = refl
+
+pub string_even : string_value (0x61 ∷ 0x62 ∷ []) ≡ 2 ∷ 0 ∷ 0x61 ∷ 0x62 ∷ []
+string_even = refl
+
+pub string_odd : string_value (0x61 ∷ 0x62 ∷ 0x63 ∷ []) ≡ 3 ∷ 0 ∷ 0x61 ∷ 0x62 ∷ 0x63 ∷ 0 ∷ []
+string_odd = refl
+
+-- The encapsulation inactivity timeout: 120 seconds as bytes, the greatest, and one second more.
+pub timeout_on_the_wire : (timeout 120).value ≡ 120 ∷ 0 ∷ []
+timeout_on_the_wire = refl
+
+pub timeout_greatest : check_value (timeout 120).kind (0x10 ∷ 0x0e ∷ []) ≡ Ok tt
+unfolding numbers_of is_at_most
+timeout_greatest = refl
+
+pub timeout_above : check_value (timeout 120).kind (0x11 ∷ 0x0e ∷ []) ≡ Err InvalidAttributeValue
+unfolding numbers_of is_at_most
+timeout_above = refl
 
 -- A UINT[3] has 6 bytes, and no UINT array has 5. A range whose bounds do not rise, or of NaN, is none.
 pub kind_of_an_array : is_invalid_kind (Fixed 6 (Some (range Uint 0 1))) ≡ false

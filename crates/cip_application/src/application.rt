@@ -105,6 +105,14 @@ impl ApplicationObjects {
         None
     }
 
+    /// The class of the object at an index.
+    pub fn class_at(&self, position: usize) -> u16
+        requires { position < length self.now }
+        ensures { result ≡ (object_in self.now position).class }
+    {
+        self.objects[position].class()
+    }
+
     /// The value of an attribute of the object at an index, or `None` if it has no such attribute.
     pub fn attribute(&self, position: usize, number: u16) -> Option<&[u8]>
         requires { position < length self.now }

@@ -2,7 +2,8 @@
 //! Text: docs/PROGRAM.md, "The configuration".
 ghost use Rattle.std.specs.Prelude.{◌≡◌, ◌-◌, ◌==◌, nat_lt, if◌then◌else◌, Some, None};
 ghost use Rattle.std.specs.List.{list_any};
-ghost use Rattle.cip_application.specs.Configuration.{is_taken_class, is_invalid_name, is_invalid_object, has_object};
+ghost use Rattle.cip_application.specs.Configuration.{is_taken_class, is_standard_class, is_misplaced, has_taken_class};
+ghost use Rattle.cip_application.specs.Configuration.{is_invalid_name, is_invalid_object, has_object};
 ghost use Rattle.cip_application.specs.Configuration.{are_invalid_objects, is_invalid_range, is_invalid_kind};
 ghost use Rattle.cip_application.specs.Configuration.{is_invalid_attribute, are_invalid_attributes};
 ghost use Rattle.cip_application.specs.Configuration.{has_invalid_attributes, capacity_of, total_capacity};
@@ -47,18 +48,20 @@ pub const QUEUED_REPLY_LIMIT: usize = 476;
 const LEDGER: u16 = 0x65;
 
 /// The class of the TCP/IP Interface object. (Volume 2, class codes.)
-const TCP_IP_INTERFACE: u16 = 0xf5;
+pub const TCP_IP_INTERFACE: u16 = 0xf5;
 
 /// The class of the Ethernet Link object. (Volume 2, class codes.)
-const ETHERNET_LINK: u16 = 0xf6;
+pub const ETHERNET_LINK: u16 = 0xf6;
 
-/// An application object: an instance of a class that the adapter does not have itself.
+/// An application object: an instance of a class that the adapter does not have itself. Two classes of the standard are
+/// made of the same parts: the TCP/IP Interface and the Ethernet Link.
 ///
 /// ```
 /// let mut attributes = Vec::new(alloc);
 /// attributes.push(speed)?;
 /// let services = Vec::new(alloc);
-/// let conveyor = ObjectConfig { class: 768, instance: 1, name: None, attributes, services };
+/// let conveyor =
+///     ObjectConfig { class: 768, instance: 1, standard: false, name: None, attributes, services };
 /// ```
 #[derive(Debug, Drop)]
 pub struct ObjectConfig {
@@ -66,6 +69,9 @@ pub struct ObjectConfig {
     pub class: u16,
     /// The instance number: not 0. No other object has the same class and instance number.
     pub instance: u16,
+    /// Whether it is the TCP/IP Interface or the Ethernet Link. Only such an object has class 0xf5 or 0xf6, and its
+    /// instance number is 1.
+    pub standard: bool,
     /// A name, for people: 1 to 32 bytes, each 0x20 to 0x7e.
     pub name: Option<String>,
     /// The attributes, at most 32, in any order.
@@ -191,11 +197,34 @@ fn is_taken_class(counter: bool, class: u16) -> bool
     ensures { result ≡ is_taken_class counter class }
 {
     match class {
-        IDENTITY | MESSAGE_ROUTER | ASSEMBLY | CONNECTION_MANAGER => true,
-        LEDGER | TCP_IP_INTERFACE | ETHERNET_LINK => true,
+        IDENTITY | MESSAGE_ROUTER | ASSEMBLY | CONNECTION_MANAGER | LEDGER => true,
         COUNTER => counter,
         _ => false,
     }
+}
+
+/// Whether this is the class of the TCP/IP Interface or of the Ethernet Link.
+pub fn is_standard_class(class: u16) -> bool
+    ensures { result ≡ is_standard_class class }
+{
+    class == TCP_IP_INTERFACE || class == ETHERNET_LINK
+}
+
+/// Whether an object of the standard has another class or instance number, or another object one of its classes.
+fn is_misplaced(object: &ObjectConfig) -> bool
+    ensures { result ≡ is_misplaced object.now }
+{
+    if object.standard {
+        return !is_standard_class(object.class) || object.instance != 1;
+    }
+    is_standard_class(object.class)
+}
+
+/// Whether an object has a class that it cannot have.
+fn has_taken_class(counter: bool, object: &ObjectConfig) -> bool
+    ensures { result ≡ has_taken_class counter object.now }
+{
+    is_taken_class(counter, object.class) || is_misplaced(object)
 }
 
 /// Whether a name is empty, too long, or has a byte that cannot be printed.
@@ -218,7 +247,7 @@ fn is_invalid_name(name: &[u8]) -> bool
 fn is_invalid_object(counter: bool, object: &ObjectConfig) -> bool
     ensures { result ≡ is_invalid_object counter object.now }
 {
-    if object.class == 0 || is_taken_class(counter, object.class) || object.instance == 0 {
+    if object.class == 0 || has_taken_class(counter, object) || object.instance == 0 {
         return true;
     }
     match &object.name {

@@ -20,13 +20,17 @@ mod kind;
 pub mod laws;
 mod number;
 mod object;
+mod standard;
 
 pub use application::{ApplicationObjects, ClassSummary};
 pub use attribute::SetFault;
 pub use config::{
-    AttributeConfig, GET_RESULT, ObjectConfig, ObjectFault, QUEUED_REPLY_LIMIT, SERVICE_DATA_LIMIT,
-    ServiceConfig, ServiceKind, fault,
+    AttributeConfig, ETHERNET_LINK, GET_RESULT, ObjectConfig, ObjectFault, QUEUED_REPLY_LIMIT,
+    SERVICE_DATA_LIMIT, ServiceConfig, ServiceKind, TCP_IP_INTERFACE, fault, is_standard_class,
 };
 pub use kind::{AttributeKind, VALUE_LIMIT};
 pub use number::{NumberRange, NumberType};
 pub use object::AttributeName;
+pub use standard::{
+    DOMAIN_LIMIT, EthernetLink, HOST_LIMIT, INACTIVITY_LIMIT, LABEL_LIMIT, TcpIpInterface,
+};

@@ -15,7 +15,7 @@ use Rattle.cip_application.specs.declared.kind.AttributeKind.TheVariants.{Fixed}
 use Rattle.cip_application.specs.Attributes.{AttributeValues, attribute_at, attribute_set, attribute_by, can_be_set, one_more}
 use Rattle.cip_application.specs.Check.{demand as demand_value}
 use Rattle.cip_application.specs.Configuration.{is_taken_class}
-use Rattle.cip_application.specs.Objects.{ObjectValues, position_of, object_in, value_in, object_with, objects_set, objects_by, objects_write, objects_restore, changes_of, instances_of, greatest_of as greatest_in, summary_of, class_of}
+use Rattle.cip_application.specs.Objects.{ObjectValues, position_of, object_in, value_in, value_of, object_with, objects_set, objects_by, objects_write, objects_restore, changes_of, instances_of, greatest_of as greatest_in, summary_of, class_of}
 use Rattle.cip_application.specs.Values.{size_for, check_value, is_allowed as is_allowed_value, Writing, from_offset, as_whole}
 use Rattle.cip_objects.specs.declared.object_ref.ObjectRef.TheVariants as object_refs
 use Rattle.cip_objects.specs.declared.object_ref.Settable.TheVariants as settables
@@ -27,7 +27,7 @@ use Rattle.cip_objects.specs.Changes.{changes_at, counted_in}
 use Rattle.cip_objects.specs.Check.{demand, check_size}
 use Rattle.cip_objects.specs.Contents.{Contents, value_at, bytes_at, with_value, with_change}
 use Rattle.cip_objects.specs.DeviceWrites.{with_attribute_by, object_by, object_write}
-use Rattle.cip_objects.specs.Entries.{IdentityValues, AssemblyValues, CounterValues, AreApart, AreDistinct, NoneIsClass, attribute_in, attributes_of_class, class_attributes, counter_attributes, object_attributes, object_shape_of, attribute_shape_of, object_tallies, contents_of}
+use Rattle.cip_objects.specs.Entries.{IdentityValues, AssemblyValues, CounterValues, AreApart, AreDistinct, NoneIsClass, attribute_in, attributes_of_class, class_attributes, class_revision, counter_attributes, object_attributes, object_shape_of, attribute_shape_of, object_tallies, contents_of}
 use Rattle.cip_objects.specs.Kept.{with_kept, kept_object_kind}
 use Rattle.cip_objects.specs.ObjectMap.{key}
 use Rattle.cip_objects.specs.ObjectRef.{IsFree, IsObjectIndex, IsObjectClass, IsSettable, kind_to_set, Resolves, value_to, bytes_to, after_set, object_in as shape_in}
@@ -236,6 +236,19 @@ object_read d bs c os m k n is h own p =
     ∙ ap (λ x. value_at x (object_in os k).class (object_in os k).instance n) (sym is)
     ∙ found_value d bs c os k n h own (found_index d bs c os m k is own p)
 
+-- the value of an attribute of the TCP/IP Interface, if there is one
+value_found : (n : ℕ) (os : List ObjectValues) (k : Option ℕ) → object_value n (option_map (object_in os) k) ≡ option_and_then (λ i. value_in (object_in os i) n) k
+value_found n os None = refl
+value_found n os (Some i) = attribute_read n (object_in os i).attributes
+
+pub interface_read : (d : IdentityValues) (bs : List AssemblyValues) (c : CounterValues) (os : List ObjectValues) (m : Contents) (n : ℕ) → contents_of d bs c os ≡ m → NoneIsClass bs → AreApart c.enabled (map object_shape_of os)
+    → value_at m 0xf5 1 n ≡ value_of os 0xf5 1 n
+interface_read d bs c os m n is h own =
+    ap (λ x. value_at x 0xf5 1 n) (sym is)
+    ∙ own_lookup d bs c os 0xf5 1 n h own refl refl refl
+    ∙ ap (object_value n) (find_position 0xf5 1 os)
+    ∙ value_found n os (position_of 0xf5 1 os)
+
 -- the classes of application objects
 numbers-map : (class : ℕ) (os : List ObjectValues) → numbers_in class (map object_shape_of os) ≡ instances_of class os
 numbers-map class [] = refl
@@ -289,12 +302,13 @@ class_missing class os e = any_filled class os ∙ no_instances (instances_of cl
 pub class_there : (class : ℕ) (os : List ObjectValues) (s : ClassSummary) → class_of class os ≡ Some s → list_any (λ o. eqb o.class class) (map object_shape_of os) ≡ true
 class_there class os s e = any_filled class os ∙ (some_instances (instances_of class os) s e).0
 
-class_values : (class : ℕ) (os : List ObjectValues) (s : ClassSummary) → class_of class os ≡ Some s → attributes_of_class class (map object_shape_of os) ≡ class_attributes 1 s.greatest s.instances
+class_values : (class : ℕ) (os : List ObjectValues) (s : ClassSummary) → class_of class os ≡ Some s → attributes_of_class class (map object_shape_of os) ≡ class_attributes (class_revision class) s.greatest s.instances
 class_values class os s e =
     let p = some_instances (instances_of class os) s e in
-    ap (λ ns. class_attributes 1 (greatest_number ns) (length ns)) (numbers-map class os)
-    ∙ ap (λ g. class_attributes 1 g (length (instances_of class os))) (greatest-same (instances_of class os) ∙ sym p.1)
-    ∙ ap (class_attributes 1 s.greatest) (sym p.2)
+    let r = class_revision class in
+    ap (λ ns. class_attributes r (greatest_number ns) (length ns)) (numbers-map class os)
+    ∙ ap (λ g. class_attributes r g (length (instances_of class os))) (greatest-same (instances_of class os) ∙ sym p.1)
+    ∙ ap (class_attributes r s.greatest) (sym p.2)
 
 -- a free class is not the device's own
 pub free_counter : (d : IdentityValues) (bs : List AssemblyValues) (c : CounterValues) (os : List ObjectValues) (m : Contents) (class : ℕ) → contents_of d bs c os ≡ m → IsFree m.shapes class → eqb class 100 && c.enabled ≡ false
@@ -313,7 +327,7 @@ class_unread d bs c os m class n is h own f e =
     ∙ ap (λ t. cond t (attribute_in n (attributes_of_class class (map object_shape_of os))) None) (class_missing class os e)
 
 pub class_read : (d : IdentityValues) (bs : List AssemblyValues) (c : CounterValues) (os : List ObjectValues) (m : Contents) (class n : ℕ) (s : ClassSummary) → contents_of d bs c os ≡ m → NoneIsClass bs → AreApart c.enabled (map object_shape_of os) → IsFree m.shapes class → class_of class os ≡ Some s
-    → value_at m class 0 n ≡ attribute_in n (class_attributes 1 s.greatest s.instances)
+    → value_at m class 0 n ≡ attribute_in n (class_attributes (class_revision class) s.greatest s.instances)
 class_read d bs c os m class n s is h own f e =
     class_lookup d bs c os m class n is h own f
     ∙ ap (λ t. cond t (attribute_in n (attributes_of_class class (map object_shape_of os))) None) (class_there class os s e)

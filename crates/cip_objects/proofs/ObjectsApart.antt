@@ -6,7 +6,7 @@ use Rattle.cip_application.specs.declared.config.AttributeConfig.{AttributeConfi
 use Rattle.cip_application.specs.declared.config.ObjectConfig.{ObjectConfig}
 use Rattle.cip_application.specs.declared.config.ObjectFault.{ObjectFault}
 use Rattle.cip_application.specs.Attributes.{AttributeValues, with_placed, in_order}
-use Rattle.cip_application.specs.Configuration.{is_taken_class, is_invalid_object, has_invalid_name, has_object, are_invalid_objects, is_invalid_attribute, are_invalid_attributes, has_invalid_attributes, total_capacity, fault_of, attribute_of_config, object_of_config, objects_of_config}
+use Rattle.cip_application.specs.Configuration.{is_taken_class, is_misplaced, has_taken_class, is_invalid_object, has_invalid_name, has_object, are_invalid_objects, is_invalid_attribute, are_invalid_attributes, has_invalid_attributes, total_capacity, fault_of, attribute_of_config, object_of_config, objects_of_config}
 use Rattle.cip_objects.specs.Entries.{AreDistinct, AreApart, attribute_shape_of, object_shape_of}
 use Rattle.cip_objects.specs.Tables.{object_at}
 
@@ -98,10 +98,10 @@ apart : (counter : Bool) (cs : List ObjectConfig) → are_invalid_objects counte
 apart counter [] e f = tt
 apart counter (o ∷ cs) e f =
     let p = three_false (is_invalid_object counter o) (has_object o.class o.instance cs) (are_invalid_objects counter cs) e in
-    let q = four_false (eqb o.class 0) (is_taken_class counter o.class) (eqb o.instance 0) (has_invalid_name o.name) p.0 in
+    let q = four_false (eqb o.class 0) (has_taken_class counter o) (eqb o.instance 0) (has_invalid_name o.name) p.0 in
     let r = or_false (has_invalid_attributes o) (list_any has_invalid_attributes cs) f in
     let attributes = (or_false (nat_lt 32 (length o.attributes.items)) (are_invalid_attributes o.attributes.items) r.0).1 in (
-      q.0,
+      (or_false (is_taken_class counter o.class) (is_misplaced o) q.0).0,
       above o.instance q.1,
       not_there o.class o.instance cs p.1,
       rw (shape_numbers (in_order (map attribute_of_config o.attributes.items))) (distinct o.attributes.items attributes),

@@ -6,7 +6,7 @@ use Rattle.std.specs.List.{flat_map, list_any}
 use Rattle.std.specs.FinMap.{from_entries}
 use Rattle.byteorder.specs.Endian.{little_bytes}
 use Rattle.cip_application.specs.Attributes.{AttributeValues}
-use Rattle.cip_application.specs.Configuration.{is_taken_class}
+use Rattle.cip_application.specs.Configuration.{is_taken_class, is_standard_class}
 use Rattle.cip_application.specs.Objects.{ObjectValues}
 use Rattle.cip_message.specs.declared.key.Device.{Device}
 use Rattle.cip_objects.specs.ObjectMap.{Key, key}
@@ -99,10 +99,15 @@ object_attributes o = map (λ a. (a.number, a.value)) o.attributes
 abbrev pub object_entries : List ObjectValues → Entries
 object_entries os = flat_map (λ o. entries_at o.class o.instance (object_attributes o)) os
 
+-- The revision of a class of application objects. That of the TCP/IP Interface and of the Ethernet Link is 4.
+abbrev pub class_revision : ℕ → ℕ
+class_revision class = if is_standard_class class then 4 else 1
+
 -- The attributes of a class of application objects.
 abbrev pub attributes_of_class : ℕ → List ObjectShape → Attributes
 attributes_of_class class objects =
-    class_attributes 1 (greatest_number (numbers_in class objects)) (length (numbers_in class objects))
+    class_attributes (class_revision class) (greatest_number (numbers_in class objects))
+    (length (numbers_in class objects))
 
 -- The entries of the classes of these, which are among all application objects.
 abbrev pub class_entries : List ObjectShape → List ObjectShape → Entries

@@ -1,9 +1,10 @@
 -- The services that read objects. In each, the first check that fails decides (Volume 1, common services).
-use Rattle.std.specs.Prelude.{ℕ, ◌+◌, ◌*◌, Bool, true, false, ◌&&◌, ◌==◌, nat_le, if◌then◌else◌, List, [], ◌∷◌, ◌++◌}
+use Rattle.std.specs.Prelude.{ℕ, ◌+◌, ◌*◌, Bool, true, false, not, ◌&&◌, ◌==◌, nat_le, if◌then◌else◌, List, [], ◌∷◌, ◌++◌}
 use Rattle.std.specs.Prelude.{length, map, take, drop, Option, Some, None, is_some, Result, Ok, Err}
 use Rattle.std.specs.Option.{ok_or}
 use Rattle.std.specs.List.{flat_map}
 use Rattle.byteorder.specs.Endian.{little_number}
+use Rattle.cip_application.specs.Configuration.{is_standard_class}
 use Rattle.cip_message.specs.declared.path.Path.{Path}
 use Rattle.cip_bytes.specs.Numbers.{le, words_of}
 use Rattle.cip_objects.specs.declared.assembly.Span.{Span}
@@ -62,9 +63,11 @@ abbrev pub all_attributes : Shapes → ℕ → ℕ → List ℕ
 all_attributes shapes class instance =
     if class == IDENTITY then IDENTITY_ATTRIBUTES else numbers_of (object_at class instance shapes.objects)
 
--- Get_Attributes_All: the values of these attributes, joined.
+-- Get_Attributes_All: the values of these attributes, joined. The TCP/IP Interface and the Ethernet Link do not have
+-- the service, as they lack attributes that its reply would have (our choice).
 unfoldable pub get_attributes_all : Contents → Path → List ℕ → Result Answer Refusal
 get_attributes_all m path content = do
+  demand (not (is_standard_class path.class)) ServiceNotSupported
   check_size 0 content
   answer Whole (flat_map (bytes_at m path.class path.instance)
       (all_attributes m.shapes path.class path.instance))

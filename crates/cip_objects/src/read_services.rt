@@ -2,6 +2,7 @@
 //! Text: docs/PROTOCOL.md, "Objects".
 ghost use Rattle.std.specs.Prelude.{◌≡◌, ◌≤◌, ◌+◌, [], ◌∷◌, ◌++◌, length, Some, IfOk};
 ghost use Rattle.std.specs.List.{flat_map};
+ghost use Rattle.cip_application.specs.Configuration.{is_standard_class};
 ghost use Rattle.cip_bytes.specs.Numbers.{le, words_of};
 ghost use Rattle.cip_bytes.specs.Protocol.{general_status_number};
 ghost use Rattle.cip_objects.specs.ObjectRef.{Exists, IsAssembly, bytes_to, path_to, span_result};
@@ -63,9 +64,26 @@ impl Objects {
             ≡ outcome_within max_size reply.old.items (outcome_of_read self.now
             (get_attributes_all self.now (path_to self.now.shapes resolved) «data».now)) }
     {
+        // It has no reply with these objects' attributes alone: 0x08.
+        if self.is_standard(resolved.object) {
+            return Err(Refusal::ServiceNotSupported);
+        }
         check_size(0, data)?;
         self.append_all(resolved.object, max_size, reply)?;
         Ok(Completion::Whole)
+    }
+
+    /// Whether an object is the TCP/IP Interface or the Ethernet Link.
+    #[inline(always)]
+    fn is_standard(&self, object: ObjectRef) -> bool
+        requires there { Exists self.now.shapes object }
+        requires whole { IsReadWhole object }
+        ensures { result ≡ is_standard_class (class_at self.now.shapes object) }
+    {
+        match object {
+            ObjectRef::Application(object_index) => self.is_standard_object(object_index),
+            _ => false,
+        }
     }
 
     /// Appends the values of all attributes that Get_Attributes_All reads of an object.

@@ -8,3 +8,4 @@ pub mod Refused
 pub mod ReadLemmas
 pub mod ShareLemmas
 pub mod NumberLemmas
+pub mod StandardLemmas

@@ -23,7 +23,8 @@ use Rattle.enip_config.specs.declared.ledger.LedgerConfig.{LedgerConfig}
 use Rattle.enip_config.specs.Commands.{has_queued}
 use Rattle.enip_config.specs.Keys.{row, originators_row, life_row, queue_row, number_of, name_of, address_of, assemblies_of}
 use Rattle.enip_config.specs.Keys.{ledger_of, queue_of, counter_enabled}
-use Rattle.enip_config.specs.Objects.{objects_of, object_seen}
+use Rattle.enip_config.specs.Objects.{object_seen}
+use Rattle.enip_config.specs.StandardObjects.{all_objects_of}
 use Rattle.enip_config.specs.ObjectTypes.{types_of, types_seen}
 use Rattle.config_refusal.specs.Refusals.{fault_of_objects}
 use Rattle.enip_config.specs.Access.{shares_of, shares_seen, lists_of, lists_seen, HasShares}
@@ -63,7 +64,7 @@ pub record HasValues (described : Members) (c : Configuration) : Type 0 where
   pub ledger : ledger_of described ≡ Some (option_map ledger_seen c.ledger)
   pub queue : queue_of described ≡ Some c.queue
   pub enabled : counter_enabled described ≡ Some c.objects.counter.enabled
-  pub objects : objects_of described ≡ Some (map object_seen c.objects.objects.items)
+  pub objects : all_objects_of described ≡ Some (map object_seen c.objects.objects.items)
   pub shares : shares_of described ≡ Some (option_map shares_seen c.access)
   pub types : map types_seen c.attribute_types.items ≡ types_of described
 
@@ -72,7 +73,7 @@ abbrev pub HasBadValue : Members → Type 0
 HasBadValue described =
     ((key : NumberKey) × (number_of key described ≡ None))
     ⊎ ((name_of described ≡ None) ⊎ ((address_of described ≡ None) ⊎ ((assemblies_of described ≡ None)
-    ⊎ ((ledger_of described ≡ None) ⊎ ((counter_enabled described ≡ None) ⊎ ((objects_of described ≡ None)
+    ⊎ ((ledger_of described ≡ None) ⊎ ((counter_enabled described ≡ None) ⊎ ((all_objects_of described ≡ None)
     ⊎ ((shares_of described ≡ None) ⊎ (queue_of described ≡ None))))))))
 
 -- why a table whose keys are all known gives no configuration

@@ -3,7 +3,8 @@ use Rattle.std.specs.Prelude.{ℕ, List, [], ◌∷◌, ◌++◌, map, Bool, tru
 use Rattle.std.specs.List.{list_any}
 use Rattle.enip_config.specs.declared.known.TableKind.{TableKind}
 use Rattle.enip_config.specs.declared.known.TableKind.TheVariants.{Text, Counter, Assembly, Ledger, Object}
-use Rattle.enip_config.specs.declared.known.TableKind.TheVariants.{Attribute, Service, Commands, Access}
+use Rattle.enip_config.specs.declared.known.TableKind.TheVariants.{Attribute, Service, Commands, Access, TcpIp}
+use Rattle.enip_config.specs.declared.known.TableKind.TheVariants.{EthernetLink}
 use Rattle.enip_config.specs.declared.key.NumberKey.{NumberKey}
 use Rattle.enip_config.specs.declared.key.NumberKey.TheVariants.{Vendor, DeviceType, ProductCode, Major, Minor, Serial}
 use Rattle.enip_config.specs.declared.key.NumberKey.TheVariants.{Status, State, Port, Peers, Connections, FirstHandle}
@@ -11,6 +12,7 @@ use Rattle.enip_config.specs.declared.key.NumberKey.TheVariants.{FirstId, Counte
 use Rattle.enip_config.specs.declared.key.NumberKey.TheVariants.{CounterLimit}
 use Rattle.enip_config.specs.Keys.{row, instance_row, originators_row, life_row, queue_row}
 use Rattle.enip_config.specs.Objects.{class_row, attribute_row, service_row, reply_row}
+use Rattle.enip_config.specs.StandardObjects.{timeout_row, speed_row, flags_row, type_row, state_row}
 use Rattle.toml.specs.Data.{Data, array, table, Items, no_items, item, Members, no_members, member}
 
 -- whether there is a key within a value, at any depth
@@ -63,6 +65,11 @@ keys_of Assembly = instance_row.name ∷ codes "settable" ∷ codes "members" �
 keys_of Ledger = originators_row.name ∷ life_row.name ∷ []
 keys_of Commands = queue_row.name ∷ []
 keys_of Access = codes "read" ∷ codes "write" ∷ codes "per_address" ∷ codes "connections_per_address" ∷ []
+keys_of TcpIp =
+    codes "address" ∷ codes "mask" ∷ codes "gateway" ∷ codes "name_servers" ∷ codes "domain" ∷ codes "host"
+    ∷ timeout_row.name ∷ []
+keys_of EthernetLink =
+    speed_row.name ∷ flags_row.name ∷ codes "physical_address" ∷ type_row.name ∷ state_row.name ∷ codes "label" ∷ []
 keys_of Object = class_row.name ∷ instance_row.name ∷ codes "name" ∷ []
 keys_of Attribute =
     attribute_row.name ∷ codes "type" ∷ codes "value" ∷ codes "settable" ∷ codes "checked" ∷ codes "min"
@@ -102,6 +109,8 @@ is_unknown key value =
     else if bytes_eq key (codes "ledger") then has_other_keys_within (keys_of Ledger) value
     else if bytes_eq key (codes "commands") then has_other_keys_within (keys_of Commands) value
     else if bytes_eq key (codes "access") then has_other_keys_within (keys_of Access) value
+    else if bytes_eq key (codes "tcp_ip") then has_other_keys_within (keys_of TcpIp) value
+    else if bytes_eq key (codes "ethernet_link") then has_other_keys_within (keys_of EthernetLink) value
     else if bytes_eq key (codes "object") then has_other_keys_in_objects value
     else not (is_among (keys_of Text) key) || has_key value
 

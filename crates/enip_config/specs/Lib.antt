@@ -3,6 +3,7 @@ pub mod Types
 pub mod Commands
 pub mod Objects
 pub mod ObjectTypes
+pub mod StandardObjects
 pub mod Known
 pub mod Access
 pub mod Documents

@@ -112,9 +112,9 @@ attributes_of described = read_or (Some []) attributes_in (get_member (codes "at
 
 -- ---- objects
 
--- an object's class, instance, name if it has one, attributes and services
+-- whether an object is one of the standard, its class, instance, name if it has one, attributes and services
 abbrev pub ObjectSeen : Type 0
-ObjectSeen = ℕ × (ℕ × (Option (List ℕ) × (List AttributeSeen × List ServiceSeen)))
+ObjectSeen = Bool × (ℕ × (ℕ × (Option (List ℕ) × (List AttributeSeen × List ServiceSeen))))
 
 abbrev pub object_name : Members → Option (Option (List ℕ))
 object_name described =
@@ -122,19 +122,23 @@ object_name described =
 
 abbrev pub object_in : Data → Option ObjectSeen
 object_in (table described) =
-    both (number_by class_row described)
+    both (Some false)
+    (both (number_by class_row described)
     (both (number_by instance_row described)
-    (both (object_name described) (both (attributes_of described) (services_of described))))
+    (both (object_name described) (both (attributes_of described) (services_of described)))))
 object_in _ = None
 
 abbrev pub object_seen : ObjectConfig → ObjectSeen
 object_seen object = (
-  object.class,
+  object.standard,
   (
-    object.instance,
+    object.class,
     (
-      option_map string_bytes object.name,
-      (map attribute_seen object.attributes.items, map service_seen object.services.items),
+      object.instance,
+      (
+        option_map string_bytes object.name,
+        (map attribute_seen object.attributes.items, map service_seen object.services.items),
+      ),
     ),
   ),
 )

@@ -18,7 +18,7 @@ use crate::key::{DEFAULT_QUEUE, NumberKey};
 use crate::known::has_unknown_key;
 use crate::ledger::{LedgerConfig, ledger_of};
 use crate::object_types::types_of;
-use crate::objects::objects_of;
+use crate::standard::all_objects_of;
 use crate::values::{address_of, counter_enabled, name_of, number};
 use cip_objects::{Config, CounterConfig};
 use config_refusal::{ConfigurationRefusal, LoadFault};
@@ -152,7 +152,7 @@ impl Configuration {
         let access = shares_of(text)?;
         let name = name_of(text)?;
         let assemblies = assemblies_of(alloc, text)?;
-        let objects = objects_of(alloc, text)?;
+        let objects = all_objects_of(alloc, text)?;
         let attribute_types = types_of(alloc, text)?;
         Ok(Configuration {
             objects: Config {

@@ -37,6 +37,23 @@ write = ["127.0.0.1", "::1"] # who may also change something: the same; default 
 per_address = 4              # how many clients of one address are served at once: 1 to 16; default no limit
 connections_per_address = 16 # how many of its connections are open at once: 1 to 64; default no limit
 
+[tcp_ip]                     # class 0xf5, the TCP/IP Interface; it changes nothing on this computer
+address = [10, 0, 0, 9]      # the address of the device
+mask = [255, 255, 255, 0]    # its network mask
+gateway = [10, 0, 0, 1]      # its default gateway; default [0, 0, 0, 0]
+name_servers = [[10, 0, 0, 2]] # up to two addresses; default none
+domain = "plant.example"     # up to 48 characters, 0x20 to 0x7e; default none
+host = "mixer"               # up to 64 characters; default none
+inactivity_timeout = 120     # in seconds, clients can set it: 0 to 3600; default 120
+
+[ethernet_link]              # class 0xf6, the Ethernet Link; the same
+speed = 100                  # in Mbit/s: 0 to 4294967295; default 100
+flags = 15                   # default 15: an active link, full duplex, negotiated
+physical_address = [2, 0, 0, 0, 0, 9] # the MAC address; default all zeros
+type = 2                     # 0 to 255; default 2, twisted pair
+state = 1                    # 0 to 255; default 1, enabled
+label = "Port 1"             # up to 64 characters; default none
+
 [[assembly]]                 # class 4, one table for each assembly, up to 16
 instance = 100               # 1 to 65535
 settable = true              # whether clients can write the data; default false

@@ -82,6 +82,8 @@ pub(crate) enum Problem {
     Float(&'static str, Value),
     #[error("{0} is not {1}")]
     Type(&'static str, &'static str),
+    #[error("{0} has {1} bytes (allowed: up to {2}, each from 0x20 to 0x7e)")]
+    Text(&'static str, usize, usize),
     #[error("{0} is neither true nor false")]
     Flag(&'static str),
     #[error("size and sizes exclude each other")]
@@ -117,9 +119,9 @@ pub(crate) enum Problem {
     Check(u8),
 }
 
-/// A location in a configuration: a key at the top level, a key of the table `counter`, `ledger`, `commands` or
-/// `access`, one of the tables `assembly` or `object`, from 0, or a key of one. A part of an object is one of its
-/// tables `attribute` or `service`, from 0.
+/// A location in a configuration: a key at the top level, a key of the table `counter`, `ledger`, `commands`, `access`,
+/// `tcp_ip` or `ethernet_link`, one of the tables `assembly` or `object`, from 0, or a key of one. A part of an object
+/// is one of its tables `attribute` or `service`, from 0.
 #[derive(Clone, Copy)]
 pub(crate) enum Location<'a> {
     Text(&'a str),
@@ -127,6 +129,8 @@ pub(crate) enum Location<'a> {
     Ledger(&'a str),
     Commands(&'a str),
     Access(&'a str),
+    TcpIp(&'a str),
+    EthernetLink(&'a str),
     Assembly(usize),
     InAssembly(usize, &'a str),
     Object(usize),
@@ -144,6 +148,8 @@ impl Location<'_> {
             Location::Ledger(key) => has_member(text.get("ledger"), key),
             Location::Commands(key) => has_member(text.get("commands"), key),
             Location::Access(key) => has_member(text.get("access"), key),
+            Location::TcpIp(key) => has_member(text.get("tcp_ip"), key),
+            Location::EthernetLink(key) => has_member(text.get("ethernet_link"), key),
             Location::Assembly(place) => item_at(text.get("assembly"), place).is_some(),
             Location::InAssembly(place, key) => {
                 has_member(item_at(text.get("assembly"), place), key)

@@ -4,6 +4,8 @@
 ghost use Rattle.std.specs.Prelude.{◌≡◌, bytes_eq};
 ghost use Rattle.enip_config.specs.Keys.{row, row_seen};
 
+use cip_application::INACTIVITY_LIMIT;
+
 /// The port registered for EtherNet/IP. (Volume 2, TCP.)
 const REGISTERED_PORT: u64 = 44_818;
 
@@ -111,6 +113,46 @@ pub(crate) const LIFE: Row = Row {
     name: "life",
     least: 1,
     greatest: 0x7fff_ffff_ffff_ffff,
+    default: Some(1),
+};
+
+/// The key `inactivity_timeout` of the table `tcp_ip`. (Volume 2, TCP/IP Interface object.)
+pub(crate) const INACTIVITY_TIMEOUT: Row = Row {
+    name: "inactivity_timeout",
+    least: 0,
+    greatest: INACTIVITY_LIMIT as u64,
+    default: Some(120),
+};
+
+/// The key `speed` of the table `ethernet_link`, in Mbit/s.
+pub(crate) const SPEED: Row = Row {
+    name: "speed",
+    least: 0,
+    greatest: GREATEST_UDINT,
+    default: Some(100),
+};
+
+/// The key `flags` of the table `ethernet_link`. The default is an active link, full duplex, negotiated.
+pub(crate) const FLAGS: Row = Row {
+    name: "flags",
+    least: 0,
+    greatest: GREATEST_UDINT,
+    default: Some(0x0f),
+};
+
+/// The key `type` of the table `ethernet_link`. The default is twisted pair.
+pub(crate) const INTERFACE_TYPE: Row = Row {
+    name: "type",
+    least: 0,
+    greatest: 0xff,
+    default: Some(2),
+};
+
+/// The key `state` of the table `ethernet_link`. The default is enabled.
+pub(crate) const INTERFACE_STATE: Row = Row {
+    name: "state",
+    least: 0,
+    greatest: 0xff,
     default: Some(1),
 };
 

@@ -11,7 +11,8 @@ ghost use Rattle.enip_config.specs.Known.{has_other_keys_in_objects, object_has_
 ghost use Rattle.enip_config.specs.Known.{is_unknown_in_object};
 
 use crate::key::{
-    ATTRIBUTE_NUMBER, CLASS, INSTANCE, LIFE, NumberKey, ORIGINATORS, QUEUE, REPLY, SERVICE_NUMBER,
+    ATTRIBUTE_NUMBER, CLASS, FLAGS, INACTIVITY_TIMEOUT, INSTANCE, INTERFACE_STATE, INTERFACE_TYPE,
+    LIFE, NumberKey, ORIGINATORS, QUEUE, REPLY, SERVICE_NUMBER, SPEED,
 };
 use toml::{Table, Value};
 
@@ -30,6 +31,10 @@ pub(crate) enum TableKind {
     Commands,
     /// The table `access`.
     Access,
+    /// The table `tcp_ip`.
+    TcpIp,
+    /// The table `ethernet_link`.
+    EthernetLink,
     /// A table `object`, without the tables in it.
     Object,
     /// A table `object.attribute`.
@@ -74,6 +79,8 @@ impl TableKind {
             TableKind::Ledger => ORIGINATORS.is_named(name) || LIFE.is_named(name),
             TableKind::Commands => QUEUE.is_named(name),
             TableKind::Access => is_access_key(name),
+            TableKind::TcpIp => is_tcp_ip_key(name),
+            TableKind::EthernetLink => is_link_key(name),
             TableKind::Object => CLASS.is_named(name) || INSTANCE.is_named(name) || name == "name",
             TableKind::Attribute => is_attribute_key(name),
             TableKind::Service => is_service_key(name),
@@ -86,6 +93,31 @@ fn is_access_key(name: &str) -> bool
     ensures { result ≡ is_among (keys_of TableKind.Access) name.now }
 {
     name == "read" || name == "write" || name == "per_address" || name == "connections_per_address"
+}
+
+/// Whether the table `tcp_ip` has a key of this name.
+fn is_tcp_ip_key(name: &str) -> bool
+    ensures { result ≡ is_among (keys_of TableKind.TcpIp) name.now }
+{
+    name == "address"
+        || name == "mask"
+        || name == "gateway"
+        || name == "name_servers"
+        || name == "domain"
+        || name == "host"
+        || INACTIVITY_TIMEOUT.is_named(name)
+}
+
+/// Whether the table `ethernet_link` has a key of this name.
+fn is_link_key(name: &str) -> bool
+    ensures { result ≡ is_among (keys_of TableKind.EthernetLink) name.now }
+{
+    SPEED.is_named(name)
+        || FLAGS.is_named(name)
+        || name == "physical_address"
+        || INTERFACE_TYPE.is_named(name)
+        || INTERFACE_STATE.is_named(name)
+        || name == "label"
 }
 
 /// Whether a table `object.attribute` has a key of this name.
@@ -146,6 +178,8 @@ fn is_unknown(key: &str, value: &Value) -> bool
         "ledger" => has_other_keys_within(value, TableKind::Ledger),
         "commands" => has_other_keys_within(value, TableKind::Commands),
         "access" => has_other_keys_within(value, TableKind::Access),
+        "tcp_ip" => has_other_keys_within(value, TableKind::TcpIp),
+        "ethernet_link" => has_other_keys_within(value, TableKind::EthernetLink),
         "object" => has_other_keys_in_objects(value),
         name => !TableKind::Text.knows(name) || has_key(value),
     }

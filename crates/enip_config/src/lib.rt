@@ -7,6 +7,7 @@
 //! - An own object has attributes and services (`specs/Objects.antt`). An [`AttributeType`] has a name, as `UINT[4]`,
 //!   and says how a value is read and which bytes it has (`specs/Types.antt`). A service can be queued. Then its object
 //!   has Get_Result too, and the device a queue of commands (`specs/Commands.antt`).
+//! - The tables `tcp_ip` and `ethernet_link` make objects of the standard (`specs/StandardObjects.antt`).
 //! - The table `access` has the rules of `enip_access`: who may connect, and who may change something
 //!   (`specs/Access.antt`).
 //! - [`explain`] says what is wrong with a refused configuration, and in which line.
@@ -48,6 +49,8 @@ mod object_types;
 mod objects;
 mod own_problems;
 mod own_value_problems;
+mod standard;
+mod standard_problems;
 mod text_problems;
 mod typed;
 mod value_problems;

@@ -9,7 +9,7 @@ ghost use Rattle.enip_config.specs.Objects.{objects_of, object_in, object_seen, 
 ghost use Rattle.enip_config.specs.Objects.{attributes_of, attribute_in, attribute_seen};
 ghost use Rattle.enip_config.specs.Objects.{services_of, described_services, service_in, service_seen, kind_by};
 ghost use Rattle.enip_config.specs.Objects.{sizes_from, two_sizes};
-ghost use Rattle.enip_config.specs.Documents.{IsBad, IsBadOrMemory, IsUnread};
+ghost use Rattle.enip_config.specs.Documents.{IsBad, IsBadOrMemory};
 
 use crate::commands::has_queued_service;
 use crate::key::{ATTRIBUTE_NUMBER, CLASS, INSTANCE, REPLY, SERVICE_NUMBER};
@@ -41,7 +41,7 @@ const RESULT_SERVICE: ServiceConfig = ServiceConfig {
 /// Reads the own objects, in the order of the file. Empty if the key is left out.
 pub(crate) fn objects_of(alloc: Global, text: &Table) -> Result<Vec<ObjectConfig>, LoadFault>
     ensures read { IfOk result (λ objects. objects_of (table_view text.now) ≡ Some (map object_seen objects.items)) }
-    ensures refused { IfErr result (IsUnread (table_view text.now)) }
+    ensures refused { IfErr result (IsBadOrMemory (objects_of (table_view text.now))) }
 {
     match value_of(text, "object") {
         None => Ok(Vec::new(alloc)),
@@ -74,6 +74,7 @@ fn object_of(alloc: Global, value: &Value) -> Result<ObjectConfig, LoadFault>
     Ok(ObjectConfig {
         class: number_by(table, CLASS)?,
         instance: number_by(table, INSTANCE)?,
+        standard: false,
         name: name_of(table)?,
         attributes: attributes_of(alloc, table)?,
         services: services_of(alloc, table)?,

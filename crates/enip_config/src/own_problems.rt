@@ -3,7 +3,9 @@
 use crate::attribute_problems::{AttributeProblem, attribute_problem};
 use crate::commands::{has_queued_service, is_queued};
 use crate::explanation::{Location, Problem};
-use cip_application::{GET_RESULT, ObjectConfig, QUEUED_REPLY_LIMIT, ServiceConfig};
+use cip_application::{
+    GET_RESULT, ObjectConfig, QUEUED_REPLY_LIMIT, ServiceConfig, TCP_IP_INTERFACE,
+};
 use cip_objects::{Config, ConfigFault};
 use std::alloc::{AllocError, Global};
 use thiserror::Error;
@@ -62,6 +64,9 @@ pub(crate) fn own_problem(
         };
         if config.fault() != Some(check) {
             let place = config.objects.len();
+            if last.standard {
+                return Ok(Some(standard_problem(last.class, check, count)));
+            }
             return match check {
                 ConfigFault::Object => object_problem(config, last, count),
                 ConfigFault::Attribute => attributes_problem(alloc, text, place, &last),
@@ -70,6 +75,21 @@ pub(crate) fn own_problem(
         }
     }
     Ok(None)
+}
+
+/// What is wrong with the object of a table `tcp_ip` or `ethernet_link`: with it, there are too many objects, or their
+/// values are too large.
+fn standard_problem(class: u16, check: ConfigFault, count: usize) -> (Location<'static>, Problem) {
+    let table = if class == TCP_IP_INTERFACE {
+        "tcp_ip"
+    } else {
+        "ethernet_link"
+    };
+    let problem = match check {
+        ConfigFault::Object => Problem::Object(ObjectProblem::Count(count)),
+        _ => Problem::Attribute(AttributeProblem::Total),
+    };
+    (Location::Text(table), problem)
 }
 
 /// What is wrong with an object that is not allowed after those before it.

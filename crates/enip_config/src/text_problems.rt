@@ -52,6 +52,8 @@ pub(crate) fn unknown_key(
             "ledger" => unknown_within(alloc, key, value, TableKind::Ledger)?,
             "commands" => unknown_within(alloc, key, value, TableKind::Commands)?,
             "access" => unknown_within(alloc, key, value, TableKind::Access)?,
+            "tcp_ip" => unknown_within(alloc, key, value, TableKind::TcpIp)?,
+            "ethernet_link" => unknown_within(alloc, key, value, TableKind::EthernetLink)?,
             "object" => unknown_in_objects(alloc, value)?,
             _ => unknown_at(alloc, "", key, value, TableKind::Text)?.map(|problem| (
                 Location::Text(key),
@@ -65,7 +67,7 @@ pub(crate) fn unknown_key(
     Ok(None)
 }
 
-/// The same within the value of `counter`, `assembly`, `ledger`, `commands` or `access`: a table, or an array of them.
+/// The same within the value of a table at the top level that has no tables within: a table, or an array of them.
 fn unknown_within<'a>(
     alloc: Global,
     name: &'a str,
@@ -89,6 +91,8 @@ fn unknown_within<'a>(
                 TableKind::Ledger => (Location::Ledger(key), problem),
                 TableKind::Commands => (Location::Commands(key), problem),
                 TableKind::Access => (Location::Access(key), problem),
+                TableKind::TcpIp => (Location::TcpIp(key), problem),
+                TableKind::EthernetLink => (Location::EthernetLink(key), problem),
                 _ => (Location::InAssembly(0, key), problem),
             }))
         }

@@ -6,6 +6,7 @@ use crate::key::{INSTANCE, LIFE, NumberKey, ORIGINATORS, QUEUE, Row};
 use crate::known::TEXT_NUMBERS;
 use crate::missing_keys::MissingKeys;
 use crate::own_value_problems::bad_objects;
+use crate::standard_problems::{bad_interface, bad_link};
 use crate::values::number_in;
 use toml::{Table, Value};
 
@@ -21,7 +22,8 @@ const REQUIRED: [&str; 7] = [
 ];
 
 /// The required keys that are missing, if there are any. Otherwise the first bad value, in this order: the numbers, the
-/// name, the address, the counter, the assemblies, the tables `ledger`, `commands` and `access`, the own objects.
+/// name, the address, the counter, the assemblies, the tables `ledger`, `commands`, `access`, `tcp_ip` and
+/// `ethernet_link`, the own objects.
 pub(crate) fn bad_value(text: &Table) -> Option<(Location<'static>, Problem)> {
     if let Some((key, problem)) = missing_in(text, &REQUIRED) {
         return Some((Location::Text(key), problem));
@@ -51,6 +53,12 @@ pub(crate) fn bad_value(text: &Table) -> Option<(Location<'static>, Problem)> {
         return Some(found);
     }
     if let Some(found) = bad_shares(text) {
+        return Some(found);
+    }
+    if let Some(found) = bad_interface(text) {
+        return Some(found);
+    }
+    if let Some(found) = bad_link(text) {
         return Some(found);
     }
     bad_objects(text)
@@ -119,15 +127,25 @@ fn bad_name(text: &Table) -> Option<Problem> {
 }
 
 fn bad_address(text: &Table) -> Option<Problem> {
-    let values = match text.get("address") {
-        None => return None,
-        Some(Value::Array(values)) => values.as_slice(),
-        Some(_) => return Some(Problem::Type("address", "an array of four numbers")),
+    let value = text.get("address")?;
+    address_problem("address", "a number in address", value)
+}
+
+/// What is wrong with the address of a key. `number` is what its numbers are called.
+pub(crate) fn address_problem(
+    name: &'static str,
+    number: &'static str,
+    value: &Value,
+) -> Option<Problem> {
+    let Value::Array(values) = value else {
+        return Some(Problem::Type(name, "an array of four numbers"));
     };
     if values.len() != 4 {
-        return Some(Problem::Type("address", "an array of four numbers"));
+        return Some(Problem::Type(name, "an array of four numbers"));
     }
-    values.iter().find_map(|value| out_of_range("a number in address", value, 0, 0xff))
+    values
+        .iter()
+        .find_map(|value| out_of_range(number, value, 0, 0xff))
 }
 
 fn bad_counter(text: &Table) -> Option<(Location<'static>, Problem)> {

@@ -145,7 +145,7 @@ pub(crate) fn address_of(text: &Table) -> Result<[u8; 4], LoadFault>
 }
 
 /// Reads four values as bytes.
-fn four_bytes(values: &[Value]) -> Result<[u8; 4], LoadFault>
+pub(crate) fn four_bytes(values: &[Value]) -> Result<[u8; 4], LoadFault>
     ensures read { IfOk result (λ address. address_in (array (items_view values.now)) ≡ Some address) }
     ensures refused { IfErr result (IsBad (address_in (array (items_view values.now)))) }
 {
@@ -156,7 +156,7 @@ fn four_bytes(values: &[Value]) -> Result<[u8; 4], LoadFault>
 }
 
 /// Reads a value as a byte.
-fn byte(value: &Value) -> Result<u8, LoadFault>
+pub(crate) fn byte(value: &Value) -> Result<u8, LoadFault>
     ensures read { IfOk result (λ n. number_in 0 0xff (view value.now) ≡ Some n) }
     ensures refused { IfErr result (IsBad (number_in 0 0xff (view value.now))) }
 {

@@ -2,11 +2,14 @@
 //! Text: docs/PROTOCOL.md, "Objects".
 ghost use Rattle.std.specs.Prelude.{◌≡◌, ◌≤◌, ◌<◌, ◌==◌, not, [], length, slice_index, option_map, unwrap_or, is_some};
 ghost use Rattle.std.specs.Prelude.{Some, None, MatchOption, IfSome, OnOk, OnErr};
+ghost use Rattle.byteorder.specs.Endian.{little_number};
+ghost use Rattle.cip_application.specs.Configuration.{is_standard_class};
 ghost use Rattle.cip_application.specs.Objects.{service_in};
 ghost use Rattle.cip_objects.specs.AttributeValue.{value_bytes, IsShort};
 ghost use Rattle.cip_objects.specs.ChangeServices.{change_result};
 ghost use Rattle.cip_objects.specs.Contents.{value_at};
 ghost use Rattle.cip_objects.specs.DeviceWrites.{object_write};
+ghost use Rattle.cip_objects.specs.Entries.{class_revision};
 ghost use Rattle.cip_objects.specs.ObjectRef.{IsFree, HasNoValue, Resolves, IsObjectClass, IsObjectIndex, IsSettable};
 ghost use Rattle.cip_objects.specs.ObjectRef.{services_at, object_in, value_to, bytes_to, after_set};
 ghost use Rattle.cip_objects.specs.OwnRequests.{own_object, IsOwnAt, checked_attribute, check_set, with_stored};
@@ -18,7 +21,12 @@ use crate::object_ref::{ObjectRef, Settable};
 use crate::objects::Objects;
 use crate::status::Refusal;
 use crate::value::AttributeValue;
-use cip_application::{SERVICE_DATA_LIMIT, ServiceConfig, VALUE_LIMIT};
+use cip_application::{
+    SERVICE_DATA_LIMIT, ServiceConfig, TCP_IP_INTERFACE, VALUE_LIMIT, is_standard_class,
+};
+
+/// The attribute of the TCP/IP Interface with the encapsulation inactivity timeout. (Volume 2, TCP/IP Interface object.)
+const INACTIVITY_TIMEOUT: u16 = 13;
 
 impl Objects {
     /// The application object that a class and an instance lead to, if there is one. The class is none that the device
@@ -49,7 +57,38 @@ impl Objects {
         ensures short { IfSome result IsShort }
     {
         let summary = self.application.class(class)?;
-        class_attribute(1, summary.greatest, summary.instances, attribute)
+        class_attribute(
+            class_revision(class),
+            summary.greatest,
+            summary.instances,
+            attribute,
+        )
+    }
+
+    /// Whether the application object at an index is the TCP/IP Interface or the Ethernet Link.
+    pub(crate) fn is_standard_object(&self, object_index: usize) -> bool
+        requires { IsObjectIndex self.now.shapes object_index }
+        ensures { result ≡ is_standard_class (object_in self.now.shapes object_index).class }
+    {
+        is_standard_class(self.application.class_at(object_index))
+    }
+
+    /// The encapsulation inactivity timeout in seconds: attribute 13 of the TCP/IP Interface. `None` if the device does
+    /// not have this object. Allocates nothing.
+    ///
+    /// ```
+    /// let idle = objects.inactivity_timeout().unwrap_or(120); // a peer may have set it
+    /// ```
+    pub fn inactivity_timeout(&self) -> Option<u16>
+        ensures { result ≡ option_map (little_number 2) (value_at self.now 0xf5 1 13) }
+    {
+        match self
+            .application
+            .read(TCP_IP_INTERFACE, 1, INACTIVITY_TIMEOUT)
+        {
+            Some(value) => Some(uint_in(value)),
+            None => None,
+        }
     }
 
     /// The value of an attribute of the application object at an index.
@@ -195,5 +234,23 @@ impl Objects {
             self.application
                 .store_checked(object_index, attribute, data);
         }
+    }
+}
+
+/// The revision of a class of application objects (Volume 2, TCP/IP Interface and Ethernet Link objects).
+fn class_revision(class: u16) -> u16
+    ensures { result ≡ class_revision class }
+{
+    if is_standard_class(class) { 4 } else { 1 }
+}
+
+/// The number of the first two bytes of a value.
+fn uint_in(value: &[u8]) -> u16
+    ensures { result ≡ little_number 2 value.now }
+{
+    match value {
+        [] => 0,
+        [low] => u16::from(*low),
+        [low, high, ..] => u16::from_le_bytes([*low, *high]),
     }
 }
