@@ -13,7 +13,7 @@ use Rattle.enip_server.specs.declared.wire_counts.WireCounts.{WireCounts}
 use Rattle.enip_server.specs.Wires.{KnownCalls, with_asked, with_shut}
 use Rattle.enip_server.specs.PeerStates.{PeerState, peer_state_of, AreFed, IsFetched, IsServed, IsDiscarded, IsTurn}
 use Rattle.enip_server.specs.PeerStates.AreFed.{None_fed, One_more_fed}
-use Rattle.enip_server.specs.Rounds.{ServerState, IsServedPeer, IsServedAt, IsLeft, IsSlotServed}
+use Rattle.enip_server.specs.Rounds.{idle_of, ServerState, IsServedPeer, IsServedAt, IsLeft, IsSlotServed}
 use Rattle.enip_server.specs.Rounds.{AreSlotsServed, IsRound, timeout_at}
 use Rattle.enip_server.specs.Held.{held_known, held_written, IsPeerReleased, IsSlotReleased, AreSlotsReleased, AreReleased}
 use Rattle.enip_server.specs.Runs.{IsStill, IsStillAt, AreStill, IsStep}
@@ -133,7 +133,7 @@ pub round_released : {W O : Type 0} (left written : W → Option (List ℕ)) (kn
     → IsRound left written known counts answer next now first old last new → slice_get old.slots slot ≡ Some (Some io)
     → slice_get new.slots slot ≡ Some (Some after) → released (known after.wire) ≡ released (known io.wire)
 round_released left written known counts answer next now slot first last old new io after round there stays =
-    slots_released left written known counts answer next now old.idle_timeout first (after_call old.adapter (Ticks now))
+    slots_released left written known counts answer next now (idle_of old) first (after_call old.adapter (Ticks now))
     old.slots last new.adapter new.slots round.places slot io after there stays
 
 pub same_released : {W : Type 0} (written : W → Option (List ℕ)) (first last : HeldWire W)

@@ -32,7 +32,7 @@ use Rattle.enip_server.specs.declared.peer_io.PeerIo.{PeerIo}
 use Rattle.enip_server.specs.declared.wire_counts.WireCounts.{WireCounts}
 use Rattle.enip_server.specs.Wires.{KnownCalls}
 use Rattle.enip_server.specs.Transfers.{IsTurnCall}
-use Rattle.enip_server.specs.Rounds.{ServerState, IsServedAt, IsLeft, AreSlotsServed, IsRound, IsAdded, timeout_at}
+use Rattle.enip_server.specs.Rounds.{idle_of, ServerState, IsServedAt, IsLeft, AreSlotsServed, IsRound, IsAdded, timeout_at}
 use Rattle.enip_server.specs.Rounds.{first_free, new_peers, new_peer_io, nobody, no_answer, same_nobody}
 use Rattle.enip_server.specs.Evictions.{BeginsIn, IsAddedAt, IsAddedAs, freed, freed_of, gives_way, has_handle, slot_for}
 use Rattle.enip_server.specs.Evictions.{slot_found, slot_given, with_handle, with_room, with_room_at}
@@ -282,7 +282,7 @@ module _ {W O : Type 0} (left written : W → Option (List ℕ)) (known : W → 
       → IsRound left written known counts answer next now first old last new → AreSound old → IsRoomy old → IsRoomy new
   roomy_round now first old last new round sound roomy =
       let r : KeepsRoom (after_call old.adapter (Ticks now)) old.slots new.adapter new.slots
-      = room_slots left written known counts answer next now old.idle_timeout first (after_call old.adapter (Ticks now))
+      = room_slots left written known counts answer next now (idle_of old) first (after_call old.adapter (Ticks now))
       old.slots last new.adapter new.slots round.places sound.apart roomy.held in
       roomy_by old new roomy (record { held = r.held; count = r.count; size = r.size; limit = r.limit })
 

@@ -12,7 +12,7 @@ use Rattle.enip_server.specs.declared.wire_counts.WireCounts.{WireCounts}
 use Rattle.enip_server.specs.Wires.{KnownCalls}
 use Rattle.enip_server.specs.PeerStates.{peer_state_of}
 use Rattle.enip_server.specs.Transfers.{AreAsked}
-use Rattle.enip_server.specs.Rounds.{ServerState, TakesTurn, IsServedPeer, IsLeft, IsSlotServed}
+use Rattle.enip_server.specs.Rounds.{idle_of, ServerState, TakesTurn, IsServedPeer, IsLeft, IsSlotServed}
 use Rattle.enip_server.specs.Rounds.{AreSlotsServed, IsRound, timeout_at}
 use Rattle.enip_server.proofs.AskMoves.{owner_then}
 use Rattle.enip_server.proofs.TransferLemmas.{after_calls-append}
@@ -103,5 +103,5 @@ pub law_asked : {W O : Type 0} (left written : W → Option (List ℕ)) (known :
 law_asked left written known counts answer next now first last old new round =
     asked_then answer next first old.adapter first (after_call old.adapter (Ticks now)) last new.adapter
     (asked_nothing answer next first old.adapter (after_call old.adapter (Ticks now)) (Ticks now) refl refl)
-    (asked_slots left written known counts answer next now old.idle_timeout first (after_call old.adapter (Ticks now))
+    (asked_slots left written known counts answer next now (idle_of old) first (after_call old.adapter (Ticks now))
     old.slots last new.adapter new.slots round.places)

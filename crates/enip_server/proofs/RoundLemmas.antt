@@ -13,11 +13,10 @@ use Rattle.enip_adapter.specs.Calls.Call.{Ends_peer}
 use Rattle.enip_server.specs.declared.peer_io.PeerIo.{PeerIo}
 use Rattle.enip_server.specs.declared.wire_counts.WireCounts.{WireCounts}
 use Rattle.enip_server.specs.Wires.{KnownCalls}
-use Rattle.enip_server.specs.declared.peers.Due.{Due}
 use Rattle.enip_server.specs.declared.peers.Peers.{Peers}
 use Rattle.enip_server.specs.Rounds.{ServerState, state_of, new_peers, marked_ready, marked_ready_at}
 use Rattle.enip_server.specs.Rounds.{IsServedPeer, IsLeft, IsSlotServed, AreSlotsServed}
-use Rattle.enip_server.specs.Rounds.{timeout_at, is_ready, due_with, due_by, earliest_of}
+use Rattle.enip_server.specs.Rounds.{timeout_at, is_ready, earliest_of}
 
 module _ {W O : Type 0} (left written : W → Option (List ℕ)) (known : W → Option KnownCalls) (counts : W → WireCounts)
     (answer : O → Asked → Option Reply) (next : O → Asked → O) (now idle_timeout : ℕ)
@@ -94,45 +93,3 @@ woken_free ends p q slot found d a s l within is none =
     ∙ set-get_or (boxed_slice_items p.slots) slot d
     ∙ sym (woken_none ends (boxed_slice_items p.slots) slot _ refl
     (slice_get-within (boxed_slice_items p.slots) slot d within ∙ ap Some (sym is ∙ none))))
-
--- ---- when peers are due again
-
-or_false : (b : Bool) → (b || false) ≡ b
-or_false false = refl
-or_false true = refl
-
-or_assoc : (a b c : Bool) → ((a || b) || c) ≡ (a || (b || c))
-or_assoc false b c = refl
-or_assoc true b c = refl
-
-pub due_ready : {W : Type 0} (idle_timeout : ℕ) (due : Due) (places : List (Option (PeerIo W)))
-    → (due_by idle_timeout due places).ready ≡ (due.ready || list_any is_ready places)
-due_ready idle_timeout due [] = sym (or_false due.ready)
-due_ready idle_timeout due (None ∷ places) = due_ready idle_timeout due places
-due_ready idle_timeout due (Some io ∷ places) =
-    due_ready idle_timeout (due_with idle_timeout due (Some io)) places ∙ or_assoc due.ready io.ready (list_any is_ready places)
-
-pub due_moment : {W : Type 0} (idle_timeout : ℕ) (due : Due) (places : List (Option (PeerIo W)))
-    → (due_by idle_timeout due places).moment ≡ earliest_of idle_timeout due.moment places
-due_moment idle_timeout due [] = refl
-due_moment idle_timeout due (None ∷ places) = due_moment idle_timeout due places
-due_moment idle_timeout due (Some io ∷ places) = due_moment idle_timeout (due_with idle_timeout due (Some io)) places
-
-min_assoc : (a b c : ℕ) → min (min a b) c ≡ min a (min b c)
-min_assoc a b c = omega arith
-
-pub earliest_min : {W : Type 0} (idle_timeout first second : ℕ) (places : List (Option (PeerIo W)))
-    → earliest_of idle_timeout (min first second) places ≡ min first (earliest_of idle_timeout second places)
-earliest_min idle_timeout first second [] = refl
-earliest_min idle_timeout first second (None ∷ places) = earliest_min idle_timeout first second places
-earliest_min idle_timeout first second (Some io ∷ places) =
-    ap (λ n. earliest_of idle_timeout n places) (min_assoc first second (timeout_at idle_timeout io))
-    ∙ earliest_min idle_timeout first (min second (timeout_at idle_timeout io)) places
-
-min_least : (n : ℕ) → n < 2 ^ 64 → min n (2 ^ 64 - 1) ≡ n
-min_least n small = omega (arith, small)
-
-pub earliest_after : {W : Type 0} (idle_timeout first : ℕ) (places : List (Option (PeerIo W))) → first < 2 ^ 64
-    → min first (earliest_of idle_timeout (2 ^ 64 - 1) places) ≡ earliest_of idle_timeout first places
-earliest_after idle_timeout first places small =
-    sym (earliest_min idle_timeout first (2 ^ 64 - 1) places) ∙ ap (λ n. earliest_of idle_timeout n places) (min_least first small)

@@ -12,7 +12,7 @@ use Rattle.enip_server.specs.declared.wire_counts.WireCounts.{WireCounts}
 use Rattle.enip_server.specs.Wires.{KnownCalls}
 use Rattle.enip_server.specs.PeerStates.{peer_state_of}
 use Rattle.enip_server.specs.Transfers.{IsTurnCall, GoesOnWith}
-use Rattle.enip_server.specs.Rounds.{ServerState, TakesTurn, IsServedPeer, IsServedAt, IsLeft, IsSlotServed}
+use Rattle.enip_server.specs.Rounds.{idle_of, ServerState, TakesTurn, IsServedPeer, IsServedAt, IsLeft, IsSlotServed}
 use Rattle.enip_server.specs.Rounds.{AreSlotsServed, IsRound, timeout_at}
 use Rattle.enip_server.proofs.ApartLemmas.{HasNone, AreApart, AreSound, IsOf, AreOf, none_at, none_tail, apart_tail, sound_of}
 use Rattle.enip_server.proofs.HandleLemmas.{IsAbout, next_calls}
@@ -286,14 +286,14 @@ module _ {W O : Type 0} (left written : W → Option (List ℕ)) (known : W → 
   -- each slot is free afterwards, or holds the same peer
   pub round_of : AreOf old.slots new.slots
   round_of =
-      (places_next left written known counts answer next now old.idle_timeout first (after_call old.adapter (Ticks now))
+      (places_next left written known counts answer next now (idle_of old) first (after_call old.adapter (Ticks now))
       old.slots last new.adapter new.slots round.places).0
 
   -- the peers stay sound in a round
   pub sound_round : AreSound old → AreSound new
   sound_round sound =
       let r : AreOf old.slots new.slots × (new.adapter.state.next_handle ≡ old.adapter.state.next_handle)
-      = places_next left written known counts answer next now old.idle_timeout first (after_call old.adapter (Ticks now))
+      = places_next left written known counts answer next now (idle_of old) first (after_call old.adapter (Ticks now))
       old.slots last new.adapter new.slots round.places in
       sound_of old new sound r.0 (omega (arith, r.1))
 
@@ -305,7 +305,7 @@ module _ {W O : Type 0} (left written : W → Option (List ℕ)) (known : W → 
   round_moves sound slot io after there stays =
       moves_by_then io.peer (GoesOnWith io.peer) (peer_state_of left written known counts old.adapter io)
       (peer_state_of left written known counts (after_call old.adapter (Ticks now)) io) (peer_state_of left written known counts new.adapter after)
-      (line_stays left written known counts answer next now old.idle_timeout io old.adapter (after_call old.adapter (Ticks now))
+      (line_stays left written known counts answer next now (idle_of old) io old.adapter (after_call old.adapter (Ticks now))
       (ticks io.peer now old.adapter))
-      (places_move left written known counts answer next now old.idle_timeout first (after_call old.adapter (Ticks now))
+      (places_move left written known counts answer next now (idle_of old) first (after_call old.adapter (Ticks now))
       old.slots last new.adapter new.slots round.places sound.apart slot io after there stays)

@@ -16,7 +16,7 @@ use Rattle.enip_server.specs.declared.wire_counts.WireCounts.{WireCounts}
 use Rattle.enip_server.specs.Wires.{KnownCalls}
 use Rattle.enip_server.specs.PeerStates.{PeerState, AreFed, IsServed, IsTurn, peer_state_of}
 use Rattle.enip_server.specs.PeerStates.AreFed.{None_fed, One_more_fed}
-use Rattle.enip_server.specs.Rounds.{ServerState, TakesTurn, IsServedPeer, IsLeft, IsSlotServed, AreSlotsServed, IsRound}
+use Rattle.enip_server.specs.Rounds.{idle_of, ServerState, TakesTurn, IsServedPeer, IsLeft, IsSlotServed, AreSlotsServed, IsRound}
 use Rattle.enip_server.specs.Rounds.{IsAdded, timeout_at, nobody, no_answer, same_nobody}
 use Rattle.enip_server.specs.Evictions.{BeginsIn, IsAddedAt, freed, freed_of, slot_for, with_room_at}
 use Rattle.enip_server.specs.Runs.{IsStep}
@@ -139,7 +139,7 @@ law_round left written known counts answer next now first last old new round =
     let ticked : AdapterState = after_call old.adapter (Ticks now) in
     frames_then (device_in old.adapter) (device_in ticked) (device_in new.adapter)
     (same_device (device_in old.adapter) (device_in ticked) (step-ends old.adapter.state (At now)))
-    (slots_frames left written known counts answer next now old.idle_timeout first ticked old.slots last new.adapter
+    (slots_frames left written known counts answer next now (idle_of old) first ticked old.slots last new.adapter
     new.slots round.places)
 
 -- ---- the other calls

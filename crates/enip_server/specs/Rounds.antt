@@ -1,9 +1,11 @@
 -- The peers of an adapter, and what a round does to them.
-use Rattle.std.specs.Prelude.{ℕ, ◌+◌, ◌-◌, ◌^◌, min, ◌≡◌, ◌<◌, ◌≤◌, ◌⊎◌, List, [], ◌∷◌, length, replicate, Bool, true, false, not}
+use Rattle.std.specs.Prelude.{ℕ, ◌+◌, ◌-◌, ◌*◌, ◌^◌, min, option_map, ◌≡◌, ◌<◌, ◌≤◌, ◌⊎◌, List, [], ◌∷◌, length, replicate, Bool, true, false, not}
 use Rattle.std.specs.Prelude.{◌==◌, ◌||◌, if◌then◌else◌, Option, Some, None, is_none, slice_get, slice_set, unwrap_or, Result, Ok, Err}
 use Rattle.std.specs.Box.{boxed_slice_items}
 use Rattle.std.specs.List.{position}
 use Rattle.cip_manager.specs.Connection.{earliest_deadline}
+use Rattle.byteorder.specs.Endian.{little_number}
+use Rattle.cip_objects.specs.Contents.{value_at}
 use Rattle.cip_objects.specs.OwnRequests.{Asked}
 use Rattle.cip_owner.specs.Replies.{Reply}
 use Rattle.cip_owner.specs.declared.owner.NoOwner.{NoOwner}
@@ -16,7 +18,6 @@ use Rattle.enip_adapter.specs.OwnWrites.{OwnWrite}
 use Rattle.enip_adapter.specs.Turn.Output.{Begins, Refuses}
 use Rattle.enip_server.specs.declared.peer_io.PeerIo.{PeerIo}
 use Rattle.enip_server.specs.declared.peer_io.Turn.{Turn}
-use Rattle.enip_server.specs.declared.peers.Due.{Due}
 use Rattle.enip_server.specs.declared.peers.Peers.{Peers}
 use Rattle.enip_server.specs.declared.peer_io.Turn.TheVariants.{More, UntilReadable, UntilWritable, Finished}
 use Rattle.enip_server.specs.declared.wire_counts.WireCounts.{WireCounts}
@@ -32,6 +33,16 @@ pub record ServerState (W : Type 0) : Type 0 where
 -- The value of `Peers`.
 abbrev pub state_of : {W : Type 0} → Peers W → ServerState W
 state_of p = record { adapter = p.adapter; idle_timeout = p.idle_timeout; slots = boxed_slice_items p.slots }
+
+-- For how long a peer may send nothing: the encapsulation inactivity timeout of the TCP/IP Interface, if the device has
+-- that object, where 0 is forever, or else the time that was given.
+abbrev pub idle_by : ℕ → Option ℕ → ℕ
+idle_by idle_timeout None = idle_timeout
+idle_by idle_timeout (Some seconds) = if seconds == 0 then 2 ^ 64 - 1 else seconds * 1000000
+
+unfoldable pub idle_of : {W : Type 0} → ServerState W → ℕ
+idle_of p = idle_by p.idle_timeout
+    (option_map (little_number 2) (value_at p.adapter.state.shared.objects.router.objects 0xf5 1 13))
 
 -- The time at which a peer is ended unless a byte arrives: it was idle for too long, or the time for reading a closed
 -- peer is over.
@@ -129,7 +140,7 @@ pub record IsRound {W O : Type 0} (left written : W → Option (List ℕ)) (know
     (counts : W → WireCounts) (answer : O → Asked → Option Reply) (next : O → Asked → O) (now : ℕ)
     (first : O) (old : ServerState W) (last : O) (new : ServerState W) : Type 0 where
   pub idle_timeout : new.idle_timeout ≡ old.idle_timeout
-  pub places : AreSlotsServed left written known counts answer next now old.idle_timeout
+  pub places : AreSlotsServed left written known counts answer next now (idle_of old)
       first (after_call old.adapter (Ticks now)) old.slots last new.adapter new.slots
 
 -- The number of peers that ended in a round.
@@ -218,25 +229,13 @@ earliest_of idle_timeout moment [] = moment
 earliest_of idle_timeout moment (None ∷ slots) = earliest_of idle_timeout moment slots
 earliest_of idle_timeout moment (Some io ∷ slots) = earliest_of idle_timeout (min moment (timeout_at idle_timeout io)) slots
 
--- When peers are due again: with one slot more, and with several more.
-abbrev pub due_with : {W : Type 0} → ℕ → Due → Option (PeerIo W) → Due
-due_with idle_timeout due None = due
-due_with idle_timeout due (Some io) = record {
-  ready = due.ready || io.ready;
-  moment = min due.moment (timeout_at idle_timeout io);
-}
-
-abbrev pub due_by : {W : Type 0} → ℕ → Due → List (Option (PeerIo W)) → Due
-due_by idle_timeout due [] = due
-due_by idle_timeout due (slot ∷ places) = due_by idle_timeout (due_with idle_timeout due slot) places
-
 -- The time that never comes is none.
 abbrev pub moment_or_none : ℕ → Option ℕ
 moment_or_none moment = if moment == 2 ^ 64 - 1 then None else Some moment
 
 -- The time at which a round is due although no wire is ready: a connection times out, or a peer is ended.
 abbrev pub next_moment : {W : Type 0} → ServerState W → Option ℕ
-next_moment p = moment_or_none (earliest_of p.idle_timeout
+next_moment p = moment_or_none (earliest_of (idle_of p)
     (unwrap_or (earliest_deadline p.adapter.state.shared.manager.connections) (2 ^ 64 - 1)) p.slots)
 
 -- Nobody owns the device: nothing is answered to a request to the owner, and nobody remembers it.

@@ -10,7 +10,7 @@ ghost use Rattle.enip_adapter.specs.Discovery.{discovered};
 ghost use Rattle.enip_adapter.specs.OwnWrites.{OwnWrite, attribute_write};
 ghost use Rattle.enip_server.specs.Rounds.{IsSlotServed, AreSlotsServed, IsRound, has_ended, ended_in};
 ghost use Rattle.enip_server.specs.Rounds.{state_of, new_peers, first_free, IsAdded, marked_ready, is_ready, earliest_of, next_moment};
-ghost use Rattle.enip_server.specs.Rounds.{due_with, due_by, moment_or_none, written_by};
+ghost use Rattle.enip_server.specs.Rounds.{idle_of, moment_or_none, written_by};
 ghost use Rattle.enip_server.specs.Rounds.{nobody, no_answer, same_nobody};
 ghost use Rattle.enip_server.specs.Evictions.{IsAddedAs, freed, gives_way, slot_for, slot_found, with_room};
 ghost use Rattle.enip_server.specs.Admissions.{AreShown};
@@ -32,6 +32,9 @@ use std::boxed::BoxedSlice;
 /// An idle timeout that never expires.
 pub const NO_IDLE_TIMEOUT: u64 = u64::MAX;
 
+/// The microseconds of a second.
+const SECOND: u64 = 1_000_000;
+
 /// The outcome of a round.
 #[derive(Clone, Copy, Debug, PartialEq, Eq)]
 pub struct RoundEnd {
@@ -42,15 +45,6 @@ pub struct RoundEnd {
     /// The earliest time at which a round is due although no wire is ready: a connection times out, or a peer is ended.
     /// `None` if there is no such time.
     pub next: Option<u64>,
-}
-
-/// When peers are due for service again.
-#[derive(Drop)]
-struct Due {
-    /// Whether a wire may be ready now.
-    ready: bool,
-    /// The earliest time at which a peer is ended unless a byte arrives.
-    moment: u64,
 }
 
 /// An adapter, and a slot for each of its peers.
@@ -64,7 +58,7 @@ struct Due {
 /// ```
 pub struct Peers<W> {
     adapter: Adapter,
-    /// For how long a peer may send nothing, in microseconds.
+    /// For how long a peer may send nothing, in microseconds, if the device has no TCP/IP Interface.
     idle_timeout: u64,
     slots: BoxedSlice<Option<PeerIo<W>>>,
 }
@@ -82,7 +76,8 @@ impl<W: Drop> Drop for Peers<W> {
 
 impl<W: Wire + Drop> Peers<W> {
     /// Makes as many slots as the adapter has free peer slots. A peer that sends no byte for `idle_timeout`
-    /// microseconds is ended. It allocates all of its memory here.
+    /// microseconds is ended; but if the device has a TCP/IP Interface, its encapsulation inactivity timeout counts. It
+    /// allocates all of its memory here.
     ///
     /// # Errors
     ///
@@ -298,10 +293,7 @@ impl<W: Wire + Drop> Peers<W> {
         ensures ready { result.ready ≡ list_any is_ready (state_of self.new).slots }
         ensures next { result.next ≡ next_moment (state_of self.new) }
     {
-        let mut due = Due {
-            ready: false,
-            moment: u64::MAX,
-        };
+        let idle_timeout = self.idle_timeout();
         self.adapter.tick(now);
         let ended = serve_slots(
             &mut self.slots,
@@ -309,14 +301,34 @@ impl<W: Wire + Drop> Peers<W> {
             owner,
             watcher,
             now,
-            self.idle_timeout,
-            &mut due,
+            idle_timeout,
         );
-        let deadline = self.adapter.deadline().unwrap_or(u64::MAX);
+        // A peer may have set the idle timeout.
         RoundEnd {
             ended,
-            ready: due.ready,
-            next: moment_or_none(deadline.min(due.moment)),
+            ready: self.is_ready(),
+            next: self.next_moment(),
+        }
+    }
+
+    /// Whether a wire may be ready now.
+    fn is_ready(&self) -> bool
+        ensures { result ≡ list_any is_ready (state_of self.now).slots }
+    {
+        self.slots.iter().any(|slot| is_slot_ready(slot))
+    }
+
+    /// For how long a peer may send nothing, in microseconds: the encapsulation inactivity timeout of the TCP/IP Interface,
+    /// if the device has that object, or else the time that was given. Attribute 13 of that object counts from the round on
+    /// that follows its set. 0 there is `NO_IDLE_TIMEOUT`.
+    #[tactic(auto, unfolding(crate::specs::Rounds::idle_of))]
+    pub fn idle_timeout(&self) -> u64
+        ensures { result ≡ idle_of (state_of self.now) }
+    {
+        match self.adapter.objects().inactivity_timeout() {
+            None => self.idle_timeout,
+            Some(0) => NO_IDLE_TIMEOUT,
+            Some(seconds) => u64::from(seconds) * SECOND,
         }
     }
 
@@ -426,12 +438,13 @@ impl<W: Wire + Drop> Peers<W> {
 
     /// The earliest of a time and of the times at which peers are ended unless a byte arrives.
     fn earliest(&self, moment: u64) -> u64
-        ensures { result ≡ earliest_of (state_of self.now).idle_timeout moment (state_of self.now).slots }
+        ensures { result ≡ earliest_of (idle_of (state_of self.now)) moment (state_of self.now).slots }
     {
+        let idle = self.idle_timeout();
         let mut earliest = moment;
         for io in self.slots.iter() {
             if let Some(io) = io {
-                earliest = earliest.min(io.timeout_at(self.idle_timeout));
+                earliest = earliest.min(io.timeout_at(idle));
             }
         }
         earliest
@@ -517,8 +530,17 @@ fn moment_or_none(moment: u64) -> Option<u64>
     }
 }
 
-/// Serves the slots of a round, one after the other. Returns the number of peers that ended. When the others are due
-/// again is added to `due`.
+/// Whether a slot has a peer whose wire may be ready now.
+fn is_slot_ready<W>(slot: &Option<PeerIo<W>>) -> bool
+    ensures { result ≡ is_ready slot.now }
+{
+    match slot {
+        Some(io) => io.ready,
+        None => false,
+    }
+}
+
+/// Serves the slots of a round, one after the other. Returns the number of peers that ended.
 fn serve_slots<W: Wire + Drop, O: Owner, T: Watcher<W>>(
     places: &mut [Option<PeerIo<W>>],
     adapter: &mut Adapter,
@@ -526,7 +548,6 @@ fn serve_slots<W: Wire + Drop, O: Owner, T: Watcher<W>>(
     watcher: &mut T,
     now: u64,
     idle_timeout: u64,
-    due: &mut Due,
 ) -> usize
     ensures served { AreSlotsServed W.left W.written W.known W.counts O.answer O.after now idle_timeout
         owner.old adapter.old places.old owner.new adapter.new places.new }
@@ -534,16 +555,15 @@ fn serve_slots<W: Wire + Drop, O: Owner, T: Watcher<W>>(
         T.has_seen watcher.new adapter.new.state.shared.objects }
     ensures ended { result ≡ ended_in places.old places.new }
     ensures few { result ≤ length places.old }
-    ensures due { due.new ≡ due_by idle_timeout due.old places.new }
 {
     let Some((slot, others)) = places.split_first_mut() else {
         return 0;
     };
-    let ended = serve_slot(slot, adapter, owner, watcher, now, idle_timeout, due);
-    usize::from(ended) + serve_slots(others, adapter, owner, watcher, now, idle_timeout, due)
+    let ended = serve_slot(slot, adapter, owner, watcher, now, idle_timeout);
+    usize::from(ended) + serve_slots(others, adapter, owner, watcher, now, idle_timeout)
 }
 
-/// Serves one slot of a round. Returns whether its peer ended. If not, when it is due again is added to `due`.
+/// Serves one slot of a round. Returns whether its peer ended.
 fn serve_slot<W: Wire + Drop, O: Owner, T: Watcher<W>>(
     slot: &mut Option<PeerIo<W>>,
     adapter: &mut Adapter,
@@ -551,21 +571,17 @@ fn serve_slot<W: Wire + Drop, O: Owner, T: Watcher<W>>(
     watcher: &mut T,
     now: u64,
     idle_timeout: u64,
-    due: &mut Due,
 ) -> bool
     ensures served { IsSlotServed W.left W.written W.known W.counts O.answer O.after now idle_timeout
         owner.old adapter.old slot.old owner.new adapter.new slot.new }
     ensures watched { T.has_seen watcher.old adapter.old.state.shared.objects →
         T.has_seen watcher.new adapter.new.state.shared.objects }
     ensures ended { result ≡ has_ended slot.old slot.new }
-    ensures due { due.new ≡ due_with idle_timeout due.old slot.new }
 {
     let Some(io) = slot else {
         return false;
     };
     if io.serve(adapter, owner, watcher, now, idle_timeout) {
-        due.ready = due.ready || io.ready;
-        due.moment = due.moment.min(io.timeout_at(idle_timeout));
         return false;
     }
     adapter.end(io.peer);
