@@ -16,8 +16,8 @@ use enip_access::Access;
 use enip_adapter::Listen;
 use enip_cli::OsArg;
 use enip_common::{
-    ArgumentError, CLOCK, CommandError, ERRORS, HostPort, NamedReason, NumberArgument,
-    Reason, print_argument_error, u16_of,
+    ArgumentError, CLOCK, CommandError, ERRORS, HostPort, NamedReason, NumberArgument, Reason,
+    print_argument_error, u16_of,
 };
 use enip_config::Configuration;
 use enip_keep::{KeepError, Keeper};
