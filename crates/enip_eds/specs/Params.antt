@@ -206,5 +206,12 @@ types_at lists index = items_or_none (slice_get lists index)
 abbrev pub attribute_step : ObjectConfig → List AttributeType → ℕ → AttributeConfig → Written → Written → Type 0
 attribute_step o types index a before after = IsAttributeAdded o a (type_at types index) before after
 
+-- The TCP/IP Interface and the Ethernet Link have no Param: a tool knows them from the standard.
+abbrev pub attributes_if_own : Bool → List AttributeConfig → List AttributeConfig
+attributes_if_own standard attributes = if standard then [] else attributes
+
+abbrev pub own_attributes : ObjectConfig → List AttributeConfig
+own_attributes o = attributes_if_own o.standard o.attributes.items
+
 abbrev pub object_params : List (Vec AttributeType Global) → ℕ → ObjectConfig → Written → Written → Type 0
-object_params lists index o before after = Steps (attribute_step o (types_at lists index)) before o.attributes.items after
+object_params lists index o before after = Steps (attribute_step o (types_at lists index)) before (own_attributes o) after

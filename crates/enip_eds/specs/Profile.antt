@@ -1,6 +1,6 @@
 -- What a conformance test looks for in a configuration, a line for each part, and what is missing.
 use Rattle.std.specs.Prelude.{ℕ, ◌==◌, ◌%◌, ◌/◌, ◌&&◌, ◌||◌, nat_le, Bool, if◌then◌else◌, List, [], ◌∷◌, ◌++◌, length, codes, decimal, Option, Some, None}
-use Rattle.std.specs.List.{flat_map}
+use Rattle.std.specs.List.{flat_map, list_any}
 use Rattle.std.specs.String.{string_bytes}
 use Rattle.std.specs.declared.alloc.Global.{Global}
 use Rattle.std.specs.Prelude.{String}
@@ -119,21 +119,38 @@ abbrev pub name_note : Option (String Global) → List ℕ
 name_note None = codes " (note: without a name, a tool shows its numbers)\n"
 name_note (Some name) = codes "\n"
 
--- An own object. The classes of vendors are 0x64 to 0xc7, and 0x300 to 0x4ff.
+-- An own object. The classes of vendors are 0x64 to 0xc7, and 0x300 to 0x4ff. The objects of the standard have lines
+-- of their own.
 abbrev pub object_line : ObjectConfig → List ℕ
 object_line o =
-    if is_vendor_specific o.class
+    if o.standard then []
+    else if is_vendor_specific o.class
     then joined (codes "object of class " ∷ decimal o.class ∷ codes ", instance " ∷ decimal o.instance ∷ codes ": " ∷ decimal (length o.attributes.items)
     ∷ codes " attributes" ∷ name_note o.name ∷ [])
     else joined (codes "object of class " ∷ decimal o.class ∷ codes ", instance " ∷ decimal o.instance
     ∷ codes ": missing: the class is not one of those that vendors may use\n" ∷ [])
 
--- What no configuration changes, after the own objects.
-abbrev pub network_lines : List ℕ
-network_lines =
-    codes "Connection Manager object (0x06): class 3 connections, no I/O connections\nTCP/IP Interface object (0xF5): missing: required of every EtherNet/IP device\nEthernet Link object (0xF6): missing: required of every EtherNet/IP device\n"
+-- The TCP/IP Interface and the Ethernet Link are those of the configuration, if it has them.
+abbrev pub interface_line : Bool → List ℕ
+interface_line present =
+    if present then codes "TCP/IP Interface object (0xF5): instance 1\n"
+    else codes "TCP/IP Interface object (0xF5): missing: required of every EtherNet/IP device\n"
+
+abbrev pub link_line : Bool → List ℕ
+link_line present =
+    if present then codes "Ethernet Link object (0xF6): instance 1\n"
+    else codes "Ethernet Link object (0xF6): missing: required of every EtherNet/IP device\n"
+
+abbrev pub has_class : ℕ → List ObjectConfig → Bool
+has_class class objects = list_any (λ o. o.class == class) objects
+
+-- What comes after the own objects.
+abbrev pub network_lines : Bool → Bool → List ℕ
+network_lines has_interface has_link =
+    codes "Connection Manager object (0x06): class 3 connections, no I/O connections\n"
+    ++ (interface_line has_interface ++ link_line has_link)
 
 -- The whole text.
 abbrev pub profile : Config → List ℕ
 profile c =
-    identity_lines (type_name_of c.device_type) c ++ (router_lines ++ (assembly_lines c.assemblies.items ++ (flat_map object_line c.objects.items ++ network_lines)))
+    identity_lines (type_name_of c.device_type) c ++ (router_lines ++ (assembly_lines c.assemblies.items ++ (flat_map object_line c.objects.items ++ network_lines (has_class 0xf5 c.objects.items) (has_class 0xf6 c.objects.items))))

@@ -4,7 +4,7 @@ ghost use Rattle.std.specs.Prelude.{◌≡◌, IfOk, OnOk, ◌++◌, option_map,
 ghost use Rattle.enip_eds.specs.Params.{IsAttributeAdded, IsNextParam, about_in, Attribute, assembly_params, attribute_step};
 ghost use Rattle.enip_eds.specs.Params.{comment};
 ghost use Rattle.enip_eds.specs.Params.{described_attribute, described_in, greatest_in, least_in, member_step};
-ghost use Rattle.enip_eds.specs.Params.{object_params, type_at, types_at, zeros};
+ghost use Rattle.enip_eds.specs.Params.{object_params, own_attributes, type_at, types_at, zeros};
 ghost use Rattle.enip_eds.specs.Steps.{Steps, written};
 
 use crate::param::{Param, Subject, add_param, after};
@@ -151,10 +151,10 @@ fn add_attributes(
     types: &[AttributeType],
 ) -> Result<u64, AllocError>
     ensures { IfOk result (λ next.
-        Steps (attribute_step object.now types.now) (written first (string_bytes text.old)) object.now.attributes.items
+        Steps (attribute_step object.now types.now) (written first (string_bytes text.old)) (own_attributes object.now)
         (written next (string_bytes text.new))) }
 {
-    let attributes = object.attributes.as_slice();
+    let attributes = own_attributes(object);
     let mut number = first;
     for index in 0..attributes.len() {
         let of_type = type_at(types, index);
@@ -162,6 +162,17 @@ fn add_attributes(
         number = next;
     }
     Ok(number)
+}
+
+/// The attributes of an object that can have a Param. The TCP/IP Interface and the Ethernet Link have none: a tool knows
+/// them from the standard.
+fn own_attributes(object: &ObjectConfig) -> &[AttributeConfig]
+    ensures { result.now ≡ own_attributes object.now }
+{
+    if object.standard {
+        return &[];
+    }
+    object.attributes.as_slice()
 }
 
 /// The type of the attribute with this index.

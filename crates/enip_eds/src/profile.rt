@@ -2,10 +2,10 @@
 
 ghost use Rattle.std.specs.Prelude.{◌≡◌, IfOk, string_bytes};
 ghost use Rattle.enip_eds.specs.Profile.{has_reserved_bits, is_vendor_specific, name_line, name_note, profile};
-ghost use Rattle.enip_eds.specs.Profile.{serial_line, status_line};
+ghost use Rattle.enip_eds.specs.Profile.{serial_line, status_line, has_class, interface_line, link_line};
 
 use crate::device_types::device_type_name;
-use cip_application::ObjectConfig;
+use cip_application::{ETHERNET_LINK, ObjectConfig, TCP_IP_INTERFACE};
 use cip_objects::{AssemblyConfig, Config};
 use std::alloc::{AllocError, Global};
 use std::fmt;
@@ -26,6 +26,7 @@ pub fn profile_text(alloc: Global, objects: &Config) -> Result<String, AllocErro
     ensures { IfOk result (λ text. string_bytes text ≡ profile objects.now) }
 {
     let name = device_type_name(objects.device_type);
+    let network = network_of(&objects.objects);
     let mut text = String::new(alloc);
     write!(
         text,
@@ -34,7 +35,7 @@ pub fn profile_text(alloc: Global, objects: &Config) -> Result<String, AllocErro
         RouterLines,
         AssemblyLines(&objects.assemblies),
         ObjectLines(&objects.objects),
-        NetworkLines
+        network
     )?;
     Ok(text)
 }
@@ -349,6 +350,9 @@ impl fmt::Display for ObjectLine<'_> {
 
     fn fmt<W: fmt::Write>(&self, f: &mut fmt::Formatter<W>) -> fmt::Result {
         let (class, instance) = (self.0.class, self.0.instance);
+        if self.0.standard {
+            return Ok(());
+        }
         if !is_vendor_specific(class) {
             return write!(
                 f,
@@ -375,21 +379,70 @@ fn name_note(name: &Option<String>) -> &'static str
     }
 }
 
-/// The lines that no configuration changes, after the own objects.
+/// The lines after the own objects. The configuration may have a TCP/IP Interface and an Ethernet Link.
 #[derive(Clone, Copy)]
-struct NetworkLines;
+struct NetworkLines {
+    has_interface: bool,
+    has_link: bool,
+}
+
+/// Which of the two objects are among these.
+fn network_of(objects: &[ObjectConfig]) -> NetworkLines
+    ensures interface { result.has_interface ≡ has_class 0xf5 objects.now }
+    ensures link { result.has_link ≡ has_class 0xf6 objects.now }
+{
+    NetworkLines {
+        has_interface: has_class(TCP_IP_INTERFACE, objects),
+        has_link: has_class(ETHERNET_LINK, objects),
+    }
+}
+
+/// Whether an object has this class.
+fn has_class(class: u16, objects: &[ObjectConfig]) -> bool
+    ensures { result ≡ has_class class objects.now }
+{
+    for object in objects {
+        if object.class == class {
+            return true;
+        }
+    }
+    false
+}
+
+/// The line of the TCP/IP Interface.
+fn interface_line(present: bool) -> &'static str
+    ensures { result.now ≡ interface_line present }
+{
+    if present {
+        "TCP/IP Interface object (0xF5): instance 1\n"
+    } else {
+        "TCP/IP Interface object (0xF5): missing: required of every EtherNet/IP device\n"
+    }
+}
+
+/// The line of the Ethernet Link.
+fn link_line(present: bool) -> &'static str
+    ensures { result.now ≡ link_line present }
+{
+    if present {
+        "Ethernet Link object (0xF6): instance 1\n"
+    } else {
+        "Ethernet Link object (0xF6): missing: required of every EtherNet/IP device\n"
+    }
+}
 
 impl fmt::Display for NetworkLines {
     ghost use Rattle.std.specs.Prelude.{Some};
     ghost use Rattle.enip_eds.specs.Profile.{network_lines};
 
-    ghost output = { λ _. Some network_lines };
+    ghost output = { λ n. Some (network_lines n.has_interface n.has_link) };
 
     fn fmt<W: fmt::Write>(&self, f: &mut fmt::Formatter<W>) -> fmt::Result {
-        f.write_str(
-            "Connection Manager object (0x06): class 3 connections, no I/O connections\n\
-             TCP/IP Interface object (0xF5): missing: required of every EtherNet/IP device\n\
-             Ethernet Link object (0xF6): missing: required of every EtherNet/IP device\n",
+        write!(
+            f,
+            "Connection Manager object (0x06): class 3 connections, no I/O connections\n{}{}",
+            interface_line(self.has_interface),
+            link_line(self.has_link)
         )
     }
 }

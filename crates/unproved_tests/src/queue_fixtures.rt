@@ -48,6 +48,7 @@ pub fn queued_config(alloc: Global) -> Result<Config, Fail> {
         config.objects.push(ObjectConfig {
             class: CLASS,
             instance,
+            standard: false,
             name: None,
             attributes: Vec::new(alloc),
             services: services(alloc, instance < 3)?,

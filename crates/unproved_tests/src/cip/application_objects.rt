@@ -70,6 +70,7 @@ fn conveyor(alloc: Global, class: u16) -> Result<ObjectConfig, Fail> {
     Ok(ObjectConfig {
         class,
         instance: 2,
+        standard: false,
         name: None,
         attributes,
         services: Vec::new(alloc),

@@ -77,6 +77,7 @@ fn objects(alloc: Global) -> Result<Objects, Fail> {
     config.objects.push(ObjectConfig {
         class: 768,
         instance: 2,
+        standard: false,
         name: None,
         attributes: Vec::new(alloc),
         services: Vec::new(alloc),
@@ -84,6 +85,7 @@ fn objects(alloc: Global) -> Result<Objects, Fail> {
     config.objects.push(ObjectConfig {
         class: 768,
         instance: 1,
+        standard: false,
         name: None,
         attributes: attributes(alloc)?,
         services,

@@ -77,6 +77,7 @@ pub(super) fn config_with_machine(alloc: Global) -> Result<Config, Fail> {
     config.objects.push(ObjectConfig {
         class: u16::from(MACHINE),
         instance: 1,
+        standard: false,
         name: None,
         attributes,
         services,

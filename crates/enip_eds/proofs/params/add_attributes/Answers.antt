@@ -8,5 +8,5 @@ loop-index-init c = Start
 
 pub loop-index-preserved : goal.loop-index-preserved
 loop-index-preserved c =
-    more_steps (attribute_step c.args.object.now c.args.types.now) c.as_slice-attributes.result.now c.loop-index.index c.index-attributes-index.result _ _ _ c.loop-index-test.true c.index-attributes-index.is c.loop-index.invariant
+    more_steps (attribute_step c.args.object.now c.args.types.now) c.own_attributes-attributes.result.now c.loop-index.index c.index-attributes-index.result _ _ _ c.loop-index-test.true c.index-attributes-index.is c.loop-index.invariant
     (rw c.type_at-of_type.ensures at c.in_ok-next.ensures)
