@@ -14,13 +14,13 @@ ghost use Rattle.enip_config.specs.StandardObjects.{required_address, optional_a
 ghost use Rattle.enip_config.specs.StandardObjects.{six_bytes, three_bytes};
 ghost use Rattle.enip_config.specs.StandardObjects.{is_text, text_in, text_by, HasShortTexts, HasShortLabel};
 
-use crate::fault::LoadFault;
 use crate::key::{FLAGS, INACTIVITY_TIMEOUT, INTERFACE_STATE, INTERFACE_TYPE, SPEED};
 use crate::objects::objects_of;
 use crate::values::{BAD_VALUE, byte, four_bytes, number_by, value_of};
 use cip_application::{
     DOMAIN_LIMIT, EthernetLink, HOST_LIMIT, LABEL_LIMIT, ObjectConfig, TcpIpInterface,
 };
+use config_refusal::LoadFault;
 use std::alloc::{AllocError, Global};
 use toml::{Table, Value};
 
