@@ -57,8 +57,12 @@ impl Objects {
         ensures short { IfSome result IsShort }
     {
         let summary = self.application.class(class)?;
-        let revision = class_revision(class);
-        class_attribute(revision, summary.greatest, summary.instances, attribute)
+        class_attribute(
+            class_revision(class),
+            summary.greatest,
+            summary.instances,
+            attribute,
+        )
     }
 
     /// Whether the application object at an index is the TCP/IP Interface or the Ethernet Link.

@@ -19,7 +19,7 @@ returns-clause-value c =
     let o = c.self.inside in
     let summary = c.in_ok-summary.summary in
     c.class_attribute.ensures.value
-    ∙ ap (λ r. attribute_in c.args.attribute (class_attributes r summary.greatest summary.instances)) c.class_revision-revision.ensures
+    ∙ ap (λ r. attribute_in c.args.attribute (class_attributes r summary.greatest summary.instances)) c.class_revision.ensures
     ∙ sym (class_read o.identity (boxed_slice_items o.assemblies) (counter_values o.counter) o.application
     c.args.self.now c.args.class c.args.attribute c.in_ok-summary.summary c.self.view_is c.self.invariant.numbered
     c.self.invariant.free c.requires.free (sym c.in_ok-summary.ensures))
