@@ -105,11 +105,10 @@ pub(crate) static IDLE_TIMEOUT: ArgumentRow = ArgumentRow {
     id: "idle",
     option: Some("idle"),
     value_name: Some("SECONDS"),
-    help: "Longest silence of a client, 0 to 3600",
+    help: "Longest silence of a client, 0 to 3600 [default: 120]",
     details: Some(
-        "A client that sends nothing for so many seconds, 0 to 3600, is\ndisconnected. 0 is no limit",
+        "A client that sends nothing for so many seconds, 0 to 3600, is\ndisconnected. 0 is no limit. SECONDS replaces the\ninactivity_timeout of a table tcp_ip, which counts without --idle\n\n[default: 120]",
     ),
-    default: Some("120"),
     ..PLAIN
 };
 
