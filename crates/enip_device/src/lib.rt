@@ -5,6 +5,7 @@
 //! `owner_sockets`.
 #![tactic(auto)]
 
+mod idle;
 mod owner_options;
 mod serve_command;
 mod serve_owner;

@@ -1,7 +1,6 @@
 //! `enip serve`: the device that the arguments describe, its sockets, and what observes it.
 
-ghost use Rattle.std.specs.Prelude.{◌≡◌, ◌<◌, ◌*◌, ◌-◌, ◌^◌};
-
+use crate::idle::IdleOption;
 use crate::owner_options::OwnerOptions;
 use crate::serve_owner::serve_owned;
 use clap::ArgMatches;
@@ -17,19 +16,16 @@ use enip_adapter::Listen;
 use enip_cli::OsArg;
 use enip_common::{
     ArgumentError, CLOCK, CommandError, ERRORS, HostPort, NamedReason, NumberArgument, Reason,
-    print_argument_error, u16_of,
+    print_argument_error,
 };
 use enip_config::Configuration;
 use enip_keep::{KeepError, Keeper};
-use enip_server::{NO_IDLE_TIMEOUT, NoWatcher, Peers, Wire};
+use enip_server::{NoWatcher, Peers, Wire};
 use kept_adapter::AdapterStart;
 use mio::net::UdpSocket;
 use std::io;
 use std::net::{SocketAddr, TcpListener};
 use std::time::Instant;
-
-/// The microseconds of a second.
-const SECOND: u64 = 1_000_000;
 
 /// How a device is served.
 #[derive(Clone, Copy)]
@@ -40,8 +36,8 @@ pub(crate) struct ServeOptions<'a> {
     discovery: bool,
     /// After how many connections to return.
     count: u64,
-    /// How long a peer may be silent, in microseconds.
-    idle_timeout: u64,
+    /// How long a client may be silent.
+    idle: IdleOption,
     /// Where its state is kept.
     keep: Option<KeptFile<'a>>,
     /// Where it listens for its owner, and who that may be.
@@ -55,9 +51,7 @@ pub(crate) struct ServeOptions<'a> {
 impl<'a> ServeOptions<'a> {
     /// The options in the arguments.
     fn from_matches(matches: &ArgMatches<'a>) -> Result<ServeOptions<'a>, ArgumentError<'a>> {
-        let Some(seconds) = NumberArgument::IDLE.value(matches)? else {
-            return Err(ArgumentError::Missing);
-        };
+        let idle = IdleOption::from_matches(matches)?;
         let accepts_older = matches.get_flag("accept-older");
         let owner = OwnerOptions::from_matches(matches)?;
         Ok(ServeOptions {
@@ -67,7 +61,7 @@ impl<'a> ServeOptions<'a> {
             count: NumberArgument::CONNECTIONS
                 .value(matches)?
                 .unwrap_or(u64::MAX),
-            idle_timeout: idle_timeout_of(u16_of(seconds)),
+            idle,
             keep: match matches.get_str("keep") {
                 Some(name) => Some(KeptFile::new(name, accepts_older)),
                 None => None,
@@ -78,9 +72,9 @@ impl<'a> ServeOptions<'a> {
         })
     }
 
-    /// How long a peer may be silent, in microseconds.
-    pub(crate) fn idle_timeout(self) -> u64 {
-        self.idle_timeout
+    /// How long a client may be silent.
+    pub(crate) fn idle(self) -> IdleOption {
+        self.idle
     }
 
     /// Where the state of the device is kept.
@@ -176,7 +170,8 @@ fn unkept_peers<'a, W: Wire + Drop>(
 ) -> Result<(Peers<W>, Option<Access>, Listen), CommandError<'a>> {
     let mut configuration = config.configuration_to_serve(rt.alloc())?;
     let adapter = adapter_of(rt, config, &configuration)?;
-    let peers = Peers::new(rt.alloc(), adapter, options.idle_timeout)?;
+    let mut peers = Peers::new(rt.alloc(), adapter, options.idle.timeout())?;
+    options.idle.write_to(&mut peers);
     Ok((
         peers,
         configuration.access.take(),
@@ -217,13 +212,14 @@ pub(crate) fn start_and_access<'a>(
 ) -> Result<(AdapterStart, Option<Access>), CommandError<'a>> {
     let mut configuration = configuration;
     let access = configuration.access.take();
+    options.idle.set_in(&mut configuration.objects.objects);
     match adapter_start(
         rt,
         config,
         configuration,
         &access,
         options.begins_life(),
-        options.idle_timeout,
+        options.idle.timeout(),
     ) {
         Ok(start) => Ok((start, access)),
         Err(error) => Err(error),
@@ -336,17 +332,6 @@ fn print_listening(
     match options.owner_at {
         Some(address) => eprintln!(rt; "owner at {address}"),
         None => Ok(()),
-    }
-}
-
-/// The idle timeout of so many seconds, in microseconds. 0 is no limit.
-fn idle_timeout_of(seconds: u16) -> u64
-    ensures limit { 0 < seconds → result ≡ seconds * 1_000_000 }
-    ensures no_limit { seconds ≡ 0 → result ≡ 2 ^ 64 - 1 }
-{
-    match seconds {
-        0 => NO_IDLE_TIMEOUT,
-        _ => u64::from(seconds) * SECOND,
     }
 }
 

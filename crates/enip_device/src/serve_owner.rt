@@ -192,7 +192,8 @@ fn owned<'a, W: Wire + Drop, L: OwnerLog + Drop>(
 ) -> Result<(Owned<W, L>, SocketAddr), CommandError<'a>> {
     let asks = parts.asks;
     let (link, address) = owner_link(rt, owner, parts, &adapter, log)?;
-    let peers = Peers::new(rt.alloc(), adapter, options.idle_timeout())?;
+    let mut peers = Peers::new(rt.alloc(), adapter, options.idle().timeout())?;
+    options.idle().write_to(&mut peers);
     Ok((Owned::new(peers, link, asks), address))
 }
 
