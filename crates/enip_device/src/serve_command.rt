@@ -1,5 +1,7 @@
 //! `enip serve`: the device that the arguments describe, its sockets, and what observes it.
 
+ghost use Rattle.std.specs.Prelude.{◌≡◌};
+
 use crate::idle::IdleOption;
 use crate::owner_options::OwnerOptions;
 use crate::serve_owner::serve_owned;
