@@ -1,7 +1,8 @@
 //! The lines of `enip check`: the device that a configuration describes.
 
 use cip_application::{
-    AttributeConfig, AttributeKind, NumberRange, ObjectConfig, ServiceConfig, ServiceKind,
+    AttributeConfig, AttributeKind, ETHERNET_LINK, NumberRange, ObjectConfig, ServiceConfig,
+    ServiceKind, TCP_IP_INTERFACE,
 };
 use cip_names::{ClassText, ServiceText};
 use cip_objects::{AssemblyConfig, Config};
@@ -11,6 +12,9 @@ use enip_config::{AttributeType, Configuration, LedgerConfig};
 use std::alloc::Global;
 use std::io::{self, BufWriter, Write};
 use std::net::IpAddr;
+
+/// The most bytes of the label of an Ethernet Link. (Volume 2, Ethernet Link object.)
+const LABEL_ROOM: u8 = 64;
 
 /// Prints the device that a configuration describes: its identity, its objects, its limits, and who may do what. Then
 /// what this client may do, if there is one.
@@ -39,10 +43,7 @@ fn print_lines<W: Write>(
     for assembly in &configuration.objects.assemblies {
         print_assembly(output, assembly)?;
     }
-    let objects = &configuration.objects.objects;
-    for (object, types) in objects.iter().zip(&configuration.attribute_types) {
-        print_object(alloc, output, object, types.as_slice())?;
-    }
+    print_objects(alloc, output, configuration)?;
     if let Some(ledger) = configuration.ledger {
         print_ledger(output, ledger)?;
     }
@@ -54,6 +55,23 @@ fn print_lines<W: Write>(
         Some(access) => print_access(output, access),
         None => Ok(()),
     }
+}
+
+/// Prints the own objects, and after them those of the tables `tcp_ip` and `ethernet_link`.
+fn print_objects<W: Write>(
+    alloc: Global,
+    output: &mut W,
+    configuration: &Configuration,
+) -> io::Result<()> {
+    let objects = &configuration.objects.objects;
+    let types = &configuration.attribute_types;
+    for (object, types) in objects.iter().zip(types) {
+        print_object(alloc, output, object, types.as_slice())?;
+    }
+    for object in objects.iter().skip(types.len()) {
+        print_network_object(alloc, output, object)?;
+    }
+    Ok(())
 }
 
 /// Prints the Identity object. (Volume 1, Identity.)
@@ -191,12 +209,7 @@ fn print_object<W: Write>(
     object: &ObjectConfig,
     types: &[AttributeType],
 ) -> io::Result<()> {
-    let (class, instance) = (ClassText(object.class), object.instance);
-    write!(output, "object of {class}, instance {instance}")?;
-    if let Some(name) = &object.name {
-        write!(output, ", {}", name.as_str())?;
-    }
-    writeln!(output)?;
+    print_head(output, object)?;
     for (attribute, of_type) in object.attributes.iter().zip(types) {
         print_attribute(alloc, output, attribute, *of_type)?;
     }
@@ -206,7 +219,49 @@ fn print_object<W: Write>(
     Ok(())
 }
 
-/// Prints an attribute of an own object: its number, its type and its value, whether it can be set and whether a set is
+/// Prints the class, the instance and the name of an object.
+fn print_head<W: Write>(output: &mut W, object: &ObjectConfig) -> io::Result<()> {
+    let (class, instance) = (ClassText(object.class), object.instance);
+    write!(output, "object of {class}, instance {instance}")?;
+    if let Some(name) = &object.name {
+        write!(output, ", {}", name.as_str())?;
+    }
+    writeln!(output)
+}
+
+/// Prints the TCP/IP Interface or the Ethernet Link: its class and its instance, then a line for each attribute.
+fn print_network_object<W: Write>(
+    alloc: Global,
+    output: &mut W,
+    object: &ObjectConfig,
+) -> io::Result<()> {
+    print_head(output, object)?;
+    for attribute in &object.attributes {
+        let of_type = network_type(object.class, attribute);
+        print_attribute(alloc, output, attribute, of_type)?;
+    }
+    Ok(())
+}
+
+/// The type of an attribute of the TCP/IP Interface or of the Ethernet Link. One of several parts has the bytes of its
+/// value. (Volume 2, TCP/IP Interface and Ethernet Link objects.)
+fn network_type(class: u16, attribute: &AttributeConfig) -> AttributeType {
+    let element = match (class, attribute.number) {
+        (TCP_IP_INTERFACE, 1..=3) | (ETHERNET_LINK, 2) => ElementaryType::Dword,
+        (TCP_IP_INTERFACE, 13) => ElementaryType::Uint,
+        (ETHERNET_LINK, 1) => ElementaryType::Udint,
+        (ETHERNET_LINK, 3) => return AttributeType::Array(ElementaryType::Usint, 6),
+        (ETHERNET_LINK, 7 | 8) => ElementaryType::Usint,
+        (ETHERNET_LINK, 10) => return AttributeType::ShortString(LABEL_ROOM),
+        _ => {
+            let size = u16::try_from(attribute.value.len()).unwrap_or(u16::MAX);
+            return AttributeType::Bytes(size);
+        }
+    };
+    AttributeType::One(element)
+}
+
+/// Prints an attribute of an object: its number, its type and its value, whether it can be set and whether a set is
 /// checked, and its range if it has one.
 fn print_attribute<W: Write>(
     alloc: Global,
