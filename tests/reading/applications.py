@@ -2,6 +2,7 @@
 requests go to the owner of the device. Neither `enip answer` nor `enip replay` has an owner."""
 import struct
 
+from reading.networks import NETWORK_REVISION, NETWORK_SERVICES, toml_of_table
 from reading.protocol import (
     ATTRIBUTE, COUNTER, DEVICE_STATE, GET, GET_ALL, GET_LIST, LONG, NOT_SETTABLE, SET, SHORT, TOO_LARGE, VALUE, check,
     check_length, number,
@@ -57,6 +58,8 @@ class Applications:
         if instance == 0:
             return [GET] if any(key[0] == kind for key in self.objects) else None
         one = self.objects.get((kind, instance))
+        if one and "table" in one:
+            return NETWORK_SERVICES
         return one and [GET_ALL, GET_LIST, GET, SET] + [service["number"] for service in one["services"]]
 
     def has(self, kind, instance):
@@ -65,7 +68,8 @@ class Applications:
     def attribute(self, kind, instance, attribute):
         if instance == 0:
             instances = [key[1] for key in self.objects if key[0] == kind]
-            return {1: number(2, 1), 2: number(2, max(instances)), 3: number(2, len(instances))}.get(attribute)
+            revision = NETWORK_REVISION if "table" in self.objects[kind, instances[0]] else 1
+            return {1: number(2, revision), 2: number(2, max(instances)), 3: number(2, len(instances))}.get(attribute)
         return self.values.get((kind, instance, attribute))
 
     def all_attributes(self, kind, instance):
@@ -172,6 +176,8 @@ class Describing:
     def own_call(self, config):
         """A request to an application object, which is mostly executed, or goes to the owner."""
         one = self.random.choice(config["objects"])
+        if self.seldom(0.1):
+            return GET, self.right_path(one["class"], 0) + self.segment("attribute", self.pick(1, 2, 3)), b""
         path = self.right_path(one["class"], one["instance"])
         kinds = ["all", "list"] + ["get", "set", "set", "set"] * bool(one["attributes"])
         kind = self.pick(*kinds, *["service"] * 2 * bool(one["services"]))
@@ -214,6 +220,8 @@ def toml_of_type(attribute):
 
 def toml_of_object(one):
     """The lines of an application object in a configuration."""
+    if "table" in one:
+        return toml_of_table(one)
     lines = ["[[object]]", "class = %d" % one["class"], "instance = %d" % one["instance"]]
     for attribute in one["attributes"]:
         lines += ["[[object.attribute]]", "number = %d" % attribute["number"]]

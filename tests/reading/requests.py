@@ -6,6 +6,7 @@ from reading.protocol import (
     GET_MEMBER, IDENTITY, LARGE_FORWARD_OPEN, LARGEST_ASSEMBLY, LAST, LEDGER, ORDER, SEGMENTS, SET, SET_MEMBER, number,
 )
 from reading.applications import Describing
+from reading.networks import Networking
 
 
 class Chooser:
@@ -24,7 +25,7 @@ class Chooser:
         return self.random.randbytes(self.random.randrange(count))
 
 
-class Configurations(Chooser, Describing):
+class Configurations(Chooser, Describing, Networking):
     """Makes configurations."""
 
     def assembly(self, instance):
@@ -60,7 +61,7 @@ class Configurations(Chooser, Describing):
             "assemblies": [self.assembly(instance) for instance in instances], "ledger": self.ledger(),
         }
         config["has_counter"] = not self.seldom(0.1)
-        config["objects"] = self.own_objects(config["has_counter"])
+        config["objects"] = self.own_objects(config["has_counter"]) + self.networks()
         omitted = [key for key in DEFAULTS if self.seldom(0.15)]
         omitted += ["value"] if "limit" not in omitted and self.seldom(0.2) else []
         config.update({key: DEFAULTS[key] for key in omitted})

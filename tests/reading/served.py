@@ -20,6 +20,10 @@ TURNS = 150
 class Served(Conversation):
     """Makes a conversation while it runs, and compares each answer at once. `compared` counts the bytes."""
 
+    def networks(self):
+        """No TCP/IP Interface: if its timeout were set, peers would be ended."""
+        return []
+
     def config(self):
         """A configuration for several peers, without an owner, and with shares. Few have no handle left at once."""
         config = super().config()
