@@ -33,3 +33,5 @@ pub mod ObjectWrites
 pub mod ObjectLemmas
 pub mod OwnRequests
 pub mod Approved
+pub mod Packets
+pub mod PacketSteps

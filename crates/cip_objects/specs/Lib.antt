@@ -18,6 +18,11 @@ pub mod ReadServices
 pub mod ChangeServices
 pub mod Execution
 pub mod ExecutionLaws
+pub mod Packets
+pub mod PacketLaws
+pub mod PacketReplies
+pub mod PacketRuns
+pub mod PacketRows
 pub mod Configuration
 pub mod Run
 pub mod Laws

@@ -7,6 +7,7 @@ ghost use Rattle.cip_objects.specs.Members.{member_after_set_law, set_member_lea
 ghost use Rattle.cip_objects.specs.Router.{RepliesWellFormed};
 ghost use Rattle.cip_objects.specs.Contents.{Contents};
 ghost use Rattle.cip_objects.specs.Execution.{exec};
+ghost use Rattle.cip_objects.specs.PacketLaws.{packet_law, singles_law, routed_refused_law, others_law};
 ghost use Rattle.cip_objects.specs.Run.{counter_law};
 ghost use Rattle.cip_objects.specs.ChangesRun.{changes_law};
 ghost use Rattle.cip_objects.specs.OwnRequests.{own_is_refused_law, approved_is_stored_law, approved_leaves_others_law};
@@ -99,4 +100,27 @@ pub fn approved_is_stored()
 /// A set that the owner approved does not change any other attribute.
 pub fn approved_leaves_others()
     ensures { approved_leaves_others_law }
+{}
+
+/// The objects after a packet are those after its requests, executed one after another, each with what room is left for
+/// its reply, and the replies are theirs.
+pub fn packet_is_its_requests()
+    ensures { packet_law }
+{}
+
+/// Whatever requests are executed, packets among them: the objects are those after single requests, one after another.
+/// So each law over every run of requests holds with packets among them.
+pub fn packets_amount_to_requests()
+    ensures { singles_law }
+{}
+
+/// Every request but a packet is executed as it is, and a packet too if the device does not have the Message Router.
+pub fn others_are_no_packets()
+    ensures { others_law }
+{}
+
+/// A reply with any general status but success (0x00), attribute list error (0x0a) and embedded service error (0x1e)
+/// leaves the object map unchanged, whether the request is a packet or not.
+pub fn refused_packets_change_nothing()
+    ensures { routed_refused_law }
 {}

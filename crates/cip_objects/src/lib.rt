@@ -2,16 +2,16 @@
 //!
 //! [`Objects`] is made from a [`Config`] and executes router requests, as its trait [`Router`] says. Contracts see
 //! it as the object map, from class, instance and attribute to bytes, and the constant tables that the
-//! configuration fixed. `exec` in `specs/Execution.antt` defines the object map after a request, and its reply. In
-//! memory the objects are typed structs.
+//! configuration fixed. `exec` in `specs/Execution.antt` defines the object map after a request, and its reply, and
+//! `exec_routed` in `specs/Packets.antt` those of a packet of several requests. In memory the objects are typed structs.
 //!
 //! The owner of the device executes own services of application objects, and sets of checked attributes. `execute`
 //! refuses them. `Objects::own_request` says what such a request asks, and `Objects::store_checked` stores a set that
 //! the owner approved. `own_request` in `specs/OwnRequests.antt` defines which requests these are.
 //!
-//! Only `Objects::new` allocates. Left out are dynamic assemblies, Set_Attributes_All, Set_Attribute_List,
-//! Multiple_Service_Packet, and Identity Reset. All of these are answered "service not supported". The services of
-//! the Connection Manager belong to `cip_manager`.
+//! Only `Objects::new` allocates. Left out are dynamic assemblies, Set_Attributes_All, Set_Attribute_List and Identity
+//! Reset. All of these are answered "service not supported". The services of the Connection Manager belong to
+//! `cip_manager`.
 //!
 //! ```
 //! let mut objects = Objects::new(alloc, config)?;
@@ -33,6 +33,8 @@ pub mod laws;
 mod object_ref;
 mod objects;
 mod own_request;
+mod packet;
+mod packet_replies;
 mod read_services;
 mod reply;
 mod router;
@@ -45,5 +47,6 @@ pub use cip_bytes::protocol::{GeneralStatus, REPLY_LIMIT};
 pub use config::{AssemblyConfig, Config, ConfigFault, CounterConfig};
 pub use objects::Objects;
 pub use own_request::OwnRequest;
+pub use packet::{PacketRequests, packet_data};
 pub use router::{ReplyBuf, Router};
 pub use status::Refusal;

@@ -7,11 +7,10 @@ use Rattle.cip_application.specs.declared.config.ServiceKind.TheVariants as kind
 use Rattle.cip_bytes.specs.Numbers.{le}
 use Rattle.cip_objects.specs.declared.status.Refusal.{Refusal}
 use Rattle.cip_objects.specs.Contents.{Contents}
-use Rattle.cip_objects.specs.Execution.{exec}
+use Rattle.cip_objects.specs.Packets.{exec_routed}
 use Rattle.cip_objects.specs.OwnRequests.{Asked, own_request}
 use Rattle.cip_objects.specs.Router.{general_status, REPLY_TOO_LARGE}
-use Rattle.cip_objects.proofs.OwnRequests.{own_is_refused}
-use Rattle.cip_objects.proofs.Refused.{refused}
+use Rattle.cip_objects.proofs.Packets.{own_routed, refused_routed}
 use Rattle.cip_owner.specs.Replies.{Reply}
 use Rattle.cip_owner.specs.Owned.{OwnedState, exec_owned, by_owner, own_executed, is_left, IsDone, IsTaken, is_fit, given}
 use Rattle.cip_owner.specs.Owned.{answered, after_reply, answer_with, refused_with, NOT_PREPARED, RESOURCE_UNAVAILABLE}
@@ -35,26 +34,29 @@ left_not_success status e f = grind (arith, nat_tests)
 left_not_partial : (status : ℕ) → is_left status ≡ true → status ≡ 0x0a → ⊥
 left_not_partial status e f = grind (arith, nat_tests)
 
+left_not_embedded : (status : ℕ) → is_left status ≡ true → status ≡ 0x1e → ⊥
+left_not_embedded status e f = grind (arith, nat_tests)
+
 not_left : (status : ℕ) → is_left status ≡ false → (status ≡ 0x08) ⊎ (status ≡ 0x0e) → ⊥
 not_left status e (inl x) = grind (arith, nat_tests)
 not_left status e (inr x) = grind (arith, nat_tests)
 
 -- What a refusal with one of the two statuses leaves.
 pub unchanged : (m : Contents) (max_size : ℕ) (text : List ℕ)
-    → is_left (general_status (exec m max_size text).answer) ≡ true → (exec m max_size text).after ≡ m
+    → is_left (general_status (exec_routed m max_size text).answer) ≡ true → (exec_routed m max_size text).after ≡ m
 unchanged m max_size text e =
-    (refused m max_size text (left_not_success (general_status (exec m max_size text).answer) e)
-    (left_not_partial (general_status (exec m max_size text).answer) e)).1
+    let status = general_status (exec_routed m max_size text).answer in
+    refused_routed m max_size text (left_not_success status e, (left_not_partial status e, left_not_embedded status e))
 
 -- A reply with another status is to no request to the owner.
 pub plain : (m : Contents) (max_size : ℕ) (text : List ℕ)
-    → is_left (general_status (exec m max_size text).answer) ≡ false → own_request m text ≡ None
+    → is_left (general_status (exec_routed m max_size text).answer) ≡ false → own_request m text ≡ None
 plain m max_size text e = by_own (own_request m text) refl
   where
     by_own : (own : Option (Result Asked Refusal)) → own_request m text ≡ own → own_request m text ≡ None
     by_own None is = is
     by_own (Some own) is =
-        absurd (not_left (general_status (exec m max_size text).answer) e (own_is_refused m max_size text (λ none. absurd (cc))).0)
+        absurd (not_left (general_status (exec_routed m max_size text).answer) e (own_routed m max_size text (λ none. absurd (cc))).0)
 
 -- The state and the reply after an execution.
 pub record AreExecuted (w : OwnedState) (max_size : ℕ) (text : List ℕ) (after : OwnedState) (new : List ℕ) : Type 0 where
@@ -62,7 +64,7 @@ pub record AreExecuted (w : OwnedState) (max_size : ℕ) (text : List ℕ) (afte
   pub reply : new ≡ (exec_owned w max_size text).answer
 
 pub executed_plain : (w : OwnedState) (max_size : ℕ) (text : List ℕ) → own_request w.objects text ≡ None
-    → AreExecuted w max_size text (record w { objects = (exec w.objects max_size text).after }) (exec w.objects max_size text).answer
+    → AreExecuted w max_size text (record w { objects = (exec_routed w.objects max_size text).after }) (exec_routed w.objects max_size text).answer
 executed_plain w max_size text e = record {
   state = sym (ap (λ x. x.after) (exec_owned_plain w max_size text e));
   reply = sym (ap (λ x. x.answer) (exec_owned_plain w max_size text e));
@@ -70,14 +72,14 @@ executed_plain w max_size text e = record {
 
 by_own_request : (w : OwnedState) (max_size : ℕ) (text : List ℕ) (own : Option (Result Asked Refusal))
     (after : OwnedState) (new : List ℕ) → own_request w.objects text ≡ own
-    → (exec w.objects max_size text).after ≡ w.objects
-    → IsDone (record w { objects = (exec w.objects max_size text).after }) max_size text (exec w.objects max_size text).answer own after new
+    → (exec_routed w.objects max_size text).after ≡ w.objects
+    → IsDone (record w { objects = (exec_routed w.objects max_size text).after }) max_size text (exec_routed w.objects max_size text).answer own after new
     → AreExecuted w max_size text after new
 by_own_request w max_size text None after new e same done =
     let p = executed_plain w max_size text e in
     record { state = done.0 ∙ p.state; reply = done.1 ∙ p.reply }
 by_own_request w max_size text (Some own) after new e same done =
-    let is : (record w { objects = (exec w.objects max_size text).after }) ≡ w = ap (λ m. record w { objects = m }) same in
+    let is : (record w { objects = (exec_routed w.objects max_size text).after }) ≡ w = ap (λ m. record w { objects = m }) same in
     record {
       state = done.0 ∙ (ap (λ v. (own_executed v max_size (slice_index text 0) own).after) is ∙ sym (ap (λ x. x.after) (exec_owned_own w max_size text own e)));
       reply = done.1 ∙ (ap (λ v. (own_executed v max_size (slice_index text 0) own).answer) is ∙ sym (ap (λ x. x.answer) (exec_owned_own w max_size text own e)));
@@ -108,29 +110,29 @@ not_taken w max_size text false after new is e = is
 
 -- A request that may be to the owner.
 pub executed_own : (w : OwnedState) (max_size : ℕ) (text : List ℕ) (after : OwnedState) (new : List ℕ)
-    → is_left (general_status (exec w.objects max_size text).answer) ≡ true
-    → IsDone (record w { objects = (exec w.objects max_size text).after }) max_size text (exec w.objects max_size text).answer
-    (own_request (exec w.objects max_size text).after text) after new
+    → is_left (general_status (exec_routed w.objects max_size text).answer) ≡ true
+    → IsDone (record w { objects = (exec_routed w.objects max_size text).after }) max_size text (exec_routed w.objects max_size text).answer
+    (own_request (exec_routed w.objects max_size text).after text) after new
     → AreExecuted w max_size text after new
 executed_own w max_size text after new e done =
     let same = unchanged w.objects max_size text e in
     by_own_request w max_size text (own_request w.objects text) after new refl same
-    (subst (λ own. IsDone (record w { objects = (exec w.objects max_size text).after }) max_size text (exec w.objects max_size text).answer own after new)
+    (subst (λ own. IsDone (record w { objects = (exec_routed w.objects max_size text).after }) max_size text (exec_routed w.objects max_size text).answer own after new)
     (ap (λ m. own_request m text) same) done)
 
 -- The same, for contents and a reply that a call of the objects left.
 pub left_executed : (w : OwnedState) (max_size : ℕ) (text : List ℕ) (m : Contents) (first : List ℕ) (after : OwnedState)
-    (new : List ℕ) → m ≡ (exec w.objects max_size text).after → first ≡ (exec w.objects max_size text).answer
+    (new : List ℕ) → m ≡ (exec_routed w.objects max_size text).after → first ≡ (exec_routed w.objects max_size text).answer
     → is_left (general_status first) ≡ true
     → IsDone (record w { objects = m }) max_size text first (own_request m text) after new
     → AreExecuted w max_size text after new
 left_executed w max_size text m first after new em ef e done =
     executed_own w max_size text after new (subst (λ f. is_left (general_status f) ≡ true) ef e)
-    (subst (λ f. IsDone (record w { objects = (exec w.objects max_size text).after }) max_size text f (own_request (exec w.objects max_size text).after text) after new) ef
+    (subst (λ f. IsDone (record w { objects = (exec_routed w.objects max_size text).after }) max_size text f (own_request (exec_routed w.objects max_size text).after text) after new) ef
     (subst (λ n. IsDone (record w { objects = n }) max_size text first (own_request n text) after new) em done))
 
 pub other_executed : (w : OwnedState) (max_size : ℕ) (text : List ℕ) (m : Contents) (first : List ℕ)
-    → m ≡ (exec w.objects max_size text).after → first ≡ (exec w.objects max_size text).answer
+    → m ≡ (exec_routed w.objects max_size text).after → first ≡ (exec_routed w.objects max_size text).answer
     → is_left (general_status first) ≡ false → AreExecuted w max_size text (record w { objects = m }) first
 other_executed w max_size text m first em ef e =
     let p = executed_plain w max_size text (plain w.objects max_size text (subst (λ f. is_left (general_status f) ≡ false) ef e)) in

@@ -8,7 +8,7 @@ use Rattle.cip_bytes.specs.Protocol.{general_status_number}
 use Rattle.cip_message.specs.Reply.{reply, reply_of_fields, reply_service}
 use Rattle.cip_objects.specs.declared.status.Refusal.{Refusal}
 use Rattle.cip_objects.specs.Contents.{Contents}
-use Rattle.cip_objects.specs.Execution.{exec}
+use Rattle.cip_objects.specs.Packets.{exec_routed}
 use Rattle.cip_objects.specs.OwnRequests.{Asked, own_request, with_stored}
 use Rattle.cip_objects.specs.Router.{REPLY_TOO_LARGE}
 use Rattle.cip_objects.specs.Status.{refusal_status}
@@ -143,7 +143,8 @@ own_executed w max_size service (Ok asked) = of_kind asked.kind w max_size servi
 
 abbrev pub by_owner : OwnedState → ℕ → List ℕ → Option (Result Asked Refusal) → Executed
 by_owner w max_size text None =
-    answered (record w { objects = (exec w.objects max_size text).after }) (exec w.objects max_size text).answer
+    answered (record w { objects = (exec_routed w.objects max_size text).after })
+    (exec_routed w.objects max_size text).answer
 by_owner w max_size text (Some own) = own_executed w max_size (slice_index text 0) own
 
 -- Executes a request whose reply may have `max_size` bytes. A request to the owner gets the reply that is prepared, is

@@ -8,8 +8,8 @@ use Rattle.cip_application.specs.declared.config.ServiceKind.TheVariants as kind
 use Rattle.cip_bytes.specs.Numbers.{le}
 use Rattle.cip_objects.specs.declared.status.Refusal.{Refusal}
 use Rattle.cip_objects.specs.Contents.{Contents}
-use Rattle.cip_objects.specs.Execution.{exec}
-use Rattle.cip_objects.specs.ExecutionLaws.{exec_too_large, exec_begins, exec_within}
+use Rattle.cip_objects.specs.Packets.{exec_routed}
+use Rattle.cip_objects.specs.PacketLaws.{exec_routed_too_large, exec_routed_begins, exec_routed_within}
 use Rattle.cip_objects.specs.OwnRequests.{Asked, own_request}
 use Rattle.cip_objects.specs.Router.{general_status, IsReplyTo, REPLY_TOO_LARGE}
 use Rattle.cip_owner.specs.Queue.{QueueState, QueueResult, QueueOutcome, Pending, Done, Unknown, takes, pushed}
@@ -79,7 +79,7 @@ too_large_by : (w : OwnedState) (max_size : ℕ) (text : List ℕ) (own : Option
     → general_status (by_owner w max_size text own).answer ≡ REPLY_TOO_LARGE
     → (by_owner w max_size text own).after ≡ w
 too_large_by w max_size text None s =
-    ap (λ m. record w { objects = m }) (exec_too_large w.objects max_size text s)
+    ap (λ m. record w { objects = m }) (exec_routed_too_large w.objects max_size text s)
 too_large_by w max_size text (Some (Err refusal)) s = refl
 too_large_by w max_size text (Some (Ok asked)) s =
     too_large_kind asked.kind w max_size (slice_index text 0) asked s
@@ -143,7 +143,7 @@ begins_kind kinds.Result w max_size text asked = begins_result max_size text ask
 
 begins_by : (w : OwnedState) (max_size : ℕ) (text : List ℕ) (own : Option (Result Asked Refusal))
     → IsReplyTo text (by_owner w max_size text own).answer
-begins_by w max_size text None = exec_begins w.objects max_size text
+begins_by w max_size text None = exec_routed_begins w.objects max_size text
 begins_by w max_size text (Some (Err refusal)) = record { head = omega arith; service = refl }
 begins_by w max_size text (Some (Ok asked)) = begins_kind asked.kind w max_size text asked
 
@@ -207,7 +207,7 @@ within_kind kinds.Result w max_size service asked h = within_result max_size ser
 
 within_by : (w : OwnedState) (max_size : ℕ) (text : List ℕ) (own : Option (Result Asked Refusal)) → 8 ≤ max_size
     → length (by_owner w max_size text own).answer ≤ max_size
-within_by w max_size text None h = exec_within w.objects max_size text h
+within_by w max_size text None h = exec_routed_within w.objects max_size text h
 within_by w max_size text (Some (Err refusal)) h = omega (arith, h)
 within_by w max_size text (Some (Ok asked)) h =
     within_kind asked.kind w max_size (slice_index text 0) asked h
@@ -222,7 +222,8 @@ exec_owned_within w max_size text h = within_by w max_size text (own_request w.o
 -- A request that is not to the owner is executed by the objects, and leaves what is prepared.
 pub exec_owned_plain : (w : OwnedState) (max_size : ℕ) (text : List ℕ) → own_request w.objects text ≡ None
     → exec_owned w max_size text
-    ≡ answered (record w { objects = (exec w.objects max_size text).after }) (exec w.objects max_size text).answer
+    ≡ answered (record w { objects = (exec_routed w.objects max_size text).after })
+    (exec_routed w.objects max_size text).answer
 unfolding exec_owned
 exec_owned_plain w max_size text e = ap (by_owner w max_size text) e
 

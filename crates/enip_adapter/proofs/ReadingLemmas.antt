@@ -1,5 +1,5 @@
 -- A request that is not a change leaves the device as it was, and asks the owner nothing.
-use Rattle.std.proofs.Common.{◌≡◌, ℕ, ◌*◌, List, [], ◌∷◌, ◌++◌, map, length, Bool, true, false, cond, not, ◌&&◌, ◌||◌, eqb, nat_lt, Option, Some, None, Result, Ok, Err, refl, sym, ap, subst, ◌∙◌}
+use Rattle.std.proofs.Common.{◌≡◌, ℕ, ◌+◌, ◌-◌, ◌*◌, List, [], ◌∷◌, ◌++◌, map, length, Bool, true, false, cond, not, ◌&&◌, ◌||◌, eqb, nat_lt, Option, Some, None, Result, Ok, Err, refl, sym, ap, subst, ◌∙◌}
 use Rattle.std.proofs.lemmas.Bool.{eqb-true, false≢true}
 use Rattle.std.specs.Prelude.{⊤}
 use Rattle.std.specs.List.{flat_map, list_any, AllByRecursion}
@@ -26,6 +26,8 @@ use Rattle.cip_objects.specs.Contents.{Contents}
 use Rattle.cip_objects.specs.Execution.{Outcome, Executed, outcome, perform, with_reply, or_refusal, exec}
 use Rattle.cip_objects.specs.ExecutionLaws.{is_outcome}
 use Rattle.cip_objects.specs.OwnRequests.{Asked, own_request, is_own_service}
+use Rattle.cip_objects.specs.PacketLaws.{run_by, routed_if}
+use Rattle.cip_objects.specs.Packets.{LEAST_ROOM, front_size, packet_of, requests_of, run_packet, run_within, has_router, routed_by, exec_routed}
 use Rattle.cip_objects.proofs.Approved.{taken_not_asked}
 use Rattle.cip_objects.specs.ReadServices.{service_at}
 use Rattle.cip_objects.specs.Service.{service_code, service_in}
@@ -36,21 +38,36 @@ use Rattle.cip_owner.specs.Owned.{OwnedState, asks, asked_within, by_owner, exec
 use Rattle.enip_adapter.specs.Asks.{asks_by_reached, asks_by_step}
 use Rattle.enip_adapter.specs.DeviceRuns.{Requested, objects_after, objects_answer}
 use Rattle.enip_adapter.proofs.ListLemmas.{both}
-use Rattle.enip_adapter.specs.Rights.{service_of, is_change_service, is_path_to_ledger, is_to_ledger, is_get_last, is_change}
+use Rattle.enip_adapter.specs.Rights.{service_of, is_change_service, is_path_to_ledger, is_to_ledger, is_get_last, is_single_change, any_change, are_changes, is_changing_packet, is_change}
 
 -- A request that is not a change has another service, or is Get_Last to the command ledger.
 data Reads (text : List ℕ) : Type 0 where
   Another : is_change_service (service_of text) ≡ false → Reads text
   GetsLast : is_get_last text ≡ true → Reads text
 
-reads : (text : List ℕ) → is_change text ≡ false → Reads text
-unfolding is_change
+reads : (text : List ℕ) → is_single_change text ≡ false → Reads text
+unfolding is_single_change
 reads text e = go (is_change_service (service_of text)) (is_get_last text) refl refl e
   where
     go : (c g : Bool) → is_change_service (service_of text) ≡ c → is_get_last text ≡ g → c && not g ≡ false → Reads text
     go false g s t e = Another s
     go true true s t e = GetsLast t
     go true false s t e = absurd (cc)
+
+-- And none of its requests is a change if it is a packet.
+record OnlyReads (text : List ℕ) : Type 0 where
+  single : Reads text
+  packet : is_changing_packet (packet_of text) ≡ false
+
+none_of_both : (a b : Bool) → a || b ≡ false → (a ≡ false) × (b ≡ false)
+none_of_both false b e = (refl, e)
+none_of_both true b e = absurd (cc)
+
+only-reads : (text : List ℕ) → is_change text ≡ false → OnlyReads text
+unfolding is_change
+only-reads text e =
+    let none = none_of_both (is_single_change text) (is_changing_packet (packet_of text)) e in
+    record { single = reads text none.0; packet = none.1 }
 
 parts : (a b : Bool) → a && b ≡ true → (a ≡ true) × (b ≡ true)
 parts true true e = (refl, refl)
@@ -223,11 +240,45 @@ exec-unchanged m max_size text r = go (outcome m text >>= with_reply max_size te
         ∙ service-read text g.request g.is_request))
         m g.path g.request.data is.made g.is_performed
 
-owned-unchanged : (w : OwnedState) (max_size : ℕ) (text : List ℕ) → Reads text → (exec_owned w max_size text).after ≡ w
+run-unchanged : (m : Contents) (room : ℕ) (requests : List (List ℕ)) → any_change requests ≡ false
+    → (run_packet m room requests).after ≡ m
+run-unchanged m room [] e = refl
+run-unchanged m room (request ∷ requests) e =
+    let none = none_of_both (is_single_change request) (any_change requests) e in
+    let now = exec m (room - LEAST_ROOM * length requests) request in
+    run-unchanged now.after (room - length now.answer) requests none.1
+    ∙ exec-unchanged m (room - LEAST_ROOM * length requests) request (reads request none.0)
+
+packet-unchanged : (m : Contents) (max_size : ℕ) (text : List ℕ) (r : Result (List (List ℕ)) Refusal)
+    → are_changes r ≡ false → (or_refusal m text (r >>= run_within m max_size text)).after ≡ m
+packet-unchanged m max_size text (Err s) e = refl
+packet-unchanged m max_size text (Ok requests) e =
+    by (nat_lt max_size (front_size (length requests) + LEAST_ROOM * length requests))
+  where
+    by : (short : Bool) → (or_refusal m text (run_by short m max_size text requests)).after ≡ m
+    by true = refl
+    by false = run-unchanged m (max_size - front_size (length requests)) requests e
+
+routed-unchanged : (m : Contents) (max_size : ℕ) (text : List ℕ) → OnlyReads text
+    → (exec_routed m max_size text).after ≡ m
+unfolding exec_routed
+routed-unchanged m max_size text r = by (packet_of text) r.packet
+  where
+    by_router : (content : List ℕ) (router : Bool) → are_changes (requests_of content) ≡ false
+        → (routed_if router m max_size text content).after ≡ m
+    by_router content true e = packet-unchanged m max_size text (requests_of content) e
+    by_router content false e = exec-unchanged m max_size text r.single
+
+    by : (packet : Option (List ℕ)) → is_changing_packet packet ≡ false → (routed_by m max_size text packet).after ≡ m
+    by None e = exec-unchanged m max_size text r.single
+    by (Some content) e = by_router content (has_router m.shapes) e
+
+owned-unchanged : (w : OwnedState) (max_size : ℕ) (text : List ℕ) → OnlyReads text
+    → (exec_owned w max_size text).after ≡ w
 unfolding exec_owned
 owned-unchanged w max_size text r =
-    ap (λ own. (by_owner w max_size text own).after) (own-none w.objects text r)
-    ∙ ap (λ m. let o : OwnedState = record w { objects = m } in o) (exec-unchanged w.objects max_size text r)
+    ap (λ own. (by_owner w max_size text own).after) (own-none w.objects text r.single)
+    ∙ ap (λ m. let o : OwnedState = record w { objects = m } in o) (routed-unchanged w.objects max_size text r)
 
 -- ---- the ledger
 
@@ -263,25 +314,25 @@ left device request f = record {
   router = (turn_by objects_after objects_answer f device.ledger device.router request.0 request.1).router;
 }
 
-by-fate : (device : Device) (request : LimitedRequest) (f : Fate) → Means device.ledger request f → Reads request.1
+by-fate : (device : Device) (request : LimitedRequest) (f : Fate) → Means device.ledger request f → OnlyReads request.1
     → left device request f ≡ device
 by-fate device request Passed means r =
     ap (λ o. let d : Device = record { ledger = device.ledger; router = o } in d)
     (owned-unchanged device.router request.0 request.1 r)
 by-fate device request (Served service (Replies reply)) means r = refl
 by-fate device request (Served service (Executes command)) means r =
-    absurd (not-executed request means.asked command r means.asked_is means.means.given_is)
+    absurd (not-executed request means.asked command r.single means.asked_is means.means.given_is)
 by-fate device request (Served service (Queues command ticket)) means r =
-    absurd (not-executed request means.asked command r means.asked_is means.means.given_is)
+    absurd (not-executed request means.asked command r.single means.asked_is means.means.given_is)
 by-fate device request (Served service (Frees originator)) means r =
-    absurd (not-freed request means.asked _ r means.asked_is means.means.named_is)
+    absurd (not-freed request means.asked _ r.single means.asked_is means.means.named_is)
 
 pub unchanged : (device : Device) (max_size : ℕ) (request : List ℕ) → is_change request ≡ false
     → (exec_device device max_size request).after ≡ device
 unchanged device max_size request e =
     by-fate device (max_size, request) (fate owned_standing device.ledger device.router max_size request)
     (fate-means owned_standing device.ledger device.router (max_size, request))
-    (reads request e)
+    (only-reads request e)
 
 -- ---- what is asked
 
@@ -307,4 +358,5 @@ pub nothing-asked : (device : Device) (max_size : ℕ) (request : List ℕ) → 
     → asks_by_step device (Requested (max_size, request)) ≡ []
 nothing-asked device max_size request e =
     asked-by-fate device (max_size, request) (fate owned_standing device.ledger device.router max_size request)
-    (fate-means owned_standing device.ledger device.router (max_size, request)) (reads request e)
+    (fate-means owned_standing device.ledger device.router (max_size, request))
+    (only-reads request e).single

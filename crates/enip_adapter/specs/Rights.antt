@@ -1,5 +1,6 @@
 -- What peers may do: a writer everything, a reader whatever changes nothing (ours).
 use Rattle.std.specs.Prelude.{ℕ, ◌==◌, ◌&&◌, ◌||◌, Bool, false, not, if◌then◌else◌, List, [], ◌∷◌, Result, Ok, Err}
+use Rattle.std.specs.Prelude.{Option, Some, None}
 use Rattle.cip_ledger.specs.declared.request.TheConstants.{LEDGER}
 use Rattle.cip_ledger.specs.declared.service.TheConstants.{GET_LAST}
 use Rattle.cip_ledger.specs.Device.{Device, Executed, exec_device}
@@ -9,7 +10,9 @@ use Rattle.cip_message.specs.declared.request.RequestFault.{RequestFault}
 use Rattle.cip_message.specs.PathReading.{path_of}
 use Rattle.cip_message.specs.Reply.{reply_service}
 use Rattle.cip_message.specs.Request.{Request, request_of}
+use Rattle.cip_objects.specs.declared.status.Refusal.{Refusal}
 use Rattle.cip_objects.specs.OwnRequests.{is_own_service}
+use Rattle.cip_objects.specs.Packets.{packet_of, requests_of}
 use Rattle.enip_adapter.specs.declared.peer.Rights.{Rights}
 use Rattle.enip_adapter.specs.declared.peer.Rights.TheVariants.{Read, Write}
 use Rattle.enip_adapter.specs.declared.rights.TheConstants.{PRIVILEGE_VIOLATION}
@@ -42,8 +45,25 @@ abbrev pub is_get_last : List ℕ → Bool
 is_get_last request = (service_of request == GET_LAST) && is_to_ledger (request_of request)
 
 -- The service and the class decide, before anything else of the request is looked at.
+unfoldable pub is_single_change : List ℕ → Bool
+is_single_change request = is_change_service (service_of request) && not (is_get_last request)
+
+abbrev pub any_change : List (List ℕ) → Bool
+any_change [] = false
+any_change (request ∷ requests) = is_single_change request || any_change requests
+
+-- A packet that cannot be read changes nothing.
+abbrev pub are_changes : Result (List (List ℕ)) Refusal → Bool
+are_changes (Err refusal) = false
+are_changes (Ok requests) = any_change requests
+
+-- One of the requests of a packet could change something, whether the device has the Message Router or not.
+abbrev pub is_changing_packet : Option (List ℕ) → Bool
+is_changing_packet None = false
+is_changing_packet (Some content) = are_changes (requests_of content)
+
 unfoldable pub is_change : List ℕ → Bool
-is_change request = is_change_service (service_of request) && not (is_get_last request)
+is_change request = is_single_change request || is_changing_packet (packet_of request)
 
 -- ---- what a reader is refused
 

@@ -2,8 +2,9 @@
 use Rattle.std.specs.Prelude.{◌≡◌, [], ◌∷◌, true, false, refl}
 use Rattle.cip_message.specs.PathReading.{path_of, class_of, instance_of, attribute_of, member_of, whole_of, segment_of}
 use Rattle.cip_message.specs.Request.{request_of}
+use Rattle.cip_objects.specs.Packets.{packet_of, requests_of}
 use Rattle.enip_adapter.specs.declared.peer.Rights.TheVariants.{Write}
-use Rattle.enip_adapter.specs.Rights.{is_change_service, is_change, is_refused, refusal}
+use Rattle.enip_adapter.specs.Rights.{is_change_service, is_single_change, is_change, is_refused, refusal}
 
 -- The services that change what they are sent to, and their neighbours.
 pub get_attributes_all : is_change_service 0x01 ≡ false
@@ -73,30 +74,49 @@ reply = refl
 
 -- Get_Last of the command ledger, class 0x65, instance 1, however its class is spelled.
 pub get_last : is_change (0x4c ∷ 2 ∷ 0x20 ∷ 0x65 ∷ 0x24 ∷ 1 ∷ []) ≡ false
-unfolding is_change request_of path_of class_of instance_of attribute_of member_of whole_of segment_of
+unfolding is_change is_single_change packet_of request_of path_of class_of instance_of attribute_of member_of whole_of segment_of
 get_last = refl
 
 pub get_last_in_16_bits : is_change (0x4c ∷ 3 ∷ 0x21 ∷ 0 ∷ 0x65 ∷ 0 ∷ 0x24 ∷ 1 ∷ []) ≡ false
-unfolding is_change request_of path_of class_of instance_of attribute_of member_of whole_of segment_of
+unfolding is_change is_single_change packet_of request_of path_of class_of instance_of attribute_of member_of whole_of segment_of
 get_last_in_16_bits = refl
 
 -- The same service of another class, and of a path that cannot be read.
 pub get_last_elsewhere : is_change (0x4c ∷ 2 ∷ 0x20 ∷ 0x64 ∷ 0x24 ∷ 1 ∷ []) ≡ true
-unfolding is_change request_of path_of class_of instance_of attribute_of member_of whole_of segment_of
+unfolding is_change is_single_change packet_of request_of path_of class_of instance_of attribute_of member_of whole_of segment_of
 get_last_elsewhere = refl
 
 pub get_last_of_a_half_path : is_change (0x4c ∷ 1 ∷ 0x20 ∷ 0x65 ∷ []) ≡ true
-unfolding is_change request_of path_of class_of instance_of attribute_of member_of whole_of segment_of
+unfolding is_change is_single_change packet_of request_of path_of class_of instance_of attribute_of member_of whole_of segment_of
 get_last_of_a_half_path = refl
 
 pub get_last_without_a_path : is_change (0x4c ∷ 2 ∷ 0x20 ∷ []) ≡ true
-unfolding is_change request_of
+unfolding is_change is_single_change packet_of request_of
 get_last_without_a_path = refl
 
 -- The ledger's other services are changes, and so is an own service of its class.
 pub do_once_of_the_ledger : is_change (0x4b ∷ 2 ∷ 0x20 ∷ 0x65 ∷ 0x24 ∷ 1 ∷ []) ≡ true
-unfolding is_change request_of path_of class_of instance_of attribute_of member_of whole_of segment_of
+unfolding is_change is_single_change packet_of request_of path_of class_of instance_of attribute_of member_of whole_of segment_of
 do_once_of_the_ledger = refl
+
+-- A packet is a change if one of its requests is. These are a Get_Attribute_Single and a Set_Attribute_Single.
+pub packet_of_a_get : is_change (0x0a ∷ 2 ∷ 0x20 ∷ 2 ∷ 0x24 ∷ 1 ∷ 1 ∷ 0 ∷ 4 ∷ 0 ∷ 0x0e ∷ 3 ∷ 0x20 ∷ 4 ∷ 0x24 ∷ 100 ∷ 0x30 ∷ 3 ∷ []) ≡ false
+unfolding is_change is_single_change packet_of requests_of request_of path_of class_of instance_of attribute_of member_of whole_of segment_of
+packet_of_a_get = refl
+
+pub packet_of_a_set : is_change (0x0a ∷ 2 ∷ 0x20 ∷ 2 ∷ 0x24 ∷ 1 ∷ 1 ∷ 0 ∷ 4 ∷ 0 ∷ 0x10 ∷ 3 ∷ 0x20 ∷ 4 ∷ 0x24 ∷ 100 ∷ 0x30 ∷ 3 ∷ 1 ∷ []) ≡ true
+unfolding is_change is_single_change packet_of requests_of request_of path_of class_of instance_of attribute_of member_of whole_of segment_of
+packet_of_a_set = refl
+
+-- Nothing of a packet is executed that cannot be read: this one ends before its offset.
+pub packet_cut_short : is_change (0x0a ∷ 2 ∷ 0x20 ∷ 2 ∷ 0x24 ∷ 1 ∷ 1 ∷ 0 ∷ 4 ∷ []) ≡ false
+unfolding is_change is_single_change packet_of requests_of request_of path_of class_of instance_of attribute_of member_of whole_of segment_of
+packet_cut_short = refl
+
+-- The same service of another class is no packet.
+pub packet_elsewhere : is_change (0x0a ∷ 2 ∷ 0x20 ∷ 4 ∷ 0x24 ∷ 1 ∷ 1 ∷ 0 ∷ 4 ∷ 0 ∷ 0x10 ∷ 0 ∷ []) ≡ false
+unfolding is_change is_single_change packet_of requests_of request_of path_of class_of instance_of attribute_of member_of whole_of segment_of
+packet_elsewhere = refl
 
 -- Nothing is refused to a writer.
 pub writer_sets : is_refused Write (0x10 ∷ 3 ∷ 0x20 ∷ 4 ∷ 0x24 ∷ 100 ∷ 0x30 ∷ 3 ∷ 1 ∷ []) ≡ false

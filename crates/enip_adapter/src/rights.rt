@@ -6,12 +6,13 @@ ghost use Rattle.cip_message.specs.PathReading.{path_of};
 ghost use Rattle.cip_message.specs.Request.{request_of};
 ghost use Rattle.cip_objects.specs.OwnRequests.{is_own_service};
 ghost use Rattle.enip_adapter.specs.Rights.{is_change_service, is_change, is_refused, is_path_to_ledger, is_to_ledger};
-ghost use Rattle.enip_adapter.specs.Rights.{refusal};
+ghost use Rattle.enip_adapter.specs.Rights.{is_single_change, is_changing_packet, any_change, refusal};
+ghost use Rattle.cip_objects.specs.Packets.{packet_of};
 
 use crate::peer::Rights;
 use cip_ledger::{GET_LAST, LEDGER};
 use cip_message::{RequestView, read_path, reply_service};
-use cip_objects::{ReplyBuf, Router};
+use cip_objects::{PacketRequests, ReplyBuf, Router, packet_data};
 
 /// The general status privilege violation (Volume 1, general status codes).
 pub(crate) const PRIVILEGE_VIOLATION: u8 = 0x0f;
@@ -32,6 +33,39 @@ pub(crate) fn is_refused(rights: Rights, request: &[u8]) -> bool
 #[tactic(auto, unfolding(crate::specs::Rights::is_change))]
 fn is_change(request: &[u8]) -> bool
     ensures { result ≡ is_change request.now }
+{
+    is_single_change(request) || is_changing_packet(request)
+}
+
+/// Whether a request is a packet of which one request could change something.
+fn is_changing_packet(request: &[u8]) -> bool
+    ensures { result ≡ is_changing_packet (packet_of request.now) }
+{
+    let Some(data) = packet_data(request) else {
+        return false;
+    };
+    match PacketRequests::read(data) {
+        Ok(requests) => any_change(requests),
+        Err(_) => false,
+    }
+}
+
+/// Whether one of the requests of a packet could change something.
+fn any_change(requests: PacketRequests<'_>) -> bool
+    ensures { result ≡ any_change requests.entry }
+{
+    for request in requests {
+        if is_single_change(request) {
+            return true;
+        }
+    }
+    false
+}
+
+/// Whether a request could change something, apart from packets.
+#[tactic(auto, unfolding(crate::specs::Rights::is_single_change))]
+fn is_single_change(request: &[u8]) -> bool
+    ensures { result ≡ is_single_change request.now }
 {
     let Some(service) = request.first() else {
         return false;

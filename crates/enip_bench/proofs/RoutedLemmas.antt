@@ -14,8 +14,10 @@ use Rattle.cip_owner.specs.Owned.{OwnedState, exec_owned}
 use Rattle.cip_owner.specs.OwnedLaws.{exec_owned_plain}
 use Rattle.cip_objects.specs.Contents.{Contents}
 use Rattle.cip_objects.specs.Execution.{Outcome, outcome, exec, perform, request_or_refusal, path_or_refusal}
+use Rattle.cip_objects.specs.PacketLaws.{exec_routed_plain}
 use Rattle.cip_objects.specs.ReadServices.{service_at}
 use Rattle.cip_objects.specs.Tables.{Shapes, services_of}
+use Rattle.cip_objects.proofs.Packets.{other_path}
 use Rattle.cip_objects.proofs.Refuses.{exec_left}
 use Rattle.enip_adapter.specs.declared.peer.Rights.TheVariants.{Write}
 use Rattle.enip_adapter.specs.declared.peer.Session.{Session}
@@ -78,7 +80,10 @@ owned-same w room text q path read found manages =
     ap (λ done. done.after)
     (exec_owned_plain w room text (manager_is_not_own w.objects text q path read found manages))
     ∙ ap (λ m. record w { objects = m })
-    (refused-map w.objects room text (manager-refused w.objects text q path read found manages))
+    (ap (λ done. done.after) (exec_routed_plain w.objects room text (other_path text q path read found
+    (ap (λ n. eqb n 2 && eqb path.instance 1)
+    (eqb-true path.class 6 (both_true (eqb path.class 6) (eqb path.instance 1) manages).0))))
+    ∙ refused-map w.objects room text (manager-refused w.objects text q path read found manages))
 
 refused-same : (m : Device) (room : ℕ) (text : List ℕ) (q : Request) (path : Path) → request_of text ≡ Ok q →
     path_of q.path ≡ Ok path → is_manager path ≡ true → (exec_device m room text).after ≡ m

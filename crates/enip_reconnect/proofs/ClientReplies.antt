@@ -1,5 +1,5 @@
 -- Every reply of a device is one that a client takes for the reply to its request.
-use Rattle.std.proofs.Common.{◌≡◌, ℕ, ◌+◌, ◌*◌, ◌≤◌, nat_lt, Bool, true, false, if◌then◌else◌, List, [], ◌∷◌, length}
+use Rattle.std.proofs.Common.{◌≡◌, ℕ, ◌+◌, ◌-◌, ◌*◌, ◌≤◌, nat_lt, Bool, true, false, if◌then◌else◌, List, [], ◌∷◌, length}
 use Rattle.std.proofs.Common.{slice_index, Option, Some, None, Result, Ok, Err, refl, sym, ap, subst, ◌∙◌, arith}
 use Rattle.std.proofs.lemmas.Bool.{le-ltb, ltb-false}
 use Rattle.cip_application.specs.declared.config.ServiceKind.{ServiceKind}
@@ -15,6 +15,8 @@ use Rattle.cip_objects.specs.Router.{REPLY_TOO_LARGE}
 use Rattle.cip_objects.specs.Status.{completion_status, refusal_status}
 use Rattle.cip_objects.specs.declared.status.Refusal.{Refusal}
 use Rattle.cip_objects.specs.OwnRequests.{Asked, own_request}
+use Rattle.cip_objects.specs.PacketLaws.{run_by}
+use Rattle.cip_objects.specs.Packets.{LEAST_ROOM, front_size, run_packet, run_within, requests_of, packet_of, has_router, routed_by, exec_routed, any_refused, status_of, packet_content}
 use Rattle.cip_owner.specs.Replies.{Reply as OwnReply}
 use Rattle.cip_owner.specs.Owned.{OwnedState, Executed as Done, exec_owned, by_owner, of_kind, given, is_fit, queued, result_answer, outcome_answer, answer_with}
 use Rattle.cip_owner.specs.Owned.{NOT_PREPARED, RESOURCE_UNAVAILABLE, UNKNOWN_OBJECT}
@@ -55,6 +57,40 @@ exec-plain objects max_size request =
           content = done.made.content;
           spelled = done.answer;
         }
+
+-- and so is that to a packet
+packet-plain : (objects : Contents) (max_size : ℕ) (request : List ℕ) (r : Result (List (List ℕ)) Refusal) →
+    IsPlain (or_refusal objects request (r >>= run_within objects max_size request)).answer
+packet-plain objects max_size request (Err why) = record {
+  service = reply_service (slice_index request 0);
+  status = general_status_number (refusal_status why);
+  content = [];
+  spelled = refl;
+}
+packet-plain objects max_size request (Ok requests) =
+    by (nat_lt max_size (front_size (length requests) + LEAST_ROOM * length requests))
+  where
+    by : (short : Bool) → IsPlain (or_refusal objects request (run_by short objects max_size request requests)).answer
+    by true = record { service = reply_service (slice_index request 0); status = _; content = []; spelled = refl }
+    by false =
+        let answers = (run_packet objects (max_size - front_size (length requests)) requests).answers in
+        record {
+          service = reply_service (slice_index request 0);
+          status = status_of (any_refused answers);
+          content = packet_content answers;
+          spelled = refl;
+        }
+
+routed-plain : (objects : Contents) (max_size : ℕ) (request : List ℕ) →
+    IsPlain (exec_routed objects max_size request).answer
+unfolding exec_routed
+routed-plain objects max_size request = by (packet_of request)
+  where
+    by : (packet : Option (List ℕ)) → IsPlain (routed_by objects max_size request packet).answer
+    by None = exec-plain objects max_size request
+    by (Some content) =
+        both (λ (x : Executed). IsPlain x.answer) (has_router objects.shapes) _ _
+        (packet-plain objects max_size request (requests_of content)) (exec-plain objects max_size request)
 
 -- and so are those of the owner
 given-plain : (w : OwnedState) (service : ℕ) (asked : Asked) (prepared : Option OwnReply) →
@@ -99,7 +135,7 @@ kind-plain kinds.Result w max_size service asked = result-plain max_size service
 
 by-owner-plain : (w : OwnedState) (max_size : ℕ) (request : List ℕ) (own : Option (Result Asked Refusal)) →
     IsPlain (by_owner w max_size request own).answer
-by-owner-plain w max_size request None = exec-plain w.objects max_size request
+by-owner-plain w max_size request None = routed-plain w.objects max_size request
 by-owner-plain w max_size request (Some (Err why)) =
     plain-with (slice_index request 0) (general_status_number (refusal_status why)) []
 by-owner-plain w max_size request (Some (Ok asked)) =

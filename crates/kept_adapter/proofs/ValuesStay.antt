@@ -43,6 +43,7 @@ use Rattle.cip_objects.specs.ChangeServices.{with_bytes_at}
 use Rattle.cip_objects.specs.DeviceWrites.{device_write, object_write, with_data_of, with_attribute_by}
 use Rattle.cip_objects.specs.Kept.{kind_of_data, with_kept, restored as value_restored}
 use Rattle.cip_objects.specs.OwnRequests.{Asked, own_object, own_request, checked_attribute, check_set, if_checked}
+use Rattle.cip_objects.specs.PacketLaws.{exec_routed_keeps}
 use Rattle.cip_objects.specs.OwnRequests.{stored_in, with_stored}
 use Rattle.cip_objects.specs.Router.{REPLY_TOO_LARGE}
 use Rattle.cip_objects.proofs.Approved.{stored_shapes, whole_stays}
@@ -531,7 +532,7 @@ given_values w service asked (Some reply) have =
 
 owner_values : (w : OwnedState) (max_size : ℕ) (text : List ℕ) (own : Option (Result Asked Refusal))
     → HasValues w.objects → HasValues (by_owner w max_size text own).after.objects
-owner_values w max_size text None have = executed_values w.objects max_size text have
+owner_values w max_size text None have = exec_routed_keeps {HasValues} executed_values w.objects max_size text have
 owner_values w max_size text (Some (Err refusal)) have = have
 owner_values w max_size text (Some (Ok asked)) have = by_kind asked.kind (slice_index text 0)
   where

@@ -24,6 +24,7 @@ use Rattle.cip_objects.specs.Execution.{Outcome, outcome_of_read, outcome_of_cha
 use Rattle.cip_objects.specs.Service.{service_code, service_in}
 use Rattle.cip_objects.specs.Kept.{kept_names}
 use Rattle.cip_objects.specs.OwnRequests.{Asked, own_request}
+use Rattle.cip_objects.specs.PacketLaws.{exec_routed_keeps}
 use Rattle.cip_objects.specs.ReadServices.{Answer, service_at, get_attribute_single, get_attributes_all}
 use Rattle.cip_objects.specs.ReadServices.{get_attribute_list, get_member}
 use Rattle.cip_objects.specs.Router.{REPLY_TOO_LARGE}
@@ -217,7 +218,9 @@ given_shapes w service asked (Some reply) =
 
 owner_shapes : (w : OwnedState) (max_size : ℕ) (text : List ℕ) (own : Option (Result Asked Refusal))
     → (by_owner w max_size text own).after.objects.shapes ≡ w.objects.shapes
-owner_shapes w max_size text None = executed_shapes w.objects max_size text
+owner_shapes w max_size text None =
+    exec_routed_keeps {λ (m : Contents). m.shapes ≡ w.objects.shapes}
+    (λ m max_size text h. executed_shapes m max_size text ∙ h) w.objects max_size text refl
 owner_shapes w max_size text (Some (Err refusal)) = refl
 owner_shapes w max_size text (Some (Ok asked)) = by_kind asked.kind (slice_index text 0)
   where

@@ -1,29 +1,17 @@
-use Rattle.std.proofs.Common.{◌∙◌, [], ap, set, Ok, Err}
-use Rattle.cip_objects.specs.Execution.{outcome_within, outcome, reply_to}
-use Rattle.cip_bytes.specs.Protocol.{general_status_number}
-use Rattle.cip_objects.proofs.Executed.{executed}
+use Rattle.std.proofs.Common.{◌≡◌, ◌≤◌, ℕ, Bool, true, false, List, length, sym, subst}
+use Rattle.cip_objects.specs.Contents.{Contents}
+use Rattle.cip_objects.specs.PacketLaws.{exec_routed_within}
+use Rattle.cip_objects.specs.PacketRuns.{IsPacketExecuted}
 use Rattle.cip_objects.proofs.execute.ObjectsRouter.execute.Goals as goal
 
-pub returns-in-Ok-clause-state : goal.returns-in-Ok-clause-state
-returns-in-Ok-clause-state c =
-    (executed c.args.self.now c.args.max_size c.args.request.now c.perform_request.new.self (Ok c.in-Ok.completion) c.perform_request.new.reply.items tt
-    (c.in-Ok.ensures.outcome ∙ ap (λ head. outcome_within c.args.max_size head (outcome c.args.self.now c.args.request.now)) c.begin.ensures)).0
+fits : (m : Contents) (max_size : ℕ) (text : List ℕ) (did : Bool) (after : Contents) (old new : List ℕ) → 8 ≤ max_size
+    → IsPacketExecuted m max_size text did after old new → did ≡ true → length new ≤ max_size
+fits m max_size text true after old new h is e =
+    subst (λ r. length r ≤ max_size) (sym is.1) (exec_routed_within m max_size text h)
+fits m max_size text false after old new h is e = absurd (cc)
 
-pub returns-in-Ok-clause-reply : goal.returns-in-Ok-clause-reply
-returns-in-Ok-clause-reply c =
-    c.set_status.ensures
-    ∙ ap (λ s. set c.perform_request.new.reply.items 2 (general_status_number s)) c.status.ensures
-    ∙ (executed c.args.self.now c.args.max_size c.args.request.now c.perform_request.new.self (Ok c.in-Ok.completion) c.perform_request.new.reply.items tt
-    (c.in-Ok.ensures.outcome ∙ ap (λ head. outcome_within c.args.max_size head (outcome c.args.self.now c.args.request.now)) c.begin.ensures)).1
-
-pub returns-in-Err-clause-state : goal.returns-in-Err-clause-state
-returns-in-Err-clause-state c =
-    (executed c.args.self.now c.args.max_size c.args.request.now c.perform_request.new.self (Err c.in-Err.refusal) c.perform_request.new.reply.items c.in-Err.ensures.err
-    (c.in-Err.ensures.outcome ∙ ap (λ head. outcome_within c.args.max_size head (outcome c.args.self.now c.args.request.now)) c.begin.ensures)).0
-
-pub returns-in-Err-clause-reply : goal.returns-in-Err-clause-reply
-returns-in-Err-clause-reply c =
-    c.begin-in-Err.ensures
-    ∙ ap (λ s. reply_to c.args.request.now s []) c.status-in-Err.ensures
-    ∙ (executed c.args.self.now c.args.max_size c.args.request.now c.perform_request.new.self (Err c.in-Err.refusal) c.perform_request.new.reply.items c.in-Err.ensures.err
-    (c.in-Err.ensures.outcome ∙ ap (λ head. outcome_within c.args.max_size head (outcome c.args.self.now c.args.request.now)) c.begin.ensures)).1
+pub returns-else-not-execute_if_packet-clause-fits : goal.returns-else-not-execute_if_packet-clause-fits
+returns-else-not-execute_if_packet-clause-fits c =
+    fits c.args.self.now c.args.max_size c.args.request.now c.execute_if_packet.result c.execute_if_packet.new.self
+    c.args.reply.now.items c.execute_if_packet.new.reply.items c.requires.max_size_from c.execute_if_packet.ensures
+    c.if-not-execute_if_packet.false

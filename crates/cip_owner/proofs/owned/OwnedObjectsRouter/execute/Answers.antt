@@ -1,5 +1,5 @@
 use Rattle.std.proofs.Common.{◌≡◌, ◌≤◌, length, true, false, sym, subst, ◌∙◌}
-use Rattle.cip_objects.specs.ExecutionLaws.{exec_begins}
+use Rattle.cip_objects.specs.PacketLaws.{exec_routed_begins}
 use Rattle.cip_objects.specs.Router.{general_status}
 use Rattle.cip_owner.specs.Owned.{OwnedState, is_left}
 use Rattle.cip_owner.specs.OwnedLaws.{exec_owned_within}
@@ -26,7 +26,7 @@ returns-then-take_prepared-clause-fits c =
 pub may_be_to_owner-requires : goal.may_be_to_owner-requires
 may_be_to_owner-requires c =
     subst (λ r. 4 ≤ length r) (sym (c.as_slice.ensures.value ∙ c.execute.ensures.reply))
-    (exec_begins c.take_prepared.new.self.objects c.args.max_size c.args.request.now).head
+    (exec_routed_begins c.take_prepared.new.self.objects c.args.max_size c.args.request.now).head
 
 left : (c : goal.After-execute_own) → AreExecuted c.args.self.now c.args.max_size c.args.request.now c.execute_own.new.self c.execute_own.new.reply.items
 left c =
