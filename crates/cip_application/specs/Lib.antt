@@ -4,6 +4,7 @@ pub mod Values
 pub mod Configuration
 pub mod Attributes
 pub mod Objects
+pub mod Kept
 pub mod Whole
 pub mod Standard
 pub mod Laws
