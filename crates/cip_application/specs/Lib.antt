@@ -7,5 +7,6 @@ pub mod Objects
 pub mod Kept
 pub mod Whole
 pub mod Standard
+pub mod MessageRouter
 pub mod Laws
 pub mod Rows

@@ -33,3 +33,4 @@ pub mod ObjectWrites
 pub mod ObjectLemmas
 pub mod OwnRequests
 pub mod Approved
+pub mod ObjectList

@@ -247,6 +247,15 @@ interface_read d bs c os m n is h own =
     ∙ ap (object_value n) (find_position 0xf5 1 os)
     ∙ value_found n os (position_of 0xf5 1 os)
 
+-- the same of the Message Router
+pub router_read : (d : IdentityValues) (bs : List AssemblyValues) (c : CounterValues) (os : List ObjectValues) (m : Contents) (n : ℕ) → contents_of d bs c os ≡ m → NoneIsClass bs → AreApart c.enabled (map object_shape_of os)
+    → value_at m 2 1 n ≡ value_of os 2 1 n
+router_read d bs c os m n is h own =
+    ap (λ x. value_at x 2 1 n) (sym is)
+    ∙ own_lookup d bs c os 2 1 n h own refl refl refl
+    ∙ ap (object_value n) (find_position 2 1 os)
+    ∙ value_found n os (position_of 2 1 os)
+
 -- the classes of application objects
 numbers-map : (class : ℕ) (os : List ObjectValues) → numbers_in class (map object_shape_of os) ≡ instances_of class os
 numbers-map class [] = refl

@@ -9,6 +9,7 @@ ghost use Rattle.cip_objects.specs.Contents.{Contents};
 ghost use Rattle.cip_objects.specs.Execution.{exec};
 ghost use Rattle.cip_objects.specs.Run.{counter_law};
 ghost use Rattle.cip_objects.specs.ChangesRun.{changes_law};
+ghost use Rattle.cip_objects.specs.ObjectList.{object_list_law};
 ghost use Rattle.cip_objects.specs.OwnRequests.{own_is_refused_law, approved_is_stored_law, approved_leaves_others_law};
 
 /// If a reply is too large, the object map is unchanged.
@@ -99,4 +100,10 @@ pub fn approved_is_stored()
 /// A set that the owner approved does not change any other attribute.
 pub fn approved_leaves_others()
     ensures { approved_leaves_others_law }
+{}
+
+/// The object list of the Message Router has exactly the classes that answer: those of whose instances one has services,
+/// and that of the command ledger if the device has it.
+pub fn object_list()
+    ensures { object_list_law }
 {}
