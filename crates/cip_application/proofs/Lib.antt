@@ -5,4 +5,5 @@ pub mod Contents
 pub mod Writes
 pub mod AfterSet
 pub mod Names
+pub mod ObjectList
 pub mod Allowed

@@ -33,14 +33,14 @@ object_fault_number Service = 12
 -- left out.
 abbrev pub is_taken_class : Bool → ℕ → Bool
 is_taken_class counter class =
-    (class == IDENTITY) || (class == MESSAGE_ROUTER) || (class == ASSEMBLY) || (class == CONNECTION_MANAGER)
-    || (class == 0x65) || (counter && (class == COUNTER))
+    (class == IDENTITY) || (class == ASSEMBLY) || (class == CONNECTION_MANAGER) || (class == 0x65)
+    || (counter && (class == COUNTER))
 
--- The TCP/IP Interface and the Ethernet Link object are 0xf5 and 0xf6.
+-- The Message Router is 2. The TCP/IP Interface and the Ethernet Link object are 0xf5 and 0xf6.
 abbrev pub is_standard_class : ℕ → Bool
-is_standard_class class = (class == 0xf5) || (class == 0xf6)
+is_standard_class class = (class == MESSAGE_ROUTER) || (class == 0xf5) || (class == 0xf6)
 
--- An object of the standard has one of these two classes and instance number 1. No other object has one of them.
+-- An object of the standard has one of these classes and instance number 1. No other object has one of them.
 abbrev pub is_misplaced : ObjectConfig → Bool
 is_misplaced o =
     if o.standard then not (is_standard_class o.class) || not (o.instance == 1) else is_standard_class o.class

@@ -4,7 +4,9 @@ pub mod Values
 pub mod Configuration
 pub mod Attributes
 pub mod Objects
+pub mod Kept
 pub mod Whole
 pub mod Standard
+pub mod MessageRouter
 pub mod Laws
 pub mod Rows

@@ -2,11 +2,9 @@
 -- model). The first object of a class and an instance number serves, and the first attribute of a number.
 use Rattle.std.specs.Prelude.{◌≡◌, ◌<◌, ℕ, ◌+◌, Bool, ◌==◌, ◌&&◌, if◌then◌else◌, List, [], ◌∷◌, length, max}
 use Rattle.std.specs.Prelude.{slice_index_or, slice_set, Option, Some, None, option_map, option_and_then, ok_or}
-use Rattle.std.specs.Prelude.{Result, Ok, Err, map}
-use Rattle.std.specs.List.{flat_map}
+use Rattle.std.specs.Prelude.{Result, Ok, Err}
 use Rattle.cip_bytes.specs.Reading.{◌>>=◌, map_ok}
 use Rattle.cip_application.specs.declared.application.ClassSummary.{ClassSummary}
-use Rattle.cip_application.specs.declared.object.AttributeName.{AttributeName}
 use Rattle.cip_application.specs.declared.attribute.SetFault.{SetFault}
 use Rattle.cip_application.specs.declared.attribute.SetFault.TheVariants.{AttributeNotSupported}
 use Rattle.cip_application.specs.declared.config.ServiceConfig.{ServiceConfig}
@@ -112,14 +110,6 @@ objects_write objects class instance number offset bytes =
 -- The objects after the device itself put these bytes in place of an attribute's value.
 unfoldable pub objects_restore : List ObjectValues → ℕ → ℕ → ℕ → List ℕ → Option (List ObjectValues)
 objects_restore objects class instance number bytes = objects_by (as_whole bytes) objects class instance number
-
--- The names of the attributes of an object, in the order of their numbers.
-abbrev pub names_in : ObjectValues → List AttributeName
-names_in o = map (λ a. record { class = o.class; instance = o.instance; attribute = a.number }) o.attributes
-
--- The names of all attributes, object by object.
-abbrev pub names_of : List ObjectValues → List AttributeName
-names_of objects = flat_map names_in objects
 
 -- Each value of each object is one that its attribute may have.
 abbrev pub AllAllowed : List ObjectValues → Type 0

@@ -12,6 +12,7 @@ use Rattle.cip_application.specs.declared.number.NumberRange.{NumberRange}
 use Rattle.cip_application.specs.declared.number.NumberType.{NumberType}
 use Rattle.cip_application.specs.declared.number.NumberType.TheVariants.{Uint, Sint, Int, Lint, Real, Lreal}
 use Rattle.cip_application.specs.Attributes.{AttributeValues, check_before_asking, in_order}
+use Rattle.cip_application.specs.MessageRouter.{classes_of, object_list}
 use Rattle.cip_application.specs.Configuration.{is_taken_class, is_invalid_object, is_invalid_name, is_invalid_kind, is_invalid_service}
 use Rattle.cip_application.specs.Numbers.{is_at_most, is_within, are_within, numbers_of}
 use Rattle.cip_application.specs.Objects.{ObjectValues, object_set, object_write, objects_set, objects_approved}
@@ -309,6 +310,24 @@ own_interface o = refl
 
 pub own_link : (o : ObjectConfig) → is_invalid_object true (placed false 0xf6 1 o) ≡ true
 own_link o = refl
+
+-- The Message Router has class 2. No object of a device's own has it.
+pub router_allowed : (o : ObjectConfig) → is_invalid_object true (placed true 2 1 o) ≡ false
+router_allowed o = refl
+
+pub own_router : (o : ObjectConfig) → is_invalid_object true (placed false 2 1 o) ≡ true
+own_router o = refl
+
+-- The classes of a device with a counter and a TCP/IP Interface, and of one with a ledger and two own objects of a class.
+pub classes_with_a_counter : classes_of true false (0xf5 ∷ []) ≡ 1 ∷ 2 ∷ 4 ∷ 6 ∷ 0x64 ∷ 0xf5 ∷ []
+classes_with_a_counter = refl
+
+pub classes_with_a_ledger : classes_of false true (768 ∷ 0x64 ∷ 768 ∷ []) ≡ 1 ∷ 2 ∷ 4 ∷ 6 ∷ 0x64 ∷ 0x65 ∷ 768 ∷ []
+classes_with_a_ledger = refl
+
+-- Three classes: the count, then each, its least byte first.
+pub listed_classes : object_list (1 ∷ 0x64 ∷ 0x300 ∷ []) ≡ 3 ∷ 0 ∷ 1 ∷ 0 ∷ 0x64 ∷ 0 ∷ 0 ∷ 3 ∷ []
+listed_classes = refl
 
 pub own_of_a_vendor : (o : ObjectConfig) → is_invalid_object true (placed false 768 1 o) ≡ false
 own_of_a_vendor o = refl

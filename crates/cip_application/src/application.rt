@@ -10,8 +10,9 @@ ghost use Rattle.cip_application.specs.Configuration.{fault_of, objects_of_confi
 ghost use Rattle.cip_application.specs.Configuration.{AreInOrder};
 ghost use Rattle.cip_application.specs.Objects.{position_of, object_in, value_in, value_of, service_in, objects_set};
 ghost use Rattle.cip_application.specs.Objects.{objects_write, objects_restore, objects_approved, changes_of};
-ghost use Rattle.cip_application.specs.Objects.{class_of, names_of};
+ghost use Rattle.cip_application.specs.Objects.{class_of};
 ghost use Rattle.cip_application.specs.Objects.{AllAllowed};
+ghost use Rattle.cip_application.specs.Kept.{is_kept_at, kept_names_of};
 ghost use Rattle.cip_application.specs.Whole.{IsSound};
 
 use crate::attribute::SetFault;
@@ -278,16 +279,27 @@ impl ApplicationObjects {
         self.objects[position].restore(attribute, bytes)
     }
 
-    /// The name of an attribute by its index among all: object by object, in the order of the attribute numbers. `None`
-    /// past the last.
-    pub fn name(&self, index: usize) -> Option<AttributeName>
-        ensures { result ≡ slice_get (names_of self.now) index }
+    /// Whether an attribute is kept over a restart: each is, but of an object of the standard only what peers can set.
+    /// `false` if there is no such attribute.
+    pub fn is_kept(&self, class: u16, instance: u32, attribute: u16) -> bool
+        ensures { result ≡ is_kept_at self.now class instance attribute }
+    {
+        match self.position(class, instance) {
+            Some(position) => self.objects[position].is_kept(attribute),
+            None => false,
+        }
+    }
+
+    /// The name of a kept attribute by its index among those: object by object, in the order of the attribute numbers.
+    /// `None` past the last.
+    pub fn kept_name(&self, index: usize) -> Option<AttributeName>
+        ensures { result ≡ slice_get (kept_names_of self.now) index }
     {
         let mut left = index;
         for object in self.objects.iter() {
-            let count = object.attribute_count();
+            let count = object.kept_count();
             if left < count {
-                return Some(object.name(left));
+                return object.kept_name(left);
             }
             left -= count;
         }

@@ -6,7 +6,9 @@ ghost use Rattle.std.specs.Prelude.{◌&&◌, nat_le, not};
 ghost use Rattle.cip_application.specs.Values.{capacity, with_bytes_at};
 ghost use Rattle.cip_application.specs.Attributes.{attribute_set, attribute_write, attribute_restore};
 ghost use Rattle.cip_application.specs.Attributes.{check_before_asking};
+ghost use Rattle.cip_application.specs.Kept.{is_kept};
 
+use crate::config::is_standard_class;
 use crate::kind::{AttributeKind, VALUE_LIMIT};
 use std::alloc::{AllocError, Global};
 use std::boxed::BoxedSlice;
@@ -135,6 +137,14 @@ impl Attribute {
         ensures { result ≡ self.now.settable && self.now.checked }
     {
         self.settable && self.checked
+    }
+
+    /// Whether it is kept over a restart, as an attribute of an object of this class.
+    pub(crate) fn is_kept(&self, class: u16) -> bool
+        ensures { result ≡ is_kept class self.now }
+    {
+        // Of an object of the standard only what peers can set is kept (our choice).
+        !is_standard_class(class) || self.settable
     }
 
     /// The checks of a set before the owner is asked, or `None` if a set does not need the owner's approval.

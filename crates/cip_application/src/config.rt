@@ -18,7 +18,7 @@ use std::alloc::{AllocError, AllocFailed};
 use thiserror::Error;
 
 /// The most objects (our choice).
-const OBJECT_LIMIT: usize = 32;
+pub const OBJECT_LIMIT: usize = 32;
 
 /// The most attributes of an object (our choice).
 pub(crate) const ATTRIBUTE_LIMIT: usize = 32;
@@ -45,7 +45,7 @@ const TICKET_SIZE: u16 = 4;
 pub const QUEUED_REPLY_LIMIT: usize = 476;
 
 /// The class of the command ledger (our choice).
-const LEDGER: u16 = 0x65;
+pub(crate) const LEDGER: u16 = 0x65;
 
 /// The class of the TCP/IP Interface object. (Volume 2, class codes.)
 pub const TCP_IP_INTERFACE: u16 = 0xf5;
@@ -53,8 +53,8 @@ pub const TCP_IP_INTERFACE: u16 = 0xf5;
 /// The class of the Ethernet Link object. (Volume 2, class codes.)
 pub const ETHERNET_LINK: u16 = 0xf6;
 
-/// An application object: an instance of a class that the adapter does not have itself. Two classes of the standard are
-/// made of the same parts: the TCP/IP Interface and the Ethernet Link.
+/// An application object: an instance of a class that the adapter does not have itself. Three classes of the standard
+/// are made of the same parts: the Message Router, the TCP/IP Interface and the Ethernet Link.
 ///
 /// ```
 /// let mut attributes = Vec::new(alloc);
@@ -69,8 +69,8 @@ pub struct ObjectConfig {
     pub class: u16,
     /// The instance number: not 0. No other object has the same class and instance number.
     pub instance: u16,
-    /// Whether it is the TCP/IP Interface or the Ethernet Link. Only such an object has class 0xf5 or 0xf6, and its
-    /// instance number is 1.
+    /// Whether it is the Message Router, the TCP/IP Interface or the Ethernet Link. Only such an object has class 2, 0xf5
+    /// or 0xf6, and its instance number is 1.
     pub standard: bool,
     /// A name, for people: 1 to 32 bytes, each 0x20 to 0x7e.
     pub name: Option<String>,
@@ -197,17 +197,17 @@ fn is_taken_class(counter: bool, class: u16) -> bool
     ensures { result ≡ is_taken_class counter class }
 {
     match class {
-        IDENTITY | MESSAGE_ROUTER | ASSEMBLY | CONNECTION_MANAGER | LEDGER => true,
+        IDENTITY | ASSEMBLY | CONNECTION_MANAGER | LEDGER => true,
         COUNTER => counter,
         _ => false,
     }
 }
 
-/// Whether this is the class of the TCP/IP Interface or of the Ethernet Link.
+/// Whether this is the class of the Message Router, the TCP/IP Interface or the Ethernet Link.
 pub fn is_standard_class(class: u16) -> bool
     ensures { result ≡ is_standard_class class }
 {
-    class == TCP_IP_INTERFACE || class == ETHERNET_LINK
+    matches!(class, MESSAGE_ROUTER | TCP_IP_INTERFACE | ETHERNET_LINK)
 }
 
 /// Whether an object of the standard has another class or instance number, or another object one of its classes.

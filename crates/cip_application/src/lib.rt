@@ -18,6 +18,7 @@ mod attribute;
 mod config;
 mod kind;
 pub mod laws;
+mod message_router;
 mod number;
 mod object;
 mod standard;
@@ -25,10 +26,12 @@ mod standard;
 pub use application::{ApplicationObjects, ClassSummary};
 pub use attribute::SetFault;
 pub use config::{
-    AttributeConfig, ETHERNET_LINK, GET_RESULT, ObjectConfig, ObjectFault, QUEUED_REPLY_LIMIT,
-    SERVICE_DATA_LIMIT, ServiceConfig, ServiceKind, TCP_IP_INTERFACE, fault, is_standard_class,
+    AttributeConfig, ETHERNET_LINK, GET_RESULT, OBJECT_LIMIT, ObjectConfig, ObjectFault,
+    QUEUED_REPLY_LIMIT, SERVICE_DATA_LIMIT, ServiceConfig, ServiceKind, TCP_IP_INTERFACE, fault,
+    is_standard_class,
 };
 pub use kind::{AttributeKind, VALUE_LIMIT};
+pub use message_router::MessageRouter;
 pub use number::{NumberRange, NumberType};
 pub use object::AttributeName;
 pub use standard::{

@@ -9,7 +9,8 @@ ghost use Rattle.cip_application.specs.Attributes.{AttributeValues, attribute_at
 ghost use Rattle.cip_application.specs.Attributes.{needs_approval, check_before_asking};
 ghost use Rattle.cip_application.specs.Configuration.{attribute_of_config, object_of_config};
 ghost use Rattle.cip_application.specs.Objects.{value_in, service_in, object_set, object_write, object_restore};
-ghost use Rattle.cip_application.specs.Objects.{names_in, IsAttributeAt};
+ghost use Rattle.cip_application.specs.Objects.{IsAttributeAt};
+ghost use Rattle.cip_application.specs.Kept.{is_kept_in, kept_names_in};
 ghost use Rattle.cip_application.specs.Values.{capacity};
 ghost use Rattle.cip_application.specs.Whole.{IsShort};
 
@@ -203,16 +204,47 @@ impl Object {
         self.attributes[index].restore(bytes)
     }
 
-    /// The name of the attribute at an index.
-    pub(crate) fn name(&self, index: usize) -> AttributeName
-        requires { index < length self.now.attributes }
-        ensures { slice_get (names_in self.now) index ≡ Some result }
+    /// Whether the attribute with this number is kept over a restart.
+    pub(crate) fn is_kept(&self, number: u16) -> bool
+        ensures { result ≡ is_kept_in self.now number }
     {
-        AttributeName {
-            class: self.class,
-            instance: self.instance,
-            attribute: self.attributes[index].number(),
+        match attribute_index(&self.attributes, number) {
+            Some(index) => self.attributes[index].is_kept(self.class),
+            None => false,
         }
+    }
+
+    /// The number of attributes that are kept over a restart.
+    pub(crate) fn kept_count(&self) -> usize
+        ensures { result ≡ length (kept_names_in self.now) }
+    {
+        let mut count = 0;
+        for attribute in self.attributes.iter() {
+            if attribute.is_kept(self.class) {
+                count += 1;
+            }
+        }
+        count
+    }
+
+    /// The name of a kept attribute, by its index among those.
+    pub(crate) fn kept_name(&self, index: usize) -> Option<AttributeName>
+        ensures { result ≡ slice_get (kept_names_in self.now) index }
+    {
+        let mut left = index;
+        for attribute in self.attributes.iter() {
+            if attribute.is_kept(self.class) {
+                if left == 0 {
+                    return Some(AttributeName {
+                        class: self.class,
+                        instance: self.instance,
+                        attribute: attribute.number(),
+                    });
+                }
+                left -= 1;
+            }
+        }
+        None
     }
 
     /// The own service with this number.

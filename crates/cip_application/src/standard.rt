@@ -226,7 +226,7 @@ impl EthernetLink<'_> {
 }
 
 /// Adds an attribute of this value, which peers only read.
-fn push_fixed(
+pub(crate) fn push_fixed(
     attributes: &mut Vec<AttributeConfig>,
     number: u16,
     value: Vec<u8>,

@@ -1,15 +1,17 @@
 -- The names of what is kept, by their index.
-use Rattle.std.proofs.Common.{◌≡◌, ℕ, zero, suc, ◌+◌, ◌-◌, ◌<◌, ◌≤◌, true, false, List, [], ◌∷◌, ◌++◌, length, get_or, map, Option, Some, option_map, refl, sym, ap, ◌∙◌, arith}
-use Rattle.std.specs.Prelude.{slice_get}
+use Rattle.std.proofs.Common.{◌≡◌, ℕ, zero, suc, ◌+◌, ◌-◌, ◌<◌, ◌≤◌, Bool, true, false, cond, List, [], ◌∷◌, ◌++◌, length, get_or, map, Option, Some, option_map, refl, sym, ap, ◌∙◌, arith}
+use Rattle.std.specs.Prelude.{slice_get, filter}
 use Rattle.std.specs.List.{flat_map}
 use Rattle.std.proofs.lemmas.List.{length-map}
 use Rattle.std.proofs.lemmas.Option.{slice_get-map, slice_get-get_or}
 use Rattle.cip_application.specs.declared.object.AttributeName.{AttributeName}
-use Rattle.cip_application.specs.Objects.{ObjectValues, names_of}
+use Rattle.cip_application.specs.Attributes.{AttributeValues}
+use Rattle.cip_application.specs.Kept.{kept_names_of, is_kept as is_value_kept}
+use Rattle.cip_application.specs.Objects.{ObjectValues}
 use Rattle.cip_application.proofs.Names.{get_front, get_behind}
 use Rattle.cip_objects.specs.Contents.{Contents}
 use Rattle.cip_objects.specs.Entries.{IdentityValues, AssemblyValues, CounterValues, contents_of, shape_of, attribute_shape_of, object_shape_of, shapes_of}
-use Rattle.cip_objects.specs.Kept.{name_of, data_names, counter_names, object_names, kept_names, names_behind_assemblies}
+use Rattle.cip_objects.specs.Kept.{name_of, data_names, counter_names, object_names, kept_names, names_behind_assemblies, is_kept}
 use Rattle.cip_objects.proofs.Shapes.{shapes-contents}
 
 -- the names of the shapes are those of the values
@@ -17,10 +19,20 @@ map_twice : {A B C : Type 0} (f : B → C) (g : A → B) (xs : List A) → map f
 map_twice f g [] = refl
 map_twice f g (x ∷ xs) = ap (λ ys. f (g x) ∷ ys) (map_twice f g xs)
 
-names_same : (os : List ObjectValues) → names_of os ≡ flat_map object_names (map object_shape_of os)
+names_in_same : (class instance : ℕ) (xs : List AttributeValues) → map (λ a. name_of class instance a.number) (filter (is_value_kept class) xs)
+    ≡ map (λ a. name_of class instance a.number) (filter (is_kept class) (map attribute_shape_of xs))
+names_in_same class instance [] = refl
+names_in_same class instance (a ∷ xs) =
+    elim (is_value_kept class a) as (λ t. map (λ b. name_of class instance b.number) (cond t (a ∷ filter (is_value_kept class) xs) (filter (is_value_kept class) xs))
+    ≡ map (λ b. name_of class instance b.number) (cond t (attribute_shape_of a ∷ filter (is_kept class) (map attribute_shape_of xs)) (filter (is_kept class) (map attribute_shape_of xs)))) [
+      | true ↦ ap (λ ns. name_of class instance a.number ∷ ns) (names_in_same class instance xs)
+      | false ↦ names_in_same class instance xs
+    ]
+
+names_same : (os : List ObjectValues) → kept_names_of os ≡ flat_map object_names (map object_shape_of os)
 names_same [] = refl
 names_same (o ∷ os) =
-    ap (λ ns. ns ++ names_of os) (sym (map_twice (λ a. name_of o.class o.instance a.number) attribute_shape_of o.attributes))
+    ap (λ ns. ns ++ kept_names_of os) (names_in_same o.class o.instance o.attributes)
     ∙ ap (λ ns. object_names (object_shape_of o) ++ ns) (names_same os)
 
 counter_at : (i : ℕ) → i < 3 → slice_get (counter_names true) i ≡ Some (name_of 100 1 (i + 1))
@@ -54,7 +66,7 @@ module _ (d : IdentityValues) (bs : List AssemblyValues) (c : CounterValues) (os
       ∙ sym (ap (λ s. slice_get (kept_names s) i) shapes)
 
   -- without a counter, the application objects
-  pub without_counter : (i : ℕ) (r : Option AttributeName) → c.enabled ≡ false → r ≡ slice_get (names_of os) i → r ≡ slice_get (names_behind_assemblies m.shapes) i
+  pub without_counter : (i : ℕ) (r : Option AttributeName) → c.enabled ≡ false → r ≡ slice_get (kept_names_of os) i → r ≡ slice_get (names_behind_assemblies m.shapes) i
   without_counter i r off e =
       e ∙ ap (λ ns. slice_get ns i) (names_same os)
       ∙ ap (λ b. slice_get (counter_names b ++ flat_map object_names (map object_shape_of os)) i) (sym off)
@@ -70,7 +82,7 @@ module _ (d : IdentityValues) (bs : List AssemblyValues) (c : CounterValues) (os
   counter_number i on h =
       sym (get_front (counter_names true) (flat_map object_names (map object_shape_of os)) i (name_of 100 1 (i + 1)) (counter_at i h)) ∙ with_counter i on
 
-  pub behind_counter : (i : ℕ) (r : Option AttributeName) → c.enabled ≡ true → 3 ≤ i → r ≡ slice_get (names_of os) (i - 3) → r ≡ slice_get (names_behind_assemblies m.shapes) i
+  pub behind_counter : (i : ℕ) (r : Option AttributeName) → c.enabled ≡ true → 3 ≤ i → r ≡ slice_get (kept_names_of os) (i - 3) → r ≡ slice_get (names_behind_assemblies m.shapes) i
   behind_counter i r on h e =
       e ∙ ap (λ ns. slice_get ns (i - 3)) (names_same os)
       ∙ sym (get_behind (counter_names true) (flat_map object_names (map object_shape_of os)) i h)

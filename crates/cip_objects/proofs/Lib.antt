@@ -35,3 +35,4 @@ pub mod OwnRequests
 pub mod Approved
 pub mod Packets
 pub mod PacketSteps
+pub mod ObjectList

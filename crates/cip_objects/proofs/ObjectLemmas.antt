@@ -28,14 +28,12 @@ use Rattle.cip_objects.specs.Check.{demand, check_size}
 use Rattle.cip_objects.specs.Contents.{Contents, value_at, bytes_at, with_value, with_change}
 use Rattle.cip_objects.specs.DeviceWrites.{with_attribute_by, object_by, object_write}
 use Rattle.cip_objects.specs.Entries.{IdentityValues, AssemblyValues, CounterValues, AreApart, AreDistinct, NoneIsClass, attribute_in, attributes_of_class, class_attributes, class_revision, counter_attributes, object_attributes, object_shape_of, attribute_shape_of, object_tallies, contents_of}
-use Rattle.cip_objects.specs.Kept.{with_kept, kept_object_kind}
 use Rattle.cip_objects.specs.ObjectMap.{key}
 use Rattle.cip_objects.specs.ObjectRef.{IsFree, IsObjectIndex, IsObjectClass, IsSettable, kind_to_set, Resolves, value_to, bytes_to, after_set, object_in as shape_in}
 use Rattle.cip_objects.specs.ReadServices.{IDENTITY_ATTRIBUTES, all_attributes, numbers_of}
 use Rattle.cip_objects.specs.Status.{set_refusal}
 use Rattle.cip_objects.specs.Tables.{ObjectShape, Shapes, object_at, position_at, attribute_at as shape_at_number, kind_of_settable, kind_in, settable_kind, numbers_in, greatest_number, services_of, application_services, object_services, is_counter_class}
 use Rattle.cip_objects.proofs.Lookup.{find_object, object_value, own_value, object_at-map, above_none, both_true, taken_value, value_at-contents_of}
-use Rattle.cip_objects.proofs.KeptValues.{object_kept}
 use Rattle.cip_objects.proofs.Numbers.{enabled}
 use Rattle.cip_objects.proofs.ObjectRefs.{free_kind}
 use Rattle.cip_objects.proofs.ObjectWrites.{IsOwn, IsWritten, attributes_written, same_parts, attribute_counted, object_written, object_changed, map_set}
@@ -248,6 +246,15 @@ interface_read d bs c os m n is h own =
     ∙ own_lookup d bs c os 0xf5 1 n h own refl refl refl
     ∙ ap (object_value n) (find_position 0xf5 1 os)
     ∙ value_found n os (position_of 0xf5 1 os)
+
+-- the same of the Message Router
+pub router_read : (d : IdentityValues) (bs : List AssemblyValues) (c : CounterValues) (os : List ObjectValues) (m : Contents) (n : ℕ) → contents_of d bs c os ≡ m → NoneIsClass bs → AreApart c.enabled (map object_shape_of os)
+    → value_at m 2 1 n ≡ value_of os 2 1 n
+router_read d bs c os m n is h own =
+    ap (λ x. value_at x 2 1 n) (sym is)
+    ∙ own_lookup d bs c os 2 1 n h own refl refl refl
+    ∙ ap (object_value n) (find_position 2 1 os)
+    ∙ value_found n os (position_of 2 1 os)
 
 -- the classes of application objects
 numbers-map : (class : ℕ) (os : List ObjectValues) → numbers_in class (map object_shape_of os) ≡ instances_of class os
@@ -604,10 +611,9 @@ unfolding object_write objects_write
 device_writes d bs c os m class instance n offset bytes is h own = writes_by d bs c os m class instance n (from_offset offset bytes) is h own
 
 pub device_restores : (d : IdentityValues) (bs : List AssemblyValues) (c : CounterValues) (os : List ObjectValues) (m : Contents) (class instance n : ℕ) (bytes : List ℕ) → contents_of d bs c os ≡ m → NoneIsClass bs → AreApart c.enabled (map object_shape_of os)
-    → IsDeviceWrite d bs c os m (with_kept m class instance n bytes (kept_object_kind m.shapes class instance n)) (objects_restore os class instance n bytes)
+    → IsDeviceWrite d bs c os m (object_by (as_whole bytes) m class instance n) (objects_restore os class instance n bytes)
 unfolding objects_restore
-device_restores d bs c os m class instance n bytes is h own =
-    subst (λ w. IsDeviceWrite d bs c os m w (objects_by (as_whole bytes) os class instance n)) (object_kept m class instance n bytes) (writes_by d bs c os m class instance n (as_whole bytes) is h own)
+device_restores d bs c os m class instance n bytes is h own = writes_by d bs c os m class instance n (as_whole bytes) is h own
 
 -- how often peers set an attribute
 pub changes_here : (class instance n : ℕ) (os : List ObjectValues) → changes_of os class instance n ≡ object_changes n (find_object class instance os)

@@ -1,12 +1,12 @@
 -- The entries of the object map, instance by instance (Volume 1: Identity and Assembly objects; the counter
 -- and the application objects are vendor-specific).
-use Rattle.std.specs.Prelude.{ℕ, ◌<◌, Bool, List, [], ◌∷◌, ◌++◌, Option, Some, None, ◌==◌, if◌then◌else◌, length, sum}
+use Rattle.std.specs.Prelude.{ℕ, ◌<◌, Bool, List, [], ◌∷◌, ◌++◌, Option, Some, None, ◌==◌, ◌||◌, if◌then◌else◌, length, sum}
 use Rattle.std.specs.Prelude.{◌≡◌, false, map, max}
 use Rattle.std.specs.List.{flat_map, list_any}
 use Rattle.std.specs.FinMap.{from_entries}
 use Rattle.byteorder.specs.Endian.{little_bytes}
 use Rattle.cip_application.specs.Attributes.{AttributeValues}
-use Rattle.cip_application.specs.Configuration.{is_taken_class, is_standard_class}
+use Rattle.cip_application.specs.Configuration.{is_taken_class}
 use Rattle.cip_application.specs.Objects.{ObjectValues}
 use Rattle.cip_message.specs.declared.key.Device.{Device}
 use Rattle.cip_objects.specs.ObjectMap.{Key, key}
@@ -101,7 +101,7 @@ object_entries os = flat_map (λ o. entries_at o.class o.instance (object_attrib
 
 -- The revision of a class of application objects. That of the TCP/IP Interface and of the Ethernet Link is 4.
 abbrev pub class_revision : ℕ → ℕ
-class_revision class = if is_standard_class class then 4 else 1
+class_revision class = if (class == 0xf5) || (class == 0xf6) then 4 else 1
 
 -- The attributes of a class of application objects.
 abbrev pub attributes_of_class : ℕ → List ObjectShape → Attributes

@@ -1,11 +1,13 @@
--- What is kept of the objects over a restart: the data of each assembly, the counter, and each attribute of each
--- application object. Identity comes from the configuration alone.
-use Rattle.std.specs.Prelude.{ℕ, ◌==◌, ◌&&◌, ◌||◌, Bool, List, [], ◌∷◌, ◌++◌, sum, map, if◌then◌else◌}
+-- What is kept of the objects over a restart: the data of each assembly, the counter, and the attributes of the
+-- application objects. Identity comes from the configuration alone, and so does what peers only read of an object of the
+-- standard.
+use Rattle.std.specs.Prelude.{ℕ, ◌==◌, ◌&&◌, ◌||◌, not, Bool, List, [], ◌∷◌, ◌++◌, sum, map, filter, if◌then◌else◌}
 use Rattle.std.specs.Prelude.{Option, Some, None}
 use Rattle.std.specs.List.{flat_map}
 use Rattle.std.specs.Option.{option_and_then}
 use Rattle.cip_application.specs.declared.kind.AttributeKind.{AttributeKind}
 use Rattle.cip_application.specs.declared.kind.AttributeKind.TheVariants.{Fixed}
+use Rattle.cip_application.specs.Configuration.{is_standard_class}
 use Rattle.cip_application.specs.Values.{is_whole}
 use Rattle.cip_application.specs.declared.object.AttributeName.{AttributeName}
 use Rattle.cip_bytes.specs.declared.protocol.TheConstants.{ASSEMBLY, COUNTER}
@@ -25,15 +27,19 @@ abbrev pub counter_names : Bool → List AttributeName
 counter_names has_counter =
     if has_counter then name_of COUNTER 1 1 ∷ name_of COUNTER 1 2 ∷ name_of COUNTER 1 3 ∷ [] else []
 
+-- Whether an attribute of an application object of this class is kept.
+abbrev pub is_kept : ℕ → AttributeShape → Bool
+is_kept class a = not (is_standard_class class) || a.settable
+
 abbrev pub object_names : ObjectShape → List AttributeName
-object_names o = map (λ a. name_of o.class o.instance a.number) o.attributes
+object_names o = map (λ a. name_of o.class o.instance a.number) (filter (is_kept o.class) o.attributes)
 
 -- The names of what is kept behind the assemblies.
 abbrev pub names_behind_assemblies : Shapes → List AttributeName
 names_behind_assemblies shapes = counter_names shapes.has_counter ++ flat_map object_names shapes.objects
 
 -- The names of all values that are kept, in the order of the configuration: the assemblies, the counter, and the
--- application objects, each with its attributes in the order of their numbers.
+-- application objects, each with its kept attributes in the order of their numbers.
 abbrev pub kept_names : Shapes → List AttributeName
 kept_names shapes = data_names shapes.assemblies ++ names_behind_assemblies shapes
 
@@ -51,14 +57,14 @@ abbrev pub kept_number_kind : ℕ → ℕ → Option AttributeKind
 kept_number_kind instance attribute =
     if (instance == 1) && ((attribute == 1) || (attribute == 2) || (attribute == 3)) then Some (Fixed 4 None) else None
 
--- The kind of an attribute of an application object.
-abbrev pub kind_of_attribute : Option AttributeShape → Option AttributeKind
-kind_of_attribute None = None
-kind_of_attribute (Some a) = Some a.kind
+-- The kind of an attribute of an application object of this class, if it is kept.
+abbrev pub kind_if_kept : ℕ → Option AttributeShape → Option AttributeKind
+kind_if_kept class None = None
+kind_if_kept class (Some a) = if is_kept class a then Some a.kind else None
 
 abbrev pub kept_object_kind : Shapes → ℕ → ℕ → ℕ → Option AttributeKind
 kept_object_kind shapes class instance attribute =
-    kind_of_attribute
+    kind_if_kept class
     (option_and_then (λ o. attribute_at attribute o.attributes) (object_at class instance shapes.objects))
 
 -- The kind of a value that is kept. None if no value of this name is kept.

@@ -36,3 +36,4 @@ pub mod Kept
 pub mod OwnRequests
 pub mod OwnRows
 pub mod ChangesRun
+pub mod ObjectList

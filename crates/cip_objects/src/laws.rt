@@ -10,6 +10,7 @@ ghost use Rattle.cip_objects.specs.Execution.{exec};
 ghost use Rattle.cip_objects.specs.PacketLaws.{packet_law, singles_law, routed_refused_law, others_law};
 ghost use Rattle.cip_objects.specs.Run.{counter_law};
 ghost use Rattle.cip_objects.specs.ChangesRun.{changes_law};
+ghost use Rattle.cip_objects.specs.ObjectList.{object_list_law};
 ghost use Rattle.cip_objects.specs.OwnRequests.{own_is_refused_law, approved_is_stored_law, approved_leaves_others_law};
 
 /// If a reply is too large, the object map is unchanged.
@@ -123,4 +124,10 @@ pub fn others_are_no_packets()
 /// leaves the object map unchanged, whether the request is a packet or not.
 pub fn refused_packets_change_nothing()
     ensures { routed_refused_law }
+{}
+
+/// The object list of the Message Router has exactly the classes that answer: those of whose instances one has services,
+/// and that of the command ledger if the device has it.
+pub fn object_list()
+    ensures { object_list_law }
 {}

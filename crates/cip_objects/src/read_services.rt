@@ -73,7 +73,7 @@ impl Objects {
         Ok(Completion::Whole)
     }
 
-    /// Whether an object is the TCP/IP Interface or the Ethernet Link.
+    /// Whether an object is the Message Router, the TCP/IP Interface or the Ethernet Link.
     #[inline(always)]
     fn is_standard(&self, object: ObjectRef) -> bool
         requires there { Exists self.now.shapes object }

@@ -14,7 +14,7 @@ use Rattle.cip_application.specs.declared.object.AttributeName.{AttributeName}
 use Rattle.cip_application.specs.declared.attribute.SetFault.TheVariants.{InvalidAttributeValue}
 use Rattle.cip_application.specs.Check.{check_size as check_size_of_value, demand as demand_of_value}
 use Rattle.cip_bytes.specs.Reading.{◌>>◌}
-use Rattle.cip_application.specs.Configuration.{is_taken_class}
+use Rattle.cip_application.specs.Configuration.{is_taken_class, is_standard_class}
 use Rattle.cip_application.specs.Values.{size_for, is_allowed as is_allowed_value, check_value, is_whole, from_offset}
 use Rattle.cip_application.specs.Values.{written_value}
 use Rattle.cip_bytes.specs.declared.protocol.TheConstants.{IDENTITY, ASSEMBLY, CONNECTION_MANAGER, COUNTER}
@@ -24,7 +24,7 @@ use Rattle.cip_objects.specs.declared.status.Refusal.{Refusal}
 use Rattle.cip_objects.specs.ChangeServices.{Change, is_allowed_limit, set_attribute_single, set_member, add, clear}
 use Rattle.cip_objects.specs.Contents.{Contents, value_at, bytes_at, udint_at, with_value, with_change}
 use Rattle.cip_objects.specs.Execution.{Outcome, outcome_of_read, outcome_of_change, perform, outcome, exec}
-use Rattle.cip_objects.specs.Kept.{kept_kind, kept_data_kind, kept_number_kind, kept_object_kind, kind_of_attribute}
+use Rattle.cip_objects.specs.Kept.{kept_kind, kept_data_kind, kept_number_kind, kept_object_kind, kind_if_kept, is_kept}
 use Rattle.cip_objects.specs.Members.{AreWhole}
 use Rattle.cip_objects.specs.ReadServices.{Answer, service_at, get_attributes_all, get_attribute_list}
 use Rattle.cip_objects.specs.ReadServices.{get_attribute_single, get_member}
@@ -138,18 +138,21 @@ some_is x y e = cc
 if_some : {A : Type 0} (o : Option A) (x : A) (P : A → Type 0) → o ≡ Some x → P x → IfSome o P
 if_some o x P is p = subst (λ o. IfSome o P) (sym is) p
 
-kind_of_object : (o : Option ObjectShape) (attribute : ℕ) (kind : AttributeKind) → kind_in attribute o ≡ Some kind
-    → kind_of_attribute (option_and_then (λ o. attribute_at attribute o.attributes) o) ≡ Some kind
-kind_of_object None attribute kind e = absurd (cc)
-kind_of_object (Some o) attribute kind e = by_attribute (attribute_at attribute o.attributes) e
+kind_of_object : (class : ℕ) (o : Option ObjectShape) (attribute : ℕ) (kind : AttributeKind) → kind_in attribute o ≡ Some kind
+    → kind_if_kept class (option_and_then (λ o. attribute_at attribute o.attributes) o) ≡ Some kind
+kind_of_object class None attribute kind e = absurd (cc)
+kind_of_object class (Some o) attribute kind e = by_attribute (attribute_at attribute o.attributes) e
   where
-    by_test : (t : Bool) (k : AttributeKind) → (if t then Some k else None) ≡ Some kind → Some k ≡ Some kind
-    by_test true k e = e
-    by_test false k e = absurd (cc)
+    by_test : (own s asked : Bool) (k : AttributeKind) → (if s && asked then Some k else None) ≡ Some kind
+        → (if own || s then Some k else None) ≡ Some kind
+    by_test own false asked k e = absurd (cc)
+    by_test own true false k e = absurd (cc)
+    by_test true true true k e = e
+    by_test false true true k e = e
 
-    by_attribute : (a : Option AttributeShape) → kind_of_settable a ≡ Some kind → kind_of_attribute a ≡ Some kind
+    by_attribute : (a : Option AttributeShape) → kind_of_settable a ≡ Some kind → kind_if_kept class a ≡ Some kind
     by_attribute None e = absurd (cc)
-    by_attribute (Some a) e = by_test (a.settable && not a.checked) a.kind e
+    by_attribute (Some a) e = by_test (not (is_standard_class class)) a.settable (not a.checked) a.kind e
 
 number_kind : (instance attribute : ℕ) (kind : AttributeKind)
     → (if (instance == 1) && (attribute == 2) then Some (Fixed 4 None) else None) ≡ Some kind
@@ -182,7 +185,7 @@ settable_is_kept shapes c i a kind other e =
     by false true v w at e = absurd (other (eqb-true c ASSEMBLY at))
     by false false true w at e = absurd (cc)
     by false false false true at e = number_kind i a kind e
-    by false false false false at e = kind_of_object (object_at c i shapes.objects) a kind e
+    by false false false false at e = kind_of_object c (object_at c i shapes.objects) a kind e
 
 -- the numbers of the counter have four bytes
 counter_kind : (shapes : Shapes) (c i a : ℕ) (kind : AttributeKind) → is_counter_class shapes c ≡ true
@@ -420,14 +423,17 @@ object_kind shapes class instance attribute other free =
     else kept_object_kind shapes class instance attribute)) (ne_eqb class ASSEMBLY other)
     ∙ ap (λ t. if t then kept_number_kind instance attribute else kept_object_kind shapes class instance attribute) free
 
-if_checked_kind : (o : Option AttributeShape) (a : AttributeShape) → if_checked o ≡ Some a
-    → kind_of_attribute o ≡ Some a.kind
-if_checked_kind None a e = absurd (cc)
-if_checked_kind (Some b) a e = by (b.settable && b.checked) e
+if_checked_kind : (class : ℕ) (o : Option AttributeShape) (a : AttributeShape) → if_checked o ≡ Some a
+    → kind_if_kept class o ≡ Some a.kind
+if_checked_kind class None a e = absurd (cc)
+if_checked_kind class (Some b) a e = by (not (is_standard_class class)) b.settable b.checked e
   where
-    by : (t : Bool) → (if t then Some b else None) ≡ Some a → Some b.kind ≡ Some a.kind
-    by true e = ap (λ (x : AttributeShape). Some x.kind) (some_is b a e)
-    by false e = absurd (cc)
+    by : (own s asked : Bool) → (if s && asked then Some b else None) ≡ Some a
+        → (if own || s then Some b.kind else None) ≡ Some a.kind
+    by own false asked e = absurd (cc)
+    by own true false e = absurd (cc)
+    by true true true e = ap (λ (x : AttributeShape). Some x.kind) (some_is b a e)
+    by false true true e = ap (λ (x : AttributeShape). Some x.kind) (some_is b a e)
 
 checked_kind : (m : Contents) (class instance attribute : ℕ) (a : AttributeShape) → class ≢ ASSEMBLY
     → checked_attribute m class instance attribute ≡ Some a
@@ -446,7 +452,7 @@ checked_kind m class instance attribute a other e =
     by_object false is e =
         object_kind m.shapes class instance attribute other
         (not_counter m.shapes class (or_first (is_taken_class m.shapes.has_counter class) (instance == 0) is))
-        ∙ if_checked_kind (option_and_then (λ o. attribute_at attribute o.attributes) (object_at class instance m.shapes.objects)) a e
+        ∙ if_checked_kind class (option_and_then (λ o. attribute_at attribute o.attributes) (object_at class instance m.shapes.objects)) a e
 
     by_value : (t : Bool) → (if t then
         if_checked (option_and_then (λ o. attribute_at attribute o.attributes) (own_object m.shapes class instance))
@@ -680,10 +686,20 @@ object_values m class instance attribute offset bytes no_data have =
 
     kind_is : (a : AttributeShape)
         → option_and_then (λ o. attribute_at attribute o.attributes) (object_at class instance m.shapes.objects) ≡ Some a
-        → class ≢ ASSEMBLY → kept_kind m.shapes class instance attribute ≡ Some a.kind
+        → class ≢ ASSEMBLY → kept_kind m.shapes class instance attribute ≡ kind_if_kept class (Some a)
     kind_is a found other =
         object_kind m.shapes class instance attribute other (free a found (is_counter_class m.shapes class) refl)
-        ∙ ap kind_of_attribute found
+        ∙ ap (kind_if_kept class) found
+
+    -- a value that is not kept may have any bytes
+    fits : (a : AttributeShape) (v : List ℕ) → written_value a.kind old offset bytes ≡ Some v → class ≢ IDENTITY → class ≢ ASSEMBLY
+        → (t : Bool) → kept_kind m.shapes class instance attribute ≡ (if t then Some a.kind else None)
+        → Fits m.shapes class instance attribute v
+    fits a v e apart other true kind =
+        if_some (kept_kind m.shapes class instance attribute) a.kind (λ kind. is_whole kind v ≡ true) kind
+        (written_whole a.kind old v offset bytes e
+        (subst (λ o. IfSome o (λ kind. is_whole kind old ≡ true)) kind (have.others class instance attribute apart other)))
+    fits a v e apart other false kind = subst (λ o. IfSome o (λ kind. is_whole kind v ≡ true)) (sym kind) tt
 
     by_value : (a : AttributeShape)
         → option_and_then (λ o. attribute_at attribute o.attributes) (object_at class instance m.shapes.objects) ≡ Some a
@@ -694,11 +710,7 @@ object_values m class instance attribute offset bytes no_data have =
       data_whole = whole_set m class instance attribute v
           (λ s four three there. absurd (not_data four three)) have.data_whole;
       others = value_set m class instance attribute v
-          (λ apart other. if_some (kept_kind m.shapes class instance attribute) a.kind (λ kind. is_whole kind v ≡ true)
-          (kind_is a found other)
-          (written_whole a.kind old v offset bytes e
-          (subst (λ o. IfSome o (λ kind. is_whole kind old ≡ true)) (kind_is a found other)
-          (have.others class instance attribute apart other))))
+          (λ apart other. fits a v e apart other (is_kept class a) (kind_is a found other))
           have.others (with_value m class instance attribute v) refl;
       counter_apart = have.counter_apart;
     }

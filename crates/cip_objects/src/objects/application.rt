@@ -22,11 +22,16 @@ use crate::objects::Objects;
 use crate::status::Refusal;
 use crate::value::AttributeValue;
 use cip_application::{
-    SERVICE_DATA_LIMIT, ServiceConfig, TCP_IP_INTERFACE, VALUE_LIMIT, is_standard_class,
+    ETHERNET_LINK, SERVICE_DATA_LIMIT, ServiceConfig, TCP_IP_INTERFACE, VALUE_LIMIT,
+    is_standard_class,
 };
+use cip_bytes::protocol::MESSAGE_ROUTER;
 
 /// The attribute of the TCP/IP Interface with the encapsulation inactivity timeout. (Volume 2, TCP/IP Interface object.)
 const INACTIVITY_TIMEOUT: u16 = 13;
+
+/// The attribute of the Message Router with the number of open connections. (Volume 1, Message Router object.)
+const OPEN_CONNECTIONS: u16 = 3;
 
 impl Objects {
     /// The application object that a class and an instance lead to, if there is one. The class is none that the device
@@ -65,7 +70,7 @@ impl Objects {
         )
     }
 
-    /// Whether the application object at an index is the TCP/IP Interface or the Ethernet Link.
+    /// Whether the application object at an index is the Message Router, the TCP/IP Interface or the Ethernet Link.
     pub(crate) fn is_standard_object(&self, object_index: usize) -> bool
         requires { IsObjectIndex self.now.shapes object_index }
         ensures { result ≡ is_standard_class (object_in self.now.shapes object_index).class }
@@ -86,6 +91,23 @@ impl Objects {
             .application
             .read(TCP_IP_INTERFACE, 1, INACTIVITY_TIMEOUT)
         {
+            Some(value) => Some(uint_in(value)),
+            None => None,
+        }
+    }
+
+    /// The number of open connections that the objects show: attribute 3 of the Message Router. `None` if the device does
+    /// not have this object. Whoever runs the device writes it by `write_attribute`. Allocates nothing.
+    ///
+    /// ```
+    /// if objects.open_connections().is_some_and(|shown| shown != open) {
+    ///     objects.write_attribute(2, 1, 3, 0, &open.to_le_bytes());
+    /// }
+    /// ```
+    pub fn open_connections(&self) -> Option<u16>
+        ensures { result ≡ option_map (little_number 2) (value_at self.now 2 1 3) }
+    {
+        match self.application.read(MESSAGE_ROUTER, 1, OPEN_CONNECTIONS) {
             Some(value) => Some(uint_in(value)),
             None => None,
         }
@@ -241,7 +263,10 @@ impl Objects {
 fn class_revision(class: u16) -> u16
     ensures { result ≡ class_revision class }
 {
-    if is_standard_class(class) { 4 } else { 1 }
+    match class {
+        TCP_IP_INTERFACE | ETHERNET_LINK => 4,
+        _ => 1,
+    }
 }
 
 /// The number of the first two bytes of a value.

@@ -1,7 +1,9 @@
 //! What is kept of the objects over a restart, and objects that start from it.
 ghost use Rattle.std.specs.Prelude.{◌≡◌, true, length, unwrap_or, is_some, slice_get};
 ghost use Rattle.byteorder.specs.Endian.{little_bytes};
+ghost use Rattle.cip_application.specs.Values.{as_whole};
 ghost use Rattle.cip_objects.specs.Contents.{with_value};
+ghost use Rattle.cip_objects.specs.DeviceWrites.{object_by};
 ghost use Rattle.cip_objects.specs.Kept.{kept_names, names_behind_assemblies, with_kept, kept_data_kind};
 ghost use Rattle.cip_objects.specs.Kept.{kept_number_kind, kept_object_kind, restored};
 ghost use Rattle.cip_objects.specs.ObjectRef.{HasCounter};
@@ -13,8 +15,9 @@ use cip_bytes::protocol::{ASSEMBLY, COUNTER};
 
 impl Objects {
     /// The name of a value that is kept over a restart, by its index: the data of the assemblies, the counter's value,
-    /// limit and additions, and the attributes of the application objects, in the order of the configuration. `None`
-    /// past the last. `read_attribute` reads the value. Allocates nothing.
+    /// limit and additions, and the attributes of the application objects, in the order of the configuration. Of an
+    /// object of the standard only the settable attributes are kept. `None` past the last. `read_attribute` reads the
+    /// value. Allocates nothing.
     ///
     /// ```
     /// let mut index = 0;
@@ -42,11 +45,11 @@ impl Objects {
         ensures { result ≡ slice_get (names_behind_assemblies self.now.shapes) index }
     {
         if !self.counter.enabled {
-            return self.application.name(index);
+            return self.application.kept_name(index);
         }
         // The counter has attributes 1 to 3.
         if index >= 3 {
-            return self.application.name(index - 3);
+            return self.application.kept_name(index - 3);
         }
         Some(AttributeName {
             class: COUNTER,
@@ -132,6 +135,7 @@ impl Objects {
     }
 
     /// Sets an attribute of an application object as it was kept.
+    #[tactic(auto, using(crate::proofs::KeptValues::object_kept, crate::proofs::KeptValues::not_kept))]
     fn restore_attribute(&mut self, class: u16, instance: u32, attribute: u16, bytes: &[u8]) -> bool
         ensures restored { self.new
             ≡ unwrap_or (with_kept self.old class instance attribute bytes.now
@@ -139,6 +143,25 @@ impl Objects {
         ensures reported { result
             ≡ is_some (with_kept self.old class instance attribute bytes.now
             (kept_object_kind self.old.shapes class instance attribute)) }
+    {
+        if !self.is_kept_attribute(class, instance, attribute) {
+            return false;
+        }
+        self.put_back(class, instance, attribute, bytes)
+    }
+
+    /// Whether an attribute of an application object is kept.
+    fn is_kept_attribute(&self, class: u16, instance: u32, attribute: u16) -> bool
+        ensures { result ≡ is_some (kept_object_kind self.now.shapes class instance attribute) }
+    {
+        self.application.is_kept(class, instance, attribute)
+    }
+
+    /// Puts bytes in place of the value of an attribute of an application object, and returns whether it did.
+    fn put_back(&mut self, class: u16, instance: u32, attribute: u16, bytes: &[u8]) -> bool
+        ensures restored { self.new
+            ≡ unwrap_or (object_by (as_whole bytes.now) self.old class instance attribute) self.old }
+        ensures reported { result ≡ is_some (object_by (as_whole bytes.now) self.old class instance attribute) }
     {
         self.application.restore(class, instance, attribute, bytes)
     }

@@ -8,13 +8,13 @@ pub returns-then-not-self : goal.returns-then-not-self
 returns-then-not-self c =
     let o = c.self.inside in
     without_counter o.identity (boxed_slice_items o.assemblies) (counter_values o.counter) o.application c.args.self.now c.self.view_is
-    c.args.index c.name.result c.if-not-self.true c.name.ensures
+    c.args.index c.kept_name.result c.if-not-self.true c.kept_name.ensures
 
 pub returns-then-index-ge3 : goal.returns-then-index-ge3
 returns-then-index-ge3 c =
     let o = c.self.inside in
     behind_counter o.identity (boxed_slice_items o.assemblies) (counter_values o.counter) o.application c.args.self.now c.self.view_is
-    c.args.index c.name-then-index-ge3.result c.if-not-self.false (omega (arith, c.if-index-ge3.true)) c.name-then-index-ge3.ensures
+    c.args.index c.kept_name-then-index-ge3.result c.if-not-self.false (omega (arith, c.if-index-ge3.true)) c.kept_name-then-index-ge3.ensures
 
 pub returns : goal.returns
 returns c =

@@ -3,7 +3,7 @@ use Rattle.std.specs.Box.{boxed_slice_items}
 use Rattle.cip_objects.specs.Counter.{counter_values}
 use Rattle.cip_objects.specs.Entries.{AreApart, contents_of, object_shape_of}
 use Rattle.cip_objects.proofs.ObjectLemmas.{device_restores}
-use Rattle.cip_objects.proofs.objects.Objects.restore_attribute.Goals as goal
+use Rattle.cip_objects.proofs.objects.Objects.put_back.Goals as goal
 
 pub invariant_of-self : goal.invariant_of-self
 invariant_of-self c =
