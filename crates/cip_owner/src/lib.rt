@@ -22,6 +22,7 @@ pub mod laws;
 mod owned;
 mod owner;
 mod queue;
+mod reset;
 
 pub use cip_objects::OwnRequest;
 pub use owned::OwnedObjects;
@@ -29,3 +30,4 @@ pub use owner::{NoOwner, OWNER_REPLY_LIMIT, Owner, OwnerReply};
 pub use queue::{
     COMMAND_DATA_LIMIT, CommandResult, Outcome, QUEUE_LIMIT, Queue, RESULT_LIMIT, WaitingCommand,
 };
+pub use reset::{ResetType, Resetting};
