@@ -32,7 +32,8 @@ use Rattle.cip_objects.specs.Service.{service_code, service_in}
 use Rattle.cip_objects.specs.Tables.{Shapes, is_counter_class, class_or_first, object_services, assembly_services, services_of, shape_at, object_at}
 use Rattle.cip_objects.proofs.Effects.{bound, found_some, goes, chosen_code, read_effect}
 use Rattle.cip_objects.proofs.OwnRequests.{unread_request, unread_path, other_request}
-use Rattle.cip_owner.specs.Owned.{OwnedState, asks, asked_within, by_owner, exec_owned}
+use Rattle.cip_owner.specs.Owned.{OwnedState, asks, asked_within, by_owner, exec_owned, is_reset}
+use Rattle.cip_owner.specs.OwnedLaws.{exec_owned_unreset, unreset}
 use Rattle.enip_adapter.specs.Asks.{asks_by_reached, asks_by_step}
 use Rattle.enip_adapter.specs.DeviceRuns.{Requested, objects_after, objects_answer}
 use Rattle.enip_adapter.proofs.ListLemmas.{both}
@@ -223,10 +224,16 @@ exec-unchanged m max_size text r = go (outcome m text >>= with_reply max_size te
         ∙ service-read text g.request g.is_request))
         m g.path g.request.data is.made g.is_performed
 
+-- A Reset has service 0x05.
+reset-none : (w : OwnedState) (text : List ℕ) → Reads text → is_reset w text ≡ false
+reset-none w text r =
+    unreset w text
+    (λ q path e f service class instance. not-service text 0x05 r refl refl (sym (service-read text q e) ∙ service))
+
 owned-unchanged : (w : OwnedState) (max_size : ℕ) (text : List ℕ) → Reads text → (exec_owned w max_size text).after ≡ w
-unfolding exec_owned
 owned-unchanged w max_size text r =
-    ap (λ own. (by_owner w max_size text own).after) (own-none w.objects text r)
+    ap (λ done. done.after) (exec_owned_unreset w max_size text (reset-none w text r))
+    ∙ ap (λ own. (by_owner w max_size text own).after) (own-none w.objects text r)
     ∙ ap (λ m. let o : OwnedState = record w { objects = m } in o) (exec-unchanged w.objects max_size text r)
 
 -- ---- the ledger
