@@ -8,6 +8,7 @@ use Rattle.cip_objects.specs.OwnRequests.{Asked, own_request}
 use Rattle.cip_owner.specs.Owned.{OwnedState, exec_owned, answer_with}
 use Rattle.cip_owner.specs.Queue.{QueueState, QueuedCommand, next_ticket, command_of, finished_by}
 use Rattle.cip_owner.specs.Replies.{Reply}
+use Rattle.cip_owner.specs.Reset.{ResetState}
 use Rattle.cip_ledger.specs.declared.router.LedgerRouter.{LedgerRouter}
 use Rattle.cip_ledger.specs.declared.target.Standing.{Standing}
 use Rattle.cip_ledger.specs.declared.target.Standing.TheVariants as standings
@@ -19,14 +20,18 @@ use Rattle.cip_ledger.specs.Turn.{Turn, turn}
 abbrev pub Device : Type 0
 Device = LedgerRouter OwnedState
 
--- A device with these objects, no reply prepared, and this queue.
+-- A device with these objects, no reply prepared, and this queue. It cannot be reset.
 abbrev pub queued_device : Option LedgerState → Contents → Option QueueState → Device
 queued_device ledger objects queue =
-    record { ledger = ledger; router = record { objects = objects; prepared = None; queue = queue } }
+    record { ledger = ledger; router = record { objects = objects; prepared = None; queue = queue; reset = None } }
 
 -- A device without a queue.
 abbrev pub device_of : Option LedgerState → Contents → Device
 device_of ledger objects = queued_device ledger objects None
+
+-- The device with this in place of what it needs to be reset.
+abbrev pub with_reset : Option ResetState → Device → Device
+with_reset reset device = record device { router = record device.router { reset = reset } }
 
 -- ---- what becomes of a command
 

@@ -3,4 +3,5 @@ pub mod QueueLemmas
 pub mod TicketLemmas
 pub mod RunLemmas
 pub mod OwnedLemmas
+pub mod ResetLemmas
 pub mod OwnerLemmas

@@ -1,5 +1,5 @@
 -- What the objects do with a request before the owner's reply is given.
-use Rattle.std.proofs.Common.{◌≡◌, ℕ, ◌+◌, Bool, true, false, if◌then◌else◌, nat_lt, Option, Some, None, option_map, Result, Ok, Err, List, [], slice_index, ap, sym, subst, refl, ◌∙◌, inl, inr, ◌⊎◌, arith}
+use Rattle.std.proofs.Common.{◌≡◌, ℕ, ◌+◌, Bool, true, false, if◌then◌else◌, nat_lt, Option, Some, None, option_map, Result, Ok, Err, List, [], slice_index, ◌&&◌, ap, ap₂, sym, subst, refl, ◌∙◌, inl, inr, ◌⊎◌, arith}
 use Rattle.std.proofs.lemmas.Bool.Decides.{nat_tests}
 use Rattle.std.specs.Prelude.{is_some}
 use Rattle.cip_application.specs.declared.config.ServiceKind.{ServiceKind}
@@ -14,8 +14,10 @@ use Rattle.cip_objects.proofs.Packets.{own_routed, refused_routed}
 use Rattle.cip_owner.specs.Replies.{Reply}
 use Rattle.cip_owner.specs.Owned.{OwnedState, exec_owned, by_owner, own_executed, is_left, IsDone, IsTaken, is_fit, given}
 use Rattle.cip_owner.specs.Owned.{answered, after_reply, answer_with, refused_with, NOT_PREPARED, RESOURCE_UNAVAILABLE}
-use Rattle.cip_owner.specs.Owned.{ticket_by, queued, of_kind}
-use Rattle.cip_owner.specs.OwnedLaws.{exec_owned_plain}
+use Rattle.cip_owner.specs.Owned.{ticket_by, queued, of_kind, is_reset, IsReset, reset_by, by_reset}
+use Rattle.cip_owner.specs.OwnedLaws.{exec_owned_plain, exec_owned_unreset, own_is_not_reset, reset_is_not_own}
+use Rattle.cip_owner.specs.declared.reset.ResetType.{ResetType}
+use Rattle.cip_owner.specs.Reset.{ResetState, reset_data, reset_type}
 use Rattle.cip_owner.specs.Queue.{QueueState, takes, pushed, after_push}
 use Rattle.cip_owner.specs.QueueLaws.{queue_law}
 use Rattle.cip_owner.specs.QueueRuns.{after_steps, steps_of_kind, steps_of_own}
@@ -25,8 +27,8 @@ use Rattle.cip_owner.proofs.QueueLemmas.{ticket_is, no_ticket, push_taken, push_
 pub exec_owned_own : (w : OwnedState) (max_size : ℕ) (text : List ℕ) (own : Result Asked Refusal)
     → own_request w.objects text ≡ Some own
     → exec_owned w max_size text ≡ own_executed w max_size (slice_index text 0) own
-unfolding exec_owned
-exec_owned_own w max_size text own e = ap (by_owner w max_size text) e
+exec_owned_own w max_size text own e =
+    exec_owned_unreset w max_size text (own_is_not_reset w text own e) ∙ ap (by_owner w max_size text) e
 
 left_not_success : (status : ℕ) → is_left status ≡ true → status ≡ 0x00 → ⊥
 left_not_success status e f = grind (arith, nat_tests)
@@ -46,7 +48,7 @@ pub unchanged : (m : Contents) (max_size : ℕ) (text : List ℕ)
     → is_left (general_status (exec_routed m max_size text).answer) ≡ true → (exec_routed m max_size text).after ≡ m
 unchanged m max_size text e =
     let status = general_status (exec_routed m max_size text).answer in
-    refused_routed m max_size text (left_not_success status e, (left_not_partial status e, left_not_embedded status e))
+    refused_routed m max_size text (left_not_success status e, left_not_partial status e, left_not_embedded status e)
 
 -- A reply with another status is to no request to the owner.
 pub plain : (m : Contents) (max_size : ℕ) (text : List ℕ)
@@ -63,22 +65,22 @@ pub record AreExecuted (w : OwnedState) (max_size : ℕ) (text : List ℕ) (afte
   pub state : after ≡ (exec_owned w max_size text).after
   pub reply : new ≡ (exec_owned w max_size text).answer
 
-pub executed_plain : (w : OwnedState) (max_size : ℕ) (text : List ℕ) → own_request w.objects text ≡ None
-    → AreExecuted w max_size text (record w { objects = (exec_routed w.objects max_size text).after }) (exec_routed w.objects max_size text).answer
-executed_plain w max_size text e = record {
-  state = sym (ap (λ x. x.after) (exec_owned_plain w max_size text e));
-  reply = sym (ap (λ x. x.answer) (exec_owned_plain w max_size text e));
+pub executed_plain : (w : OwnedState) (max_size : ℕ) (text : List ℕ) → is_reset w text ≡ false
+    → own_request w.objects text ≡ None → AreExecuted w max_size text (record w { objects = (exec_routed w.objects max_size text).after }) (exec_routed w.objects max_size text).answer
+executed_plain w max_size text unreset e = record {
+  state = sym (ap (λ x. x.after) (exec_owned_plain w max_size text unreset e));
+  reply = sym (ap (λ x. x.answer) (exec_owned_plain w max_size text unreset e));
 }
 
 by_own_request : (w : OwnedState) (max_size : ℕ) (text : List ℕ) (own : Option (Result Asked Refusal))
-    (after : OwnedState) (new : List ℕ) → own_request w.objects text ≡ own
+    (after : OwnedState) (new : List ℕ) → is_reset w text ≡ false → own_request w.objects text ≡ own
     → (exec_routed w.objects max_size text).after ≡ w.objects
     → IsDone (record w { objects = (exec_routed w.objects max_size text).after }) max_size text (exec_routed w.objects max_size text).answer own after new
     → AreExecuted w max_size text after new
-by_own_request w max_size text None after new e same done =
-    let p = executed_plain w max_size text e in
+by_own_request w max_size text None after new unreset e same done =
+    let p = executed_plain w max_size text unreset e in
     record { state = done.0 ∙ p.state; reply = done.1 ∙ p.reply }
-by_own_request w max_size text (Some own) after new e same done =
+by_own_request w max_size text (Some own) after new unreset e same done =
     let is : (record w { objects = (exec_routed w.objects max_size text).after }) ≡ w = ap (λ m. record w { objects = m }) same in
     record {
       state = done.0 ∙ (ap (λ v. (own_executed v max_size (slice_index text 0) own).after) is ∙ sym (ap (λ x. x.after) (exec_owned_own w max_size text own e)));
@@ -110,32 +112,32 @@ not_taken w max_size text false after new is e = is
 
 -- A request that may be to the owner.
 pub executed_own : (w : OwnedState) (max_size : ℕ) (text : List ℕ) (after : OwnedState) (new : List ℕ)
-    → is_left (general_status (exec_routed w.objects max_size text).answer) ≡ true
+    → is_reset w text ≡ false → is_left (general_status (exec_routed w.objects max_size text).answer) ≡ true
     → IsDone (record w { objects = (exec_routed w.objects max_size text).after }) max_size text (exec_routed w.objects max_size text).answer
     (own_request (exec_routed w.objects max_size text).after text) after new
     → AreExecuted w max_size text after new
-executed_own w max_size text after new e done =
+executed_own w max_size text after new unreset e done =
     let same = unchanged w.objects max_size text e in
-    by_own_request w max_size text (own_request w.objects text) after new refl same
+    by_own_request w max_size text (own_request w.objects text) after new unreset refl same
     (subst (λ own. IsDone (record w { objects = (exec_routed w.objects max_size text).after }) max_size text (exec_routed w.objects max_size text).answer own after new)
     (ap (λ m. own_request m text) same) done)
 
 -- The same, for contents and a reply that a call of the objects left.
 pub left_executed : (w : OwnedState) (max_size : ℕ) (text : List ℕ) (m : Contents) (first : List ℕ) (after : OwnedState)
-    (new : List ℕ) → m ≡ (exec_routed w.objects max_size text).after → first ≡ (exec_routed w.objects max_size text).answer
-    → is_left (general_status first) ≡ true
+    (new : List ℕ) → is_reset w text ≡ false → m ≡ (exec_routed w.objects max_size text).after
+    → first ≡ (exec_routed w.objects max_size text).answer → is_left (general_status first) ≡ true
     → IsDone (record w { objects = m }) max_size text first (own_request m text) after new
     → AreExecuted w max_size text after new
-left_executed w max_size text m first after new em ef e done =
-    executed_own w max_size text after new (subst (λ f. is_left (general_status f) ≡ true) ef e)
+left_executed w max_size text m first after new unreset em ef e done =
+    executed_own w max_size text after new unreset (subst (λ f. is_left (general_status f) ≡ true) ef e)
     (subst (λ f. IsDone (record w { objects = (exec_routed w.objects max_size text).after }) max_size text f (own_request (exec_routed w.objects max_size text).after text) after new) ef
     (subst (λ n. IsDone (record w { objects = n }) max_size text first (own_request n text) after new) em done))
 
 pub other_executed : (w : OwnedState) (max_size : ℕ) (text : List ℕ) (m : Contents) (first : List ℕ)
-    → m ≡ (exec_routed w.objects max_size text).after → first ≡ (exec_routed w.objects max_size text).answer
+    → is_reset w text ≡ false → m ≡ (exec_routed w.objects max_size text).after → first ≡ (exec_routed w.objects max_size text).answer
     → is_left (general_status first) ≡ false → AreExecuted w max_size text (record w { objects = m }) first
-other_executed w max_size text m first em ef e =
-    let p = executed_plain w max_size text (plain w.objects max_size text (subst (λ f. is_left (general_status f) ≡ false) ef e)) in
+other_executed w max_size text m first unreset em ef e =
+    let p = executed_plain w max_size text unreset (plain w.objects max_size text (subst (λ f. is_left (general_status f) ≡ false) ef e)) in
     record { state = ap (λ n. record w { objects = n }) em ∙ p.state; reply = ef ∙ p.reply }
 
 -- What becomes of a prepared reply: it is given if it can be.
@@ -200,9 +202,23 @@ queue_own w max_size text None = unchanged_queue w.queue
 queue_own w max_size text (Some (Err refusal)) = unchanged_queue w.queue
 queue_own w max_size text (Some (Ok asked)) = queue_kind asked.kind w max_size (slice_index text 0) asked
 
+-- A Reset leaves the queue.
+queue_type : (w : OwnedState) (service : ℕ) (r : ResetState) (type : Option ResetType)
+    → (reset_by w service r type).after.queue ≡ w.queue
+queue_type w service r None = refl
+queue_type w service r (Some type) = refl
+
+queue_reset : (w : OwnedState) (max_size : ℕ) (text : List ℕ) (reset : Option ResetState) (content : Option (List ℕ)) → reset_data text ≡ content
+    → (by_reset w max_size text reset content).after.queue ≡ option_map (λ q. after_steps q (steps_of_own (own_request w.objects text))) w.queue
+queue_reset w max_size text None content e = queue_own w max_size text (own_request w.objects text)
+queue_reset w max_size text (Some r) None e = queue_own w max_size text (own_request w.objects text)
+queue_reset w max_size text (Some r) (Some content) e =
+    queue_type w (slice_index text 0) r (reset_type content) ∙ unchanged_queue w.queue
+    ∙ ap (λ own. option_map (λ q. after_steps q (steps_of_own own)) w.queue) (sym (reset_is_not_own w.objects text (ap (λ c. is_some c) e)))
+
 pub queue : queue_law
 unfolding exec_owned
-queue w max_size text = queue_own w max_size text (own_request w.objects text)
+queue w max_size text = queue_reset w max_size text w.reset (reset_data text) refl
 
 -- A request of a queued service, by the ticket that it would have.
 pub queued_some : (w : OwnedState) (service : ℕ) (asked : Asked) (queue : Option QueueState) (ticket : ℕ) → w.queue ≡ queue → ticket_by queue asked ≡ Some ticket
@@ -224,3 +240,37 @@ queued_none w service asked (Some q) e f =
       ap (λ taken. if taken then answered (record w { queue = Some (pushed q asked) }) (answer_with service 0 (le 4 q.next)) else refused_with w service RESOURCE_UNAVAILABLE) refused,
       ap (λ p. Some p) (push_refused q asked refused),
     )
+
+-- ---- a Reset
+
+-- A Reset that a call executed, or a request that is none.
+pub reset_taken : (w : OwnedState) (max_size : ℕ) (text : List ℕ) (reset : Option ResetState) (content : Option (List ℕ)) (did : Bool)
+    (after : OwnedState) (new : List ℕ) → w.reset ≡ reset → reset_data text ≡ content
+    → IsReset w text reset content did after new → did ≡ true → AreExecuted w max_size text after new
+unfolding exec_owned
+reset_taken w max_size text None content did after new er ec is e = absurd (cc)
+reset_taken w max_size text (Some r) None did after new er ec is e = absurd (cc)
+reset_taken w max_size text (Some r) (Some content) did after new er ec is e = record {
+  state = is.1.0 ∙ sym (ap₂ (λ x y. (by_reset w max_size text x y).after) er ec);
+  reply = is.1.1 ∙ sym (ap₂ (λ x y. (by_reset w max_size text x y).answer) er ec);
+}
+
+-- The state after a call that executed no Reset, and that the request is none.
+pub reset_not_taken : (w : OwnedState) (text : List ℕ) (reset : Option ResetState) (content : Option (List ℕ)) (did : Bool)
+    (after : OwnedState) (new : List ℕ) → w.reset ≡ reset → reset_data text ≡ content
+    → IsReset w text reset content did after new → did ≡ false → (after ≡ w) × (is_reset w text ≡ false)
+reset_not_taken w text None content did after new er ec is e = (is.1, ap₂ (λ x y. is_some y && is_some x) er ec ∙ no_reset content)
+  where
+    no_reset : (content : Option (List ℕ)) → (is_some content && false) ≡ false
+    no_reset None = refl
+    no_reset (Some content) = refl
+reset_not_taken w text (Some r) None did after new er ec is e = (is.1, ap₂ (λ x y. is_some y && is_some x) er ec)
+reset_not_taken w text (Some r) (Some content) did after new er ec is e = absurd (cc)
+
+-- The state after a call that executed no Reset and one that gave no prepared reply.
+pub neither_taken : (w : OwnedState) (max_size : ℕ) (text : List ℕ) (did_reset did : Bool) (between after : OwnedState) (first new : List ℕ)
+    → IsReset w text w.reset (reset_data text) did_reset between first → did_reset ≡ false
+    → IsTaken between max_size text did after new → did ≡ false → (after ≡ w) × (is_reset w text ≡ false)
+neither_taken w max_size text did_reset did between after first new reset e taken f =
+    let unreset = reset_not_taken w text w.reset (reset_data text) did_reset between first refl refl reset e in
+    (not_taken between max_size text did after new taken f ∙ unreset.0, unreset.1)

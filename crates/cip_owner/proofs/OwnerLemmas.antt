@@ -6,9 +6,11 @@ use Rattle.cip_bytes.specs.Numbers.{le}
 use Rattle.cip_objects.specs.declared.status.Refusal.{Refusal}
 use Rattle.cip_objects.specs.OwnRequests.{Asked, own_request}
 use Rattle.cip_objects.specs.Router.{RepliesWellFormed, REPLY_TOO_LARGE}
-use Rattle.cip_owner.specs.Owned.{OwnedState, Executed, answered, answer_with, exec_owned, is_asked, asks, asked_within, given as given_to, queued, of_kind, by_owner, refused_with, RESOURCE_UNAVAILABLE}
+use Rattle.cip_owner.specs.Owned.{OwnedState, Executed, answered, answer_with, exec_owned, is_asked, asks, asked_within, given as given_to, queued, of_kind, by_owner, refused_with, reset_by, by_reset, RESOURCE_UNAVAILABLE}
 use Rattle.cip_owner.specs.Queue.{QueueState, takes, pushed}
-use Rattle.cip_owner.specs.OwnedLaws.{exec_owned_begins, exec_owned_within}
+use Rattle.cip_owner.specs.OwnedLaws.{exec_owned_begins, exec_owned_within, exec_owned_unreset, own_is_not_reset, asks_own}
+use Rattle.cip_owner.specs.declared.reset.ResetType.{ResetType}
+use Rattle.cip_owner.specs.Reset.{ResetState, reset_data, reset_type}
 use Rattle.cip_owner.specs.OwnerLaws.{with_prepared, given_law, unasked_law, unprepared_law, asked_alike_law}
 use Rattle.cip_owner.proofs.OwnedLemmas.{given_fit}
 
@@ -47,8 +49,10 @@ by_own w max_size text asked (Some (Ok q)) e = by_kind w max_size (slice_index t
 -- A request that asks takes what is prepared.
 pub asking : (w : OwnedState) (max_size : ℕ) (text : List ℕ) (asked : Asked) → asks w.objects max_size text ≡ Some asked
     → exec_owned w max_size text ≡ given_to w (slice_index text 0) asked w.prepared
-unfolding asks exec_owned
-asking w max_size text asked e = by_own w max_size text asked (own_request w.objects text) e
+unfolding asks
+asking w max_size text asked e =
+    exec_owned_unreset w max_size text (own_is_not_reset w text (Ok asked) (asks_own w.objects max_size text asked e).0)
+    ∙ by_own w max_size text asked (own_request w.objects text) e
 
 pub given : given_law
 given w max_size text asked reply e fit =
@@ -90,9 +94,22 @@ unasked_by w max_size text None e = refl
 unasked_by w max_size text (Some (Err refusal)) e = refl
 unasked_by w max_size text (Some (Ok q)) e = unasked_kind w max_size (slice_index text 0) q q.kind e
 
+unasked_type : (w : OwnedState) (service : ℕ) (r : ResetState) (type : Option ResetType)
+    → (reset_by w service r type).after.prepared ≡ w.prepared
+unasked_type w service r None = refl
+unasked_type w service r (Some type) = refl
+
+unasked_reset : (w : OwnedState) (max_size : ℕ) (text : List ℕ) (reset : Option ResetState) (content : Option (List ℕ))
+    → asked_within max_size (own_request w.objects text) ≡ None
+    → (by_reset w max_size text reset content).after.prepared ≡ w.prepared
+unasked_reset w max_size text None content e = unasked_by w max_size text (own_request w.objects text) e
+unasked_reset w max_size text (Some r) None e = unasked_by w max_size text (own_request w.objects text) e
+unasked_reset w max_size text (Some r) (Some content) e =
+    unasked_type w (slice_index text 0) r (reset_type content)
+
 pub unasked : unasked_law
 unfolding asks exec_owned
-unasked w max_size text e = unasked_by w max_size text (own_request w.objects text) e
+unasked w max_size text e = unasked_reset w max_size text w.reset (reset_data text) e
 
 pub alike : asked_alike_law
 alike w prepared max_size text = refl

@@ -1,8 +1,11 @@
 pub mod Replies
 pub mod Queue
 pub mod QueueViews
+pub mod Reset
 pub mod Owned
 pub mod OwnedLaws
+pub mod ResetLaws
+pub mod ResetRows
 pub mod OwnerLaws
 pub mod QueueRuns
 pub mod QueueLaws

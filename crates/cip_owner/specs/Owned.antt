@@ -1,6 +1,6 @@
 -- The objects, with a reply that the owner of the device prepared and the queue of commands: what becomes of a request.
 use Rattle.std.specs.Prelude.{◌≡◌, ℕ, ◌+◌, ◌==◌, ◌&&◌, ◌||◌, Bool, true, false, not, nat_lt, nat_le, if◌then◌else◌}
-use Rattle.std.specs.Prelude.{List, [], ◌∷◌, length, slice_index, Option, Some, None, Result, Ok, Err}
+use Rattle.std.specs.Prelude.{List, [], ◌∷◌, length, slice_index, Option, Some, None, is_some, Result, Ok, Err}
 use Rattle.cip_application.specs.declared.config.ServiceKind.{ServiceKind}
 use Rattle.cip_application.specs.declared.config.ServiceKind.TheVariants as kinds
 use Rattle.cip_bytes.specs.Numbers.{le}
@@ -16,8 +16,10 @@ use Rattle.cip_owner.specs.declared.owned.OwnedObjects.{OwnedObjects}
 use Rattle.cip_owner.specs.Queue.{QueueState, QueueResult, QueueOutcome, Pending, Done, Unknown}
 use Rattle.cip_owner.specs.Queue.{takes, next_ticket, pushed, result_of}
 use Rattle.cip_owner.specs.Replies.{Reply}
+use Rattle.cip_owner.specs.declared.reset.ResetType.{ResetType}
+use Rattle.cip_owner.specs.Reset.{ResetState, reset_data, reset_type, after_one, objects_after_reset}
 
--- The objects, the reply that is prepared, and the queue of commands.
+-- The objects, the reply that is prepared, the queue of commands, and what is needed to reset the device.
 abbrev pub OwnedState : Type 0
 OwnedState = OwnedObjects
 
@@ -32,6 +34,10 @@ RESOURCE_UNAVAILABLE = 0x02
 -- An object has no command with a ticket: object does not exist.
 abbrev pub UNKNOWN_OBJECT : ℕ
 UNKNOWN_OBJECT = 0x16
+
+-- The data of a Reset say no type: invalid parameter.
+abbrev pub INVALID_PARAMETER : ℕ
+INVALID_PARAMETER = 0x20
 
 -- The owner is asked for services of this kind while the peer waits.
 abbrev pub is_asked : ServiceKind → Bool
@@ -147,10 +153,28 @@ by_owner w max_size text None =
     (exec_routed w.objects max_size text).answer
 by_owner w max_size text (Some own) = own_executed w max_size (slice_index text 0) own
 
--- Executes a request whose reply may have `max_size` bytes. A request to the owner gets the reply that is prepared, is
--- put into the queue, or gets the result of one that was; every other request is executed by the objects.
+-- What becomes of a Reset of this type. The reply that is prepared and the queue stay.
+abbrev pub reset_by : OwnedState → ℕ → ResetState → Option ResetType → Executed
+reset_by w service r None = refused_with w service INVALID_PARAMETER
+reset_by w service r (Some type) =
+    answered
+    (record w { objects = objects_after_reset type r w.objects; reset = Some (after_one type r) })
+    (answer_with service 0 [])
+
+abbrev pub by_reset : OwnedState → ℕ → List ℕ → Option ResetState → Option (List ℕ) → Executed
+by_reset w max_size text None content = by_owner w max_size text (own_request w.objects text)
+by_reset w max_size text (Some r) None = by_owner w max_size text (own_request w.objects text)
+by_reset w max_size text (Some r) (Some content) = reset_by w (slice_index text 0) r (reset_type content)
+
+-- Executes a request whose reply may have `max_size` bytes. A device that can be reset executes a Reset of the Identity
+-- object. A request to the owner gets the reply that is prepared, is put into the queue, or gets the result of one that
+-- was; every other request is executed by the objects.
 unfoldable pub exec_owned : OwnedState → ℕ → List ℕ → Executed
-exec_owned w max_size text = by_owner w max_size text (own_request w.objects text)
+exec_owned w max_size text = by_reset w max_size text w.reset (reset_data text)
+
+-- The request is a Reset, and the device can be reset.
+abbrev pub is_reset : OwnedState → List ℕ → Bool
+is_reset w text = is_some (reset_data text) && is_some w.reset
 
 -- The general status of a request that the objects may leave to the owner.
 abbrev pub is_left : ℕ → Bool
@@ -168,3 +192,12 @@ abbrev pub IsTaken : OwnedState → ℕ → List ℕ → Bool → OwnedState →
 IsTaken w max_size text true after new =
     (after ≡ (exec_owned w max_size text).after) × (new ≡ (exec_owned w max_size text).answer)
 IsTaken w max_size text false after new = after ≡ w
+
+-- What a call leaves that executes a Reset and returns true, or returns false and leaves the state.
+abbrev pub IsReset : OwnedState → List ℕ → Option ResetState → Option (List ℕ) → Bool → OwnedState → List ℕ → Type 0
+IsReset w text None content did after new = (did ≡ false) × (after ≡ w)
+IsReset w text (Some r) None did after new = (did ≡ false) × (after ≡ w)
+IsReset w text (Some r) (Some content) did after new =
+    (did ≡ true)
+    × ((after ≡ (reset_by w (slice_index text 0) r (reset_type content)).after)
+    × (new ≡ (reset_by w (slice_index text 0) r (reset_type content)).answer))

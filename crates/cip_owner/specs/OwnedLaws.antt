@@ -1,23 +1,35 @@
 -- What holds of every execution by the objects and their owner.
 use Rattle.std.specs.Prelude.{◌≡◌, ℕ, ◌+◌, ◌≤◌, Bool, true, false, not, ◌||◌, nat_lt, List, [], ◌∷◌, length}
-use Rattle.std.specs.Prelude.{slice_index, Option, Some, None, Result, Ok, Err, refl, cond}
+use Rattle.std.specs.Prelude.{slice_index, Option, Some, None, Result, Ok, Err, refl, cond, ◌==◌, ◌&&◌, is_some}
+use Rattle.std.specs.Prelude.{option_map, if◌then◌else◌}
+use Rattle.std.specs.Option.{option_and_then}
 use Rattle.std.proofs.Common.{ap, sym, ◌∙◌, arith}
 use Rattle.std.proofs.lemmas.Bool.Decides.{nat_tests}
 use Rattle.cip_application.specs.declared.config.ServiceKind.{ServiceKind}
 use Rattle.cip_application.specs.declared.config.ServiceKind.TheVariants as kinds
+use Rattle.cip_application.specs.Objects.{service_in}
 use Rattle.cip_bytes.specs.Numbers.{le}
+use Rattle.cip_message.specs.declared.path.Path.{Path}
+use Rattle.cip_message.specs.declared.path.PathFault.{PathFault}
+use Rattle.cip_message.specs.declared.request.RequestFault.{RequestFault}
+use Rattle.cip_message.specs.PathReading.{path_of}
+use Rattle.cip_message.specs.Request.{Request, request_of}
 use Rattle.cip_objects.specs.declared.status.Refusal.{Refusal}
 use Rattle.cip_objects.specs.Contents.{Contents}
 use Rattle.cip_objects.specs.Packets.{exec_routed}
 use Rattle.cip_objects.specs.PacketLaws.{exec_routed_too_large, exec_routed_begins, exec_routed_within}
-use Rattle.cip_objects.specs.OwnRequests.{Asked, own_request}
+use Rattle.cip_objects.specs.OwnRequests.{Asked, own_request, asked_of, asked_by_path, asked_by_request, ask_set}
+use Rattle.cip_objects.specs.OwnRequests.{ask_service, checked_attribute, is_own_service, own_object}
 use Rattle.cip_objects.specs.Router.{general_status, IsReplyTo, REPLY_TOO_LARGE}
 use Rattle.cip_owner.specs.Queue.{QueueState, QueueResult, QueueOutcome, Pending, Done, Unknown, takes, pushed}
 use Rattle.cip_owner.specs.Queue.{result_of}
 use Rattle.cip_owner.specs.Replies.{Reply}
 use Rattle.cip_owner.specs.Owned.{OwnedState, Executed, answered, exec_owned, by_owner, given, is_fit, after_reply}
 use Rattle.cip_owner.specs.Owned.{answer_with, refused_with, NOT_PREPARED, RESOURCE_UNAVAILABLE, is_asked, asks}
-use Rattle.cip_owner.specs.Owned.{asked_within, queued, outcome_answer, result_answer, of_kind}
+use Rattle.cip_owner.specs.Owned.{asked_within, queued, outcome_answer, result_answer, of_kind, reset_by, by_reset}
+use Rattle.cip_owner.specs.Owned.{is_reset}
+use Rattle.cip_owner.specs.declared.reset.ResetType.{ResetType}
+use Rattle.cip_owner.specs.Reset.{ResetState, reset_data, reset_data_of, reset_type, is_identity}
 
 -- ---- a reply that is too large goes with an unchanged state
 
@@ -84,10 +96,23 @@ too_large_by w max_size text (Some (Err refusal)) s = refl
 too_large_by w max_size text (Some (Ok asked)) s =
     too_large_kind asked.kind w max_size (slice_index text 0) asked s
 
+too_large_type : (w : OwnedState) (service : ℕ) (r : ResetState) (type : Option ResetType)
+    → general_status (reset_by w service r type).answer ≡ REPLY_TOO_LARGE → (reset_by w service r type).after ≡ w
+too_large_type w service r None s = refl
+too_large_type w service r (Some type) s = absurd (omega (arith, s))
+
+too_large_reset : (w : OwnedState) (max_size : ℕ) (text : List ℕ) (reset : Option ResetState) (content : Option (List ℕ))
+    → general_status (by_reset w max_size text reset content).answer ≡ REPLY_TOO_LARGE
+    → (by_reset w max_size text reset content).after ≡ w
+too_large_reset w max_size text None content s = too_large_by w max_size text (own_request w.objects text) s
+too_large_reset w max_size text (Some r) None s = too_large_by w max_size text (own_request w.objects text) s
+too_large_reset w max_size text (Some r) (Some content) s =
+    too_large_type w (slice_index text 0) r (reset_type content) s
+
 pub exec_owned_too_large : (w : OwnedState) (max_size : ℕ) (text : List ℕ)
     → general_status (exec_owned w max_size text).answer ≡ REPLY_TOO_LARGE → (exec_owned w max_size text).after ≡ w
 unfolding exec_owned
-exec_owned_too_large w max_size text s = too_large_by w max_size text (own_request w.objects text) s
+exec_owned_too_large w max_size text s = too_large_reset w max_size text w.reset (reset_data text) s
 
 -- ---- each reply has a head, and answers the service of the request
 
@@ -147,9 +172,20 @@ begins_by w max_size text None = exec_routed_begins w.objects max_size text
 begins_by w max_size text (Some (Err refusal)) = record { head = omega arith; service = refl }
 begins_by w max_size text (Some (Ok asked)) = begins_kind asked.kind w max_size text asked
 
+begins_type : (w : OwnedState) (text : List ℕ) (r : ResetState) (type : Option ResetType)
+    → IsReplyTo text (reset_by w (slice_index text 0) r type).answer
+begins_type w text r None = record { head = omega arith; service = refl }
+begins_type w text r (Some type) = record { head = omega arith; service = refl }
+
+begins_reset : (w : OwnedState) (max_size : ℕ) (text : List ℕ) (reset : Option ResetState) (content : Option (List ℕ))
+    → IsReplyTo text (by_reset w max_size text reset content).answer
+begins_reset w max_size text None content = begins_by w max_size text (own_request w.objects text)
+begins_reset w max_size text (Some r) None = begins_by w max_size text (own_request w.objects text)
+begins_reset w max_size text (Some r) (Some content) = begins_type w text r (reset_type content)
+
 pub exec_owned_begins : (w : OwnedState) (max_size : ℕ) (text : List ℕ) → IsReplyTo text (exec_owned w max_size text).answer
 unfolding exec_owned
-exec_owned_begins w max_size text = begins_by w max_size text (own_request w.objects text)
+exec_owned_begins w max_size text = begins_reset w max_size text w.reset (reset_data text)
 
 -- ---- each reply has at most `max_size` bytes
 
@@ -212,20 +248,89 @@ within_by w max_size text (Some (Err refusal)) h = omega (arith, h)
 within_by w max_size text (Some (Ok asked)) h =
     within_kind asked.kind w max_size (slice_index text 0) asked h
 
+within_type : (w : OwnedState) (max_size service : ℕ) (r : ResetState) (type : Option ResetType) → 8 ≤ max_size
+    → length (reset_by w service r type).answer ≤ max_size
+within_type w max_size service r None h = omega (arith, h)
+within_type w max_size service r (Some type) h = omega (arith, h)
+
+within_reset : (w : OwnedState) (max_size : ℕ) (text : List ℕ) (reset : Option ResetState) (content : Option (List ℕ))
+    → 8 ≤ max_size → length (by_reset w max_size text reset content).answer ≤ max_size
+within_reset w max_size text None content h = within_by w max_size text (own_request w.objects text) h
+within_reset w max_size text (Some r) None h = within_by w max_size text (own_request w.objects text) h
+within_reset w max_size text (Some r) (Some content) h =
+    within_type w max_size (slice_index text 0) r (reset_type content) h
+
 pub exec_owned_within : (w : OwnedState) (max_size : ℕ) (text : List ℕ) → 8 ≤ max_size
     → length (exec_owned w max_size text).answer ≤ max_size
 unfolding exec_owned
-exec_owned_within w max_size text h = within_by w max_size text (own_request w.objects text) h
+exec_owned_within w max_size text h = within_reset w max_size text w.reset (reset_data text) h
+
+-- ---- a Reset is not to the owner
+
+not_asked : (m : Contents) (q : Request) (p : Path) → q.service ≡ 0x05 → asked_of m q p ≡ None
+not_asked m q p e =
+    ap (λ (s : ℕ). if s == 0x10 then
+    option_map (ask_set q p) (option_and_then (checked_attribute m p.class p.instance) p.attribute)
+    else option_map (ask_service q p) (if is_own_service s then
+    option_and_then (λ o. service_in s o.services) (own_object m.shapes p.class p.instance)
+    else None)) e
+
+not_asked_by : (m : Contents) (q : Request) (path : Result Path PathFault) → q.service ≡ 0x05
+    → asked_by_path m q path ≡ None
+not_asked_by m q (Ok p) e = not_asked m q p e
+not_asked_by m q (Err fault) e = refl
+
+not_own_service : (m : Contents) (q : Request) (is : Bool) → (q.service == 0x05) ≡ is
+    → is_some (cond {A = Option (List ℕ)} (is && is_identity (path_of q.path)) (Some q.data) None) ≡ true
+    → asked_by_path m q (path_of q.path) ≡ None
+not_own_service m q true is e = not_asked_by m q (path_of q.path) (grind (arith, nat_tests))
+not_own_service m q false is e = absurd (cc)
+
+not_own_by : (m : Contents) (request : Result Request RequestFault) → is_some (reset_data_of request) ≡ true
+    → asked_by_request m request ≡ None
+not_own_by m (Ok q) e = not_own_service m q (q.service == 0x05) refl e
+not_own_by m (Err fault) e = absurd (cc)
+
+-- A request that is a Reset of the Identity object is not to the owner.
+pub reset_is_not_own : (m : Contents) (text : List ℕ) → is_some (reset_data text) ≡ true → own_request m text ≡ None
+unfolding reset_data own_request
+reset_is_not_own m text e = not_own_by m (request_of text) e
+
+-- A request to the owner is not a Reset.
+pub own_is_not_reset : (w : OwnedState) (text : List ℕ) (own : Result Asked Refusal)
+    → own_request w.objects text ≡ Some own → is_reset w text ≡ false
+own_is_not_reset w text own e = by_data (is_some (reset_data text)) refl
+  where
+    by_data : (is : Bool) → is_some (reset_data text) ≡ is → (is_some (reset_data text) && is_some w.reset) ≡ false
+    by_data true f = absurd (some_is_none (sym e ∙ reset_is_not_own w.objects text f))
+      where
+        some_is_none : ◌≡◌ {A = Option (Result Asked Refusal)} (Some own) None → ⊥
+        some_is_none g = cc
+    by_data false f = ap (λ is. is && is_some w.reset) f
+
+unreset_by : (w : OwnedState) (max_size : ℕ) (text : List ℕ) (reset : Option ResetState) (content : Option (List ℕ))
+    → (is_some content && is_some reset) ≡ false
+    → by_reset w max_size text reset content ≡ by_owner w max_size text (own_request w.objects text)
+unreset_by w max_size text None content e = refl
+unreset_by w max_size text (Some r) None e = refl
+unreset_by w max_size text (Some r) (Some content) e = absurd (cc)
+
+-- A request that is not a Reset, or one of a device that cannot be reset, is executed by the owner or the objects.
+pub exec_owned_unreset : (w : OwnedState) (max_size : ℕ) (text : List ℕ) → is_reset w text ≡ false
+    → exec_owned w max_size text ≡ by_owner w max_size text (own_request w.objects text)
+unfolding exec_owned
+exec_owned_unreset w max_size text e = unreset_by w max_size text w.reset (reset_data text) e
 
 -- ---- requests that are not the owner's
 
--- A request that is not to the owner is executed by the objects, and leaves what is prepared.
-pub exec_owned_plain : (w : OwnedState) (max_size : ℕ) (text : List ℕ) → own_request w.objects text ≡ None
+-- A request that is neither to the owner nor a Reset is executed by the objects, and leaves what is prepared.
+pub exec_owned_plain : (w : OwnedState) (max_size : ℕ) (text : List ℕ) → is_reset w text ≡ false
+    → own_request w.objects text ≡ None
     → exec_owned w max_size text
     ≡ answered (record w { objects = (exec_routed w.objects max_size text).after })
     (exec_routed w.objects max_size text).answer
-unfolding exec_owned
-exec_owned_plain w max_size text e = ap (by_owner w max_size text) e
+exec_owned_plain w max_size text unreset e =
+    exec_owned_unreset w max_size text unreset ∙ ap (by_owner w max_size text) e
 
 -- ---- requests that the owner is asked about
 
@@ -254,3 +359,44 @@ pub asks_own : (m : Contents) (max_size : ℕ) (text : List ℕ) (asked : Asked)
     → (own_request m text ≡ Some (Ok asked)) × (asked.kind ≡ kinds.Asked)
 unfolding asks
 asks_own m max_size text asked e = asks_by max_size (own_request m text) asked e
+
+-- ---- requests that are no Reset
+
+-- These bytes are not a request with service 0x05 to class 1, instance 1.
+abbrev pub IsNoReset : List ℕ → Type 0
+IsNoReset text =
+    (q : Request) (path : Path) → request_of text ≡ Ok q → path_of q.path ≡ Ok path → q.service ≡ 0x05
+    → path.class ≡ 1 → path.instance ≡ 1 → ⊥
+
+both_true : (a b : Bool) → (a && b) ≡ true → (a ≡ true) × (b ≡ true)
+both_true true true e = (refl, refl)
+both_true true false e = absurd (cc)
+both_true false b e = absurd (cc)
+
+no_reset_to : (text : List ℕ) (q : Request) (path : Result Path PathFault) → IsNoReset text → request_of text ≡ Ok q
+    → path_of q.path ≡ path → (q.service == 0x05) ≡ true → is_identity path ≡ true → ⊥
+no_reset_to text q (Err fault) none e p service identity = absurd (cc)
+no_reset_to text q (Ok path) none e p service identity =
+    let both = both_true (path.class == 1) (path.instance == 1) identity in
+    none q path e p (grind (arith, nat_tests)) (grind (arith, nat_tests)) (grind (arith, nat_tests))
+
+no_reset_by : (text : List ℕ) (q : Request) → IsNoReset text → request_of text ≡ Ok q
+    → ((q.service == 0x05) && is_identity (path_of q.path)) ≡ false
+no_reset_by text q none e = by_test ((q.service == 0x05) && is_identity (path_of q.path)) refl
+  where
+    by_test : (is : Bool) → ((q.service == 0x05) && is_identity (path_of q.path)) ≡ is
+        → ((q.service == 0x05) && is_identity (path_of q.path)) ≡ false
+    by_test false f = f
+    by_test true f =
+        let both = both_true (q.service == 0x05) (is_identity (path_of q.path)) f in
+        absurd (no_reset_to text q (path_of q.path) none e refl both.0 both.1)
+
+no_reset_data : (text : List ℕ) (request : Result Request RequestFault) → IsNoReset text → request_of text ≡ request
+    → reset_data_of request ≡ None
+no_reset_data text (Err fault) none e = refl
+no_reset_data text (Ok q) none e = ap (λ is. cond {A = Option (List ℕ)} is (Some q.data) None) (no_reset_by text q none e)
+
+pub unreset : (w : OwnedState) (text : List ℕ) → IsNoReset text → is_reset w text ≡ false
+unfolding reset_data
+unreset w text none =
+    ap (λ (o : Option (List ℕ)). is_some o && is_some w.reset) (no_reset_data text (request_of text) none refl)

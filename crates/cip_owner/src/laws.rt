@@ -6,6 +6,7 @@ ghost use Rattle.cip_owner.specs.Owned.{OwnedState, exec_owned};
 ghost use Rattle.cip_owner.specs.OwnerLaws.{given_law, unasked_law, unprepared_law, asked_alike_law};
 ghost use Rattle.cip_owner.specs.QueueLaws.{tickets_law, numbers_law, waiting_law, results_law, once_law, finished_law};
 ghost use Rattle.cip_owner.specs.QueueLaws.{queue_law};
+ghost use Rattle.cip_owner.specs.ResetLaws.{unopted_law, unowned_law, answered_law, left_law, uncounted_law};
 
 /// Each reply has the head of a reply, its service answers the request's, and it has at most `max_size` bytes.
 pub fn replies_are_well_formed()
@@ -68,4 +69,30 @@ pub fn each_command_is_finished_once()
 /// Get_Result of its object answers a command that was finished with the owner's reply.
 pub fn finished_command_is_answered()
     ensures { finished_law }
+{}
+
+/// A device that cannot be reset treats a Reset like any other request.
+pub fn no_device_is_reset_unasked()
+    ensures { unopted_law }
+{}
+
+/// No Reset is a request to the owner.
+pub fn owner_is_not_asked_about_a_reset()
+    ensures { unowned_law }
+{}
+
+/// A Reset of type 0 or 1 is executed, counted and answered with success. With any other data it is refused with "invalid
+/// parameter" (0x20), and changes nothing.
+pub fn reset_is_answered()
+    ensures { answered_law }
+{}
+
+/// A Reset leaves what is prepared, the queue, the tables and the counts of changes.
+pub fn reset_leaves_the_owner()
+    ensures { left_law }
+{}
+
+/// Only a Reset counts as one.
+pub fn other_requests_reset_nothing()
+    ensures { uncounted_law }
 {}

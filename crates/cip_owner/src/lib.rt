@@ -9,6 +9,9 @@
 //! commands in order and finishes each by its ticket. Get_Result of the same object answers the result.
 //! `specs/Queue.antt` defines the queue, and `specs/QueueLaws.antt` says what holds over any number of steps.
 //!
+//! A device that holds a [`Resetting`] can be reset by its peers: Reset of the Identity object puts first values back, and
+//! is counted. `specs/Reset.antt` defines what it puts back, and `specs/ResetLaws.antt` what it leaves.
+//!
 //! ```
 //! let mut device = OwnedObjects::new(objects);
 //! if let Some(asked) = device.asks(request, 504) {
@@ -22,6 +25,7 @@ pub mod laws;
 mod owned;
 mod owner;
 mod queue;
+mod reset;
 
 pub use cip_objects::OwnRequest;
 pub use owned::OwnedObjects;
@@ -29,3 +33,4 @@ pub use owner::{NoOwner, OWNER_REPLY_LIMIT, Owner, OwnerReply};
 pub use queue::{
     COMMAND_DATA_LIMIT, CommandResult, Outcome, QUEUE_LIMIT, Queue, RESULT_LIMIT, WaitingCommand,
 };
+pub use reset::{ResetType, Resetting};

@@ -5,11 +5,14 @@ ghost use Rattle.cip_objects.specs.OwnRequests.{own_request, asked_in};
 ghost use Rattle.cip_objects.specs.Router.{general_status};
 ghost use Rattle.cip_owner.specs.Owned.{exec_owned, asks, is_asked, answer_with, given, asked_now, queued, ticket_by};
 ghost use Rattle.cip_owner.specs.Owned.{of_kind, result_answer, done_answer, after_reply, is_left, IsDone, IsTaken};
+ghost use Rattle.cip_owner.specs.Owned.{IsReset};
+ghost use Rattle.cip_owner.specs.Reset.{reset_data};
 ghost use Rattle.cip_owner.specs.Queue.{after_push};
 ghost use Rattle.cip_owner.specs.QueueViews.{result_in};
 
 use crate::owner::{OWNER_REPLY_LIMIT, OwnerReply};
 use crate::queue::{CommandResult, Outcome, Queue};
+use crate::reset::{Resetting, reset_data, reset_type};
 use cip_application::QUEUED_REPLY_LIMIT;
 use cip_bytes::append;
 use cip_message::reply_service;
@@ -30,6 +33,9 @@ const RESOURCE_UNAVAILABLE: u8 = 0x02;
 /// The object has no command with this ticket: object does not exist (Volume 1, general status codes).
 const UNKNOWN_OBJECT: u8 = 0x16;
 
+/// The data of a Reset say no type: invalid parameter (Volume 1, general status codes).
+const INVALID_PARAMETER: u8 = 0x20;
+
 /// The state byte of a queued command that the owner finished, as in the command ledger.
 const DONE: u8 = 0;
 
@@ -42,8 +48,8 @@ const HEAD_SIZE: usize = 4;
 /// The bytes of the data of Get_Result's reply before the owner's: the state byte and the owner's general status.
 const RESULT_FRONT: usize = 2;
 
-/// The objects of a device, the reply of its owner that is prepared, if one is, and the queue of commands, if the
-/// device has one.
+/// The objects of a device, the reply of its owner that is prepared, if one is, the queue of commands, if the device has
+/// one, and what a Reset puts back, if the device can be reset.
 ///
 /// ```
 /// let mut device = OwnedObjects::with_queue(objects, Some(Queue::new(alloc, 16)?));
@@ -59,6 +65,8 @@ pub struct OwnedObjects {
     pub prepared: Option<OwnerReply>,
     /// The queue of commands. Without one, queued services are answered "resource unavailable" (0x02).
     pub queue: Option<Queue>,
+    /// What a Reset of the Identity object puts back. Without it, Reset is answered "service not supported" (0x08).
+    pub reset: Option<Resetting>,
 }
 
 // Written out, so that each exit of a function that owns one calls it, and has no drop of every part.
@@ -68,26 +76,28 @@ impl Drop for OwnedObjects {
             objects: _,
             prepared: _,
             queue: _,
+            reset: _,
         } = self;
     }
 }
 
 impl OwnedObjects {
-    /// The objects, with no reply prepared and without a queue.
+    /// The objects, with no reply prepared and without a queue. The device cannot be reset.
     pub fn new(objects: Objects) -> OwnedObjects
-        ensures { result ≡ record { objects = objects; prepared = None; queue = None } }
+        ensures { result ≡ record { objects = objects; prepared = None; queue = None; reset = None } }
     {
         OwnedObjects::with_queue(objects, None)
     }
 
-    /// The objects, with no reply prepared, and this queue.
+    /// The objects, with no reply prepared, and this queue. The device cannot be reset.
     pub fn with_queue(objects: Objects, queue: Option<Queue>) -> OwnedObjects
-        ensures { result ≡ record { objects = objects; prepared = None; queue = queue } }
+        ensures { result ≡ record { objects = objects; prepared = None; queue = queue; reset = None } }
     {
         OwnedObjects {
             objects,
             prepared: None,
             queue,
+            reset: None,
         }
     }
 
@@ -106,6 +116,40 @@ impl OwnedObjects {
             return None;
         }
         Some(own)
+    }
+
+    /// Executes a Reset of the Identity object if the device can be reset. Returns whether it did; otherwise nothing is
+    /// done, and `reply` stays.
+    #[inline(always)]
+    fn take_reset(&mut self, request: &[u8], reply: &mut ReplyBuf) -> bool
+        requires { 2 ≤ length request.now }
+        ensures { IsReset self.old request.now self.old.reset (reset_data request.now) result self.new reply.new.items }
+    {
+        // Most devices cannot be reset, and then this is all.
+        self.reset.is_some() && self.execute_reset(request, reply)
+    }
+
+    /// Executes a Reset of the Identity object, and returns `true`. For any other request, or if the device cannot be
+    /// reset, nothing is done, and `reply` stays.
+    #[inline(never)]
+    fn execute_reset(&mut self, request: &[u8], reply: &mut ReplyBuf) -> bool
+        requires { 2 ≤ length request.now }
+        ensures { IsReset self.old request.now self.old.reset (reset_data request.now) result self.new reply.new.items }
+    {
+        let Some(resetting) = &mut self.reset else {
+            return false;
+        };
+        let Some(data) = reset_data(request) else {
+            return false;
+        };
+        match reset_type(data) {
+            Some(reset) => {
+                resetting.execute(reset, &mut self.objects);
+                answer(request[0], SUCCESS, &[], reply);
+            }
+            None => answer(request[0], INVALID_PARAMETER, &[], reply),
+        }
+        true
     }
 
     /// Executes a request to the owner if a reply is prepared. Returns whether it did; otherwise nothing is done, and
@@ -234,6 +278,9 @@ impl Router for OwnedObjects {
     /// prepared, it is the other way round: the request is most likely the one that was asked.
     #[inline(always)]
     fn execute(&mut self, request: &[u8], max_size: usize, reply: &mut ReplyBuf) {
+        if self.take_reset(request, reply) {
+            return;
+        }
         if self.take_prepared(request, max_size, reply) {
             return;
         }

@@ -34,7 +34,8 @@ use Rattle.cip_objects.specs.Service.{service_code, service_in}
 use Rattle.cip_objects.specs.Tables.{Shapes, is_counter_class, class_or_first, object_services, assembly_services, services_of, shape_at, object_at}
 use Rattle.cip_objects.proofs.Effects.{bound, found_some, goes, chosen_code, read_effect}
 use Rattle.cip_objects.proofs.OwnRequests.{unread_request, unread_path, other_request}
-use Rattle.cip_owner.specs.Owned.{OwnedState, asks, asked_within, by_owner, exec_owned}
+use Rattle.cip_owner.specs.Owned.{OwnedState, asks, asked_within, by_owner, exec_owned, is_reset}
+use Rattle.cip_owner.specs.OwnedLaws.{exec_owned_unreset, unreset}
 use Rattle.enip_adapter.specs.Asks.{asks_by_reached, asks_by_step}
 use Rattle.enip_adapter.specs.DeviceRuns.{Requested, objects_after, objects_answer}
 use Rattle.enip_adapter.proofs.ListLemmas.{both}
@@ -273,11 +274,17 @@ routed-unchanged m max_size text r = by (packet_of text) r.packet
     by None e = exec-unchanged m max_size text r.single
     by (Some content) e = by_router content (has_router m.shapes) e
 
+-- A Reset has service 0x05.
+reset-none : (w : OwnedState) (text : List ℕ) → Reads text → is_reset w text ≡ false
+reset-none w text r =
+    unreset w text
+    (λ q path e f service class instance. not-service text 0x05 r refl refl (sym (service-read text q e) ∙ service))
+
 owned-unchanged : (w : OwnedState) (max_size : ℕ) (text : List ℕ) → OnlyReads text
     → (exec_owned w max_size text).after ≡ w
-unfolding exec_owned
 owned-unchanged w max_size text r =
-    ap (λ own. (by_owner w max_size text own).after) (own-none w.objects text r.single)
+    ap (λ done. done.after) (exec_owned_unreset w max_size text (reset-none w text r.single))
+    ∙ ap (λ own. (by_owner w max_size text own).after) (own-none w.objects text r.single)
     ∙ ap (λ m. let o : OwnedState = record w { objects = m } in o) (routed-unchanged w.objects max_size text r)
 
 -- ---- the ledger

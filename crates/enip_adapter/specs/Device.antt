@@ -1,10 +1,11 @@
 -- What the device itself does with its adapter, apart from its peers' frames.
-use Rattle.std.specs.Prelude.{Option}
+use Rattle.std.specs.Prelude.{ℕ, Option, Some, None}
 use Rattle.cip_ledger.specs.Device.{Device}
 use Rattle.cip_ledger.specs.Ledger.{LedgerState}
 use Rattle.cip_objects.specs.Contents.{Contents}
 use Rattle.cip_owner.specs.Owned.{OwnedState}
 use Rattle.cip_owner.specs.Replies.{Reply}
+use Rattle.cip_owner.specs.Reset.{ResetState}
 use Rattle.enip_adapter.specs.Calls.{AdapterState}
 use Rattle.enip_adapter.specs.OwnWrites.{with_contents}
 
@@ -34,6 +35,18 @@ with_ledger a ledger =
 -- The adapter with other objects.
 abbrev pub with_objects : AdapterState → Contents → AdapterState
 with_objects a objects = with_router a (with_contents a.state.shared.objects.router objects)
+
+-- The adapter with this in place of what it needs to be reset.
+abbrev pub with_resetting : AdapterState → Option ResetState → AdapterState
+with_resetting a reset = with_router a (record a.state.shared.objects.router { reset = reset })
+
+-- How many resets were executed, modulo 2^32. None was if the device cannot be reset.
+abbrev pub resets_by : Option ResetState → ℕ
+resets_by None = 0
+resets_by (Some reset) = reset.executed
+
+abbrev pub resets_of : AdapterState → ℕ
+resets_of a = resets_by a.state.shared.objects.router.reset
 
 -- The adapter with another reply of the owner prepared, or none.
 abbrev pub with_prepared : AdapterState → Option Reply → AdapterState

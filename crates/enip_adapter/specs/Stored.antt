@@ -12,6 +12,7 @@ use Rattle.cip_manager.specs.Manager.{ManagerState}
 use Rattle.cip_owner.specs.Owned.{OwnedState}
 use Rattle.cip_owner.specs.Queue.{QueuedCommand, QueueResult, QueueState}
 use Rattle.cip_owner.specs.Replies.{Reply}
+use Rattle.cip_owner.specs.Reset.{ResetState, reset_code}
 use Rattle.enip_adapter.specs.declared.peer.Rights.{Rights}
 use Rattle.enip_adapter.specs.declared.peer.Rights.TheVariants.{Read, Write}
 use Rattle.enip_adapter.specs.declared.peer.Session.{Session}
@@ -174,14 +175,16 @@ queue_code =
     (λ q. (q.limit, (q.next, (q.waiting, q.results))))
     queue_from (λ _. refl)
 
-abbrev pub owned_from : Contents × (Option Reply × Option QueueState) → OwnedState
-owned_from (objects, (prepared, queue)) = record { objects = objects; prepared = prepared; queue = queue }
+abbrev pub owned_from : Contents × (Option Reply × (Option QueueState × Option ResetState)) → OwnedState
+owned_from (objects, (prepared, (queue, reset))) =
+    record { objects = objects; prepared = prepared; queue = queue; reset = reset }
 
 abbrev pub owned_code : Coded OwnedState
 owned_code =
-    code_by (Contents × (Option Reply × Option QueueState))
-    (coded× contents_code (coded× (coded_option reply_code) (coded_option queue_code)))
-    (λ o. (o.objects, (o.prepared, o.queue)))
+    code_by (Contents × (Option Reply × (Option QueueState × Option ResetState)))
+    (coded× contents_code
+    (coded× (coded_option reply_code) (coded× (coded_option queue_code) (coded_option reset_code))))
+    (λ o. (o.objects, (o.prepared, (o.queue, o.reset))))
     owned_from (λ _. refl)
 
 abbrev pub served_code : Coded Device

@@ -17,6 +17,7 @@ ghost use Rattle.enip_adapter.specs.Adapter.{full_number, feed_output};
 ghost use Rattle.enip_adapter.specs.Groups.{has_share};
 ghost use Rattle.enip_adapter.specs.Replies.{written};
 ghost use Rattle.enip_adapter.specs.Discovery.{discovered};
+ghost use Rattle.enip_adapter.specs.Device.{resets_of};
 
 mod asking;
 mod making;
@@ -31,7 +32,7 @@ use crate::shared::Shared;
 use cip_ledger::Ledger;
 use cip_manager::{ConnectionInfo, Steps};
 use cip_objects::{Objects, ReplyBuf};
-use cip_owner::{OwnerReply, Queue};
+use cip_owner::{OwnerReply, Queue, Resetting};
 use std::marker::Model;
 use thiserror::Error;
 
@@ -312,6 +313,34 @@ impl Adapter {
         ensures { option_map (λ queue. queue.now) result ≡ self.now.state.shared.objects.router.queue }
     {
         self.shared.objects.router.queue.as_ref()
+    }
+
+    /// What the adapter needs to be reset, with the number of resets that were executed and the type of the last. `None` if
+    /// peers cannot reset the device.
+    pub fn resetting(&self) -> Option<&Resetting>
+        ensures { option_map (λ reset. reset.now) result ≡ self.now.state.shared.objects.router.reset }
+    {
+        self.shared.objects.router.reset.as_ref()
+    }
+
+    /// How many resets were executed, modulo 2^32: each executed Reset of the Identity object counts once. Refused requests
+    /// and repeats on a class 3 connection do not count. 0 if peers cannot reset the device.
+    ///
+    /// Once this number has changed and the replies are out, the program that serves the peers ends all of them, as their
+    /// sessions and connections do not outlast a reset.
+    ///
+    /// ```
+    /// if adapter.resets() != before {
+    ///     end_all_peers(); // the reply to the Reset is sent
+    /// }
+    /// ```
+    pub fn resets(&self) -> u32
+        ensures { result ≡ resets_of self.now }
+    {
+        match &self.shared.objects.router.reset {
+            Some(reset) => reset.executed(),
+            None => 0,
+        }
     }
 
     /// The reply that the next request to the owner takes, if one is prepared.

@@ -25,7 +25,8 @@ use Rattle.enip_server.specs.Rounds.{ServerState, new_peers, new_peer_io, first_
 use Rattle.enip_server.specs.Evictions.{BeginsIn, IsAddedAt, freed, freed_of, slot_for, with_room_at}
 use Rattle.enip_server.specs.Rounds.{written_by, nobody, no_answer, same_nobody}
 use Rattle.enip_server.specs.Runs.{IsStep, IsRun, HoldsSlot, KeepsSlot, IsStill, IsStillAt, AreStill}
-use Rattle.enip_server.specs.Runs.IsStep.{Adds, Adds_as, Makes_room, MarksReady, Rounds, Rounds_alone, Writes_own, Releases, Takes_time}
+use Rattle.enip_server.specs.Runs.IsStep.{Adds, Adds_as, Makes_room, MarksReady, Rounds, Rounds_alone, Writes_own, Releases, Takes_time, Closes_all}
+use Rattle.enip_server.specs.Resets.{closed_by, closed_peer, closed_slot, closed_slots}
 use Rattle.enip_server.specs.Runs.IsRun.{Still, Goes_on}
 use Rattle.enip_server.specs.Runs.KeepsSlot.{Begins, Stays_on}
 use Rattle.enip_server.proofs.ApartLemmas.{AreSound, sound_new, sound_come, sound_of, of_woken, of_freed, apart_at, below_at}
@@ -118,7 +119,27 @@ module _ {W : Type 0} where
       → slice_get slots slot ≡ Some (Some after) → after ≡ io
   same_line slots slot io after there stays = cc
 
--- ---- a release
+  -- ---- a release
+
+  -- a peer that is closed is still that peer
+  of_closed_at : (now : ℕ) (slot : Option (PeerIo W)) → IsOf slot (closed_slot now slot)
+  of_closed_at now None = tt
+  of_closed_at now (Some io) = refl
+
+  of_closed : (now : ℕ) (slots : List (Option (PeerIo W))) → AreOf slots (closed_slots now slots)
+  of_closed now [] = tt
+  of_closed now (slot ∷ slots) = (of_closed_at now slot, of_closed now slots)
+
+  closed_in : (now : ℕ) (slots : List (Option (PeerIo W))) (slot : ℕ) (io after : PeerIo W)
+      → slice_get slots slot ≡ Some (Some io) → slice_get (closed_slots now slots) slot ≡ Some (Some after)
+      → after ≡ closed_peer now io
+  closed_in now [] slot io after there stays = cc
+  closed_in now (None ∷ slots) zero io after there stays = cc
+  closed_in now (Some found ∷ slots) zero io after there stays =
+      let first : found ≡ io = cc in
+      let last : closed_peer now found ≡ after = cc in
+      sym last ∙ ap (closed_peer now) first
+  closed_in now (first ∷ slots) (suc slot) io after there stays = closed_in now slots slot io after there stays
 
 module _ {W : Type 0} (left written : W → Option (List ℕ)) where
   of_still_at : (slot place : Option (PeerIo W)) → IsStillAt left written slot place → IsOf slot place
@@ -219,6 +240,9 @@ module _ {W O : Type 0} (left written : W → Option (List ℕ)) (known : W → 
       (omega (arith, ap (λ p. p.adapter.state.next_handle) is))
   sound_step old new (Releases still is) sound =
       sound_of old new sound (of_still left written old.slots new.slots still)
+      (omega (arith, ap (λ p. p.adapter.state.next_handle) is))
+  sound_step old new (Closes_all now is) sound =
+      sound_of old new sound (subst (AreOf old.slots) (sym (ap (λ p. p.slots) is)) (of_closed now old.slots))
       (omega (arith, ap (λ p. p.adapter.state.next_handle) is))
   sound_step old new (Takes_time now is) sound =
       sound_of old new sound (subst (AreOf old.slots) (sym (ap (λ p. p.slots) is)) (are_of_themselves old.slots))
@@ -477,6 +501,34 @@ module _ {W O : Type 0} (left written : W → Option (List ℕ)) (known : W → 
     };
   }
 
+  -- closing calls nothing, and nothing is read or written by it
+  closed_some : (now : ℕ) (closed : Option ℕ) → closed_by now closed ≡ None → ⊥
+  closed_some now None e = cc
+  closed_some now (Some last) e = cc
+
+  closed_moves : (now : ℕ) (io after : PeerIo W) (a b : AdapterState) → b ≡ a → after ≡ closed_peer now io
+      → MovesBy io.peer (GoesOnWith io.peer) (peer_state_of left written known counts a io)
+      (peer_state_of left written known counts b after)
+  closed_moves now io after a b same is =
+      subst (λ l. MovesBy io.peer (GoesOnWith io.peer) (peer_state_of left written known counts a io)
+      (peer_state_of left written known counts b l)) (sym is)
+      (record {
+        calls = [];
+        received = [];
+        gone = [];
+        each = tt;
+        moves = record {
+          adapter = same;
+          read = Consumes-nil (left io.wire);
+          written = Appends-nil (written io.wire);
+          sent = append-nil io.outbox;
+          rest = io.inbox;
+          taken = append-nil io.inbox;
+          waits = λ _. refl;
+          closed = λ shut. (closed_some now io.closed, refl);
+        };
+      })
+
   step_moves : (old new : ServerState W) → AreSound old → IsStep left written known counts answer next old new → (slot : ℕ) (io after : PeerIo W)
       → slice_get old.slots slot ≡ Some (Some io) → slice_get new.slots slot ≡ Some (Some after) → after.peer ≡ io.peer
       → MovesBy io.peer (GoesOnWith io.peer) (peer_state_of left written known counts old.adapter io)
@@ -505,6 +557,10 @@ module _ {W O : Type 0} (left written : W → Option (List ℕ)) (known : W → 
   step_moves old new sound (Releases still is) slot io after there stays same =
       still_moves io after old.adapter new.adapter (ap (λ p. p.adapter) is)
       (still_in left written old.slots new.slots still slot io after there stays)
+  step_moves old new sound (Closes_all now is) slot io after there stays same =
+      closed_moves now io after old.adapter new.adapter (ap (λ p. p.adapter) is)
+      (closed_in now old.slots slot io after there
+      (subst (λ (p : ServerState W). slice_get p.slots slot ≡ Some (Some after)) is stays))
   step_moves old new sound (Takes_time now is) slot io after there stays same =
       kept_moves old.adapter io new.adapter after (kept_timed old new now is slot io after there stays)
 

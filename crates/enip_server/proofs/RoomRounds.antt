@@ -37,7 +37,8 @@ use Rattle.enip_server.specs.Rounds.{first_free, new_peers, new_peer_io, nobody,
 use Rattle.enip_server.specs.Evictions.{BeginsIn, IsAddedAt, IsAddedAs, freed, freed_of, gives_way, has_handle, slot_for}
 use Rattle.enip_server.specs.Evictions.{slot_found, slot_given, with_handle, with_room, with_room_at}
 use Rattle.enip_server.specs.Runs.{IsStep, IsRun, IsStillAt, AreStill}
-use Rattle.enip_server.specs.Runs.IsStep.{Adds, Adds_as, Makes_room, MarksReady, Rounds, Rounds_alone, Writes_own, Releases, Takes_time}
+use Rattle.enip_server.specs.Runs.IsStep.{Adds, Adds_as, Makes_room, MarksReady, Rounds, Rounds_alone, Writes_own, Releases, Takes_time, Closes_all}
+use Rattle.enip_server.specs.Resets.{closed_slot, closed_slots}
 use Rattle.enip_server.specs.Runs.IsRun.{Still, Goes_on}
 use Rattle.enip_server.proofs.ApartLemmas.{AreApart, AreSound, HasNone, sound_new}
 use Rattle.enip_server.proofs.EvictionLemmas.{IsFor, is_for, begins_stays, found_there}
@@ -262,6 +263,14 @@ module _ {W : Type 0} where
   roomy_room p (Ok at) sound roomy = roomy_freed p at sound roomy
   roomy_room p (Err full) sound roomy = roomy
 
+  as_closed_at : (now : ℕ) (slot : Option (PeerIo W)) → IsAs slot (closed_slot now slot)
+  as_closed_at now None = tt
+  as_closed_at now (Some io) = refl
+
+  as_closed : (now : ℕ) (slots : List (Option (PeerIo W))) → AreAs slots (closed_slots now slots)
+  as_closed now [] = tt
+  as_closed now (slot ∷ slots) = (as_closed_at now slot, as_closed now slots)
+
 module _ {W : Type 0} (left written : W → Option (List ℕ)) where
   as_still_at : (slot place : Option (PeerIo W)) → IsStillAt left written slot place → IsAs slot place
   as_still_at None place is = subst (IsAs None) (sym is) tt
@@ -318,6 +327,10 @@ module _ {W O : Type 0} (left written : W → Option (List ℕ)) (known : W → 
       roomy_by old new roomy
       (room_as old.adapter new.adapter old.slots new.slots (ap (λ (p : ServerState W). p.adapter) is)
       (as_still left written old.slots new.slots still) roomy.held)
+  roomy_step old new (Closes_all now is) sound roomy =
+      subst IsRoomy (sym is)
+      (roomy_by old _ roomy
+      (room_as old.adapter old.adapter old.slots _ refl (as_closed now old.slots) roomy.held))
   roomy_step old new (Takes_time now is) sound roomy =
       roomy_by old new roomy
       (room_timed (ap (λ (p : ServerState W). p.slots) is) (ap (λ (p : ServerState W). p.adapter) is))

@@ -20,7 +20,7 @@ use Rattle.enip_server.specs.Rounds.{idle_of, ServerState, TakesTurn, IsServedPe
 use Rattle.enip_server.specs.Rounds.{IsAdded, timeout_at, nobody, no_answer, same_nobody}
 use Rattle.enip_server.specs.Evictions.{BeginsIn, IsAddedAt, freed, freed_of, slot_for, with_room_at}
 use Rattle.enip_server.specs.Runs.{IsStep}
-use Rattle.enip_server.specs.Runs.IsStep.{Adds, Adds_as, Makes_room, MarksReady, Rounds, Rounds_alone, Writes_own, Releases, Takes_time}
+use Rattle.enip_server.specs.Runs.IsStep.{Adds, Adds_as, Makes_room, MarksReady, Rounds, Rounds_alone, Writes_own, Releases, Takes_time, Closes_all}
 use Rattle.enip_server.specs.Watching.{AreFrames, IsChanged}
 use Rattle.enip_server.specs.Watching.AreFrames.{No_frame, One_more_frame}
 use Rattle.enip_server.proofs.TurnMoves.{not_out}
@@ -203,4 +203,5 @@ module _ {W O : Type 0} (left written : W → Option (List ℕ)) (known : W → 
       inl (law_round left written known counts no_answer same_nobody now nobody nobody old new round)
   law_step old new (Writes_own write is) = inr (write, ap (λ (x : ServerState W). device_in x.adapter) is)
   law_step old new (Releases still is) = stays old new (ap (λ (x : ServerState W). device_in x.adapter) is)
+  law_step old new (Closes_all now is) = stays old new (ap (λ (x : ServerState W). device_in x.adapter) is)
   law_step old new (Takes_time now is) = stays old new (ap (λ (x : ServerState W). device_in x.adapter) is)

@@ -3,6 +3,7 @@ pub mod PeerStates
 pub mod Transfers
 pub mod Rounds
 pub mod Evictions
+pub mod Resets
 pub mod Held
 pub mod FrameEnds
 pub mod FrameWires

@@ -12,6 +12,7 @@ use Rattle.enip_server.specs.declared.peer_io.PeerIo.{PeerIo}
 use Rattle.enip_server.specs.declared.wire_counts.WireCounts.{WireCounts}
 use Rattle.enip_server.specs.Wires.{KnownCalls}
 use Rattle.enip_server.specs.Evictions.{IsAddedAs, with_room}
+use Rattle.enip_server.specs.Resets.{closed_slots}
 use Rattle.enip_server.specs.Rounds.{ServerState, IsRound, IsAdded, marked_ready, written_by}
 use Rattle.enip_server.specs.Rounds.{nobody, no_answer, same_nobody}
 
@@ -38,8 +39,8 @@ AreStill left written (io ∷ slots) (slot ∷ places) =
 
 -- One call: a peer is added, or refused, with rights and a group or without; room is made for a client; a wire may be
 -- ready, or at the end of its stream; a round that asks the owner of the device, in any state, or one that asks nobody;
--- the device's own write; a release of all wires, if they hold back what is written to them; or the adapter takes the time
--- into account.
+-- the device's own write; a release of all wires, if they hold back what is written to them; the adapter takes the time
+-- into account; or all peers are closed.
 pub data IsStep {W O : Type 0} (left written : W → Option (List ℕ)) (known : W → Option KnownCalls)
     (counts : W → WireCounts) (answer : O → Asked → Option Reply) (next : O → Asked → O)
     : ServerState W → ServerState W → Type 0 where
@@ -65,6 +66,8 @@ pub data IsStep {W O : Type 0} (left written : W → Option (List ℕ)) (known :
       → new ≡ record old { slots = new.slots }
       → IsStep left written known counts answer next old new
   Takes_time : {old new : ServerState W} (now : ℕ) → new ≡ record old { adapter = after_call old.adapter (Ticks now) }
+      → IsStep left written known counts answer next old new
+  Closes_all : {old new : ServerState W} (now : ℕ) → new ≡ record old { slots = closed_slots now old.slots }
       → IsStep left written known counts answer next old new
 
 -- Calls, one after the other.

@@ -15,6 +15,7 @@
 //! - `round_asking` does the same, and asks the owner of the device (`cip_owner::Owner`) about each request to it: its
 //!   reply is the answer to that frame. In `round` such a request is answered "device state conflict" (0x10).
 //! - `round_watched` does the same, and shows the device to a `Watcher` after each frame, before the next one is fed.
+//! - `close_if_reset` closes all peers after a round in which a peer has reset the device.
 //! - `release` lets the answers of a round leave, if each wire is a `HeldWire`, which holds back what is written to it.
 //! - `admit_frames` admits the frames of a round that wait, if each wire is a `GatedWire`: a `FrameWire`, alone or inside a
 //!   `HeldWire`. A `Gate` decides about each request to the owner. So one peer can wait for the owner's answer while others

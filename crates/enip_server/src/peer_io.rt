@@ -6,6 +6,7 @@ ghost use Rattle.std.specs.Io.KnownBytes.{Appends};
 ghost use Rattle.enip_adapter.specs.Calls.{AdapterState};
 ghost use Rattle.enip_server.specs.Admissions.{has_bytes};
 ghost use Rattle.enip_server.specs.Evictions.{may_give_way};
+ghost use Rattle.enip_server.specs.Resets.{closed_peer};
 ghost use Rattle.enip_server.specs.Rounds.{timeout_at, IsServedPeer};
 ghost use Rattle.enip_server.specs.PeerStates.{peer_state_of, fed_once, owner_fed, closed_at, IsFlushed, AreFed, IsDiscarded, IsTurn, FitsBuffers, FitsCounts, IsWaiting};
 ghost use Rattle.enip_server.specs.PeerStates.{IsFetched, IsByRead, IsThrough, GoesOn, IsCutShort, is_closed_now, turn_after};
@@ -355,6 +356,16 @@ impl<W: Wire> PeerIo<W> {
         let (written, unsent) = write_front(&mut self.wire, self.outbox.as_slice());
         self.outbox.drop_front(written);
         unsent
+    }
+
+    /// Closes the peer at the time `now`, as if the adapter had closed it.
+    pub(crate) fn close(&mut self, now: u64)
+        ensures { self.new ≡ closed_peer now self.old }
+    {
+        self.ready = true;
+        if self.closed.is_none() {
+            self.closed = closed_at(now, true);
+        }
     }
 
     /// For a peer that the adapter closed: shuts the writing side down, makes one read and discards it.

@@ -15,6 +15,7 @@ ghost use Rattle.enip_server.specs.Rounds.{nobody, no_answer, same_nobody};
 ghost use Rattle.enip_server.specs.Evictions.{IsAddedAs, freed, gives_way, slot_for, slot_found, with_room};
 ghost use Rattle.enip_server.specs.Admissions.{AreShown};
 ghost use Rattle.enip_server.specs.Held.{IsSlotReleased, AreSlotsReleased, AreReleased};
+ghost use Rattle.enip_server.specs.Resets.{after_reset, closed_slot, closed_slots, was_reset};
 
 use crate::admissions::admit_slots;
 use crate::evictions::longest_silent;
@@ -418,6 +419,33 @@ impl<W: Wire + Drop> Peers<W> {
         self.adapter.finish(ticket, reply)
     }
 
+    /// Closes all peers if the device was reset, that is, if `Adapter::resets` is not `before` any more. Call it after
+    /// each round, with the number from before that round: no session and no connection outlasts a reset.
+    ///
+    /// A peer that is closed is treated like one that the adapter closed. In its next turn the answers that wait are
+    /// written, as far as its wire takes them, and then the writing side is shut down. It is ended once its stream is
+    /// over, and after one second at the latest. Nothing that it sends is executed any more. So the reply to the Reset is
+    /// out before its connection ends.
+    ///
+    /// Returns whether the device was reset. Then a wire may be ready now.
+    ///
+    /// ```
+    /// let before = peers.adapter().resets();
+    /// let end = peers.round(now);
+    /// let was_reset = peers.close_if_reset(now, before);
+    /// let end = RoundEnd { ready: end.ready || was_reset, next: peers.next_moment(), ..end };
+    /// ```
+    pub fn close_if_reset(&mut self, now: u64, before: u32) -> bool
+        ensures closed { state_of self.new ≡ after_reset before now (state_of self.old) }
+        ensures told { result ≡ was_reset before (state_of self.old).adapter }
+    {
+        if self.adapter.resets() == before {
+            return false;
+        }
+        close_slots(&mut self.slots, now);
+        true
+    }
+
     /// The answer to a datagram, written into `room`. A datagram is answered if it is exactly one ListIdentity,
     /// ListServices or ListInterfaces. `None` for any other datagram. No peer, session or connection changes.
     pub fn discover<'a>(&self, datagram: &[u8], room: &'a mut DiscoveryBuffer) -> Option<&'a [u8]>
@@ -517,6 +545,26 @@ fn release_slot<W: Wire + Drop>(slot: &mut Option<PeerIo<HeldWire<W>>>) -> bool
             io.ready
         }
         None => false,
+    }
+}
+
+/// Closes the peers in these slots at the time `now`.
+fn close_slots<W: Wire + Drop>(slots: &mut [Option<PeerIo<W>>], now: u64)
+    ensures { slots.new ≡ closed_slots now slots.old }
+{
+    let Some((slot, others)) = slots.split_first_mut() else {
+        return;
+    };
+    close_slot(slot, now);
+    close_slots(others, now);
+}
+
+/// Closes the peer in a slot at the time `now`, if there is one.
+fn close_slot<W: Wire + Drop>(slot: &mut Option<PeerIo<W>>, now: u64)
+    ensures { slot.new ≡ closed_slot now slot.old }
+{
+    if let Some(io) = slot {
+        io.close(now);
     }
 }
 

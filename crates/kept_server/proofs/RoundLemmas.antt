@@ -9,6 +9,7 @@ use Rattle.cip_ledger.specs.Device.{Device}
 use Rattle.cip_objects.specs.OwnRequests.{Asked}
 use Rattle.cip_owner.specs.Replies.{Reply}
 use Rattle.enip_adapter.specs.Calls.{AdapterState, Call}
+use Rattle.enip_adapter.specs.Device.{resets_of}
 use Rattle.enip_adapter.specs.Calls.Call.{Writes}
 use Rattle.enip_adapter.specs.declared.peer.Rights.{Rights}
 use Rattle.enip_adapter.specs.Runs.{after_calls}
@@ -16,12 +17,13 @@ use Rattle.enip_server.specs.declared.held_wire.HeldWire.{HeldWire}
 use Rattle.enip_server.specs.declared.peer_io.PeerIo.{PeerIo}
 use Rattle.enip_server.specs.Held.{held_known, held_written}
 use Rattle.enip_server.specs.Evictions.{IsAddedAs, slot_for, with_room, with_room_at}
+use Rattle.enip_server.specs.Resets.{after_reset, closed_peer, closed_slot, closed_slots, was_reset}
 use Rattle.enip_server.specs.Rounds.{ServerState, first_free, marked_ready, marked_ready_in, marked_ready_at}
 use Rattle.enip_server.specs.Rounds.{ended_in, has_ended, next_moment, IsWritten}
 use Rattle.enip_server.specs.declared.peers.RoundEnd.{RoundEnd}
 use Rattle.enip_server.specs.Transfers.{AreAsked}
 use Rattle.enip_server.proofs.HeldLemmas.{round_released, same_released}
-use Rattle.enip_server.proofs.ApartLemmas.{AreOf}
+use Rattle.enip_server.proofs.ApartLemmas.{AreOf, IsOf}
 use Rattle.enip_server.proofs.LifeLemmas.{get_set_other, get_set_same, ends_before, freed_elsewhere, freed_here, freed_leads}
 use Rattle.enip_server.proofs.RoundMoves.{round_of}
 use Rattle.enip_server.proofs.EvictionLemmas.{added_elsewhere, added_leads}
@@ -186,6 +188,85 @@ module _ {W : Type 0} where
       record { calls = ends_before p at (slice_get p.slots at); after = freed_leads p at (slice_get p.slots at) }
   leads_room p (Err full) = record { calls = []; after = refl }
 
+  -- ---- the peers are closed
+
+  -- whoever is in a slot afterwards was there before, with the same wire
+  closed_back_in : (now : ℕ) (slots : List (Option (PeerIo (HeldWire W)))) (slot : ℕ) (after : PeerIo (HeldWire W))
+      → slice_get (closed_slots now slots) slot ≡ Some (Some after)
+      → (io : PeerIo (HeldWire W)) × (slice_get slots slot ≡ Some (Some io)) × (after.wire ≡ io.wire)
+  closed_back_in now [] slot after there = cc
+  closed_back_in now (None ∷ slots) zero after there = cc
+  closed_back_in now (Some io ∷ slots) zero after there =
+      let same : closed_peer now io ≡ after = cc in
+      (io, refl, sym (ap (λ (l : PeerIo (HeldWire W)). l.wire) same))
+  closed_back_in now (first ∷ slots) (suc slot) after there = closed_back_in now slots slot after there
+
+  closed_back : (before now : ℕ) (p : ServerState (HeldWire W)) (slot : ℕ) (after : PeerIo (HeldWire W))
+      → slice_get (after_reset before now p).slots slot ≡ Some (Some after)
+      → (io : PeerIo (HeldWire W)) × (slice_get p.slots slot ≡ Some (Some io)) × (after.wire ≡ io.wire)
+  closed_back before now p slot after there = by (was_reset before p.adapter) there
+    where
+      by : (is : Bool) → slice_get (if is then record p { slots = closed_slots now p.slots } else p).slots slot
+          ≡ Some (Some after)
+          → (io : PeerIo (HeldWire W)) × (slice_get p.slots slot ≡ Some (Some io)) × (after.wire ≡ io.wire)
+      by true there = closed_back_in now p.slots slot after there
+      by false there = (after, there, refl)
+
+  -- nobody ends
+  closed_ended_at : (now : ℕ) (first slot : Option (PeerIo (HeldWire W)))
+      → has_ended first (closed_slot now slot) ≡ has_ended first slot
+  closed_ended_at now first None = refl
+  closed_ended_at now None (Some io) = refl
+  closed_ended_at now (Some found) (Some io) = refl
+
+  closed_ended_in : (now : ℕ) (before slots : List (Option (PeerIo (HeldWire W))))
+      → ended_in before (closed_slots now slots) ≡ ended_in before slots
+  closed_ended_in now [] slots = refl
+  closed_ended_in now (first ∷ before) [] = refl
+  closed_ended_in now (first ∷ before) (slot ∷ slots) =
+      ap (λ (b : Bool). (if b then 1 else 0) + ended_in before (closed_slots now slots)) (closed_ended_at now first slot)
+      ∙ ap (λ (n : ℕ). (if has_ended first slot then 1 else 0) + n) (closed_ended_in now before slots)
+
+  closed_ended : (before now : ℕ) (p : ServerState (HeldWire W)) (slots : List (Option (PeerIo (HeldWire W))))
+      → ended_in slots (after_reset before now p).slots ≡ ended_in slots p.slots
+  closed_ended before now p slots = by (was_reset before p.adapter)
+    where
+      by : (is : Bool) → ended_in slots (if is then record p { slots = closed_slots now p.slots } else p).slots
+          ≡ ended_in slots p.slots
+      by true = closed_ended_in now slots p.slots
+      by false = refl
+
+  -- the same peers
+  closed_of_at : (now : ℕ) (first slot : Option (PeerIo (HeldWire W))) → IsOf first slot
+      → IsOf first (closed_slot now slot)
+  closed_of_at now first None of = of
+  closed_of_at now None (Some io) of = of
+  closed_of_at now (Some found) (Some io) of = of
+
+  closed_of_in : (now : ℕ) (before slots : List (Option (PeerIo (HeldWire W)))) → AreOf before slots
+      → AreOf before (closed_slots now slots)
+  closed_of_in now [] [] of = of
+  closed_of_in now [] (slot ∷ slots) of = absurd of
+  closed_of_in now (first ∷ before) [] of = of
+  closed_of_in now (first ∷ before) (slot ∷ slots) of =
+      (closed_of_at now first slot of.0, closed_of_in now before slots of.1)
+
+  closed_of : (before now : ℕ) (p : ServerState (HeldWire W)) (slots : List (Option (PeerIo (HeldWire W))))
+      → AreOf slots p.slots → AreOf slots (after_reset before now p).slots
+  closed_of before now p slots of = by (was_reset before p.adapter)
+    where
+      by : (is : Bool) → AreOf slots (if is then record p { slots = closed_slots now p.slots } else p).slots
+      by true = closed_of_in now slots p.slots of
+      by false = of
+
+  -- the adapter stays
+  closed_adapter : (before now : ℕ) (p : ServerState (HeldWire W)) → (after_reset before now p).adapter ≡ p.adapter
+  closed_adapter before now p = by (was_reset before p.adapter)
+    where
+      by : (is : Bool) → (if is then record p { slots = closed_slots now p.slots } else p).adapter ≡ p.adapter
+      by true = refl
+      by false = refl
+
   -- the peer that gave way is one more that ended
   one_ended : (before slots : List (Option (PeerIo (HeldWire W)))) (slot : ℕ) (io : PeerIo (HeldWire W))
       → AreOf before slots → slice_get slots slot ≡ Some (Some io)
@@ -217,25 +298,30 @@ module _ {W O : Type 0} (left written : W → Option (List ℕ)) (answer : O →
 
   -- the guest wrote; a connection was added, or not; wires were marked ready; then a round was made, frames were admitted,
   -- and then room was made
-  pub nothing_sent : (input : RoundInput W) (old begun added served admitted new : ServerState (HeldWire W)) (first last : O)
+  pub nothing_sent : (input : RoundInput W) (before : ℕ) (old begun added served admitted closed new : ServerState (HeldWire W))
+      (first last : O)
       → IsWritten old begun → IsAccepted input.now input.accepted begun added
       → IsHeldRound left written answer next input.now first (with_marks input.ready.items added) last served
-      → IsAdmission left written input.now served admitted → new ≡ with_room admitted input.now input.room_for
-      → SendsNothing written old new
-  nothing_sent input old begun added served admitted new first last wrote accepted round admission room slot io after there
-      stays =
+      → IsAdmission left written input.now served admitted → closed ≡ after_reset before input.now admitted
+      → new ≡ with_room closed input.now input.room_for → SendsNothing written old new
+  nothing_sent input before old begun added served admitted closed new first last wrote accepted round admission reset room
+      slot io after there stays =
       let m : (middle : PeerIo (HeldWire W))
       × (slice_get (with_marks input.ready.items added).slots slot ≡ Some (Some middle)) × (middle.wire ≡ io.wire)
       = keeps_then old begun (with_marks input.ready.items added) (keeps_written old begun wrote)
       (keeps_then begun added (with_marks input.ready.items added)
       (keeps_accepted input.now input.accepted begun added accepted) (keeps_marks input.ready.items added)) slot io there in
-      let kept : slice_get admitted.slots slot ≡ Some (Some after)
-      = room_kept admitted (slot_for admitted input.now input.room_for) slot after
+      let kept : slice_get closed.slots slot ≡ Some (Some after)
+      = room_kept closed (slot_for closed input.now input.room_for) slot after
       (subst (λ (p : ServerState (HeldWire W)). slice_get p.slots slot ≡ Some (Some after)) room stays) in
+      let shut : (last : PeerIo (HeldWire W)) × (slice_get admitted.slots slot ≡ Some (Some last)) × (after.wire ≡ last.wire)
+      = closed_back before input.now admitted slot after
+      (subst (λ (p : ServerState (HeldWire W)). slice_get p.slots slot ≡ Some (Some after)) reset kept) in
       let was : (before : PeerIo (HeldWire W)) × (slice_get served.slots slot ≡ Some (Some before))
-      × (written after.wire.wire ≡ written before.wire.wire)
-      = admitted_back left written served.slots admitted.slots admission.slots slot after kept in
-      was.2
+      × (written shut.0.wire.wire ≡ written before.wire.wire)
+      = admitted_back left written served.slots admitted.slots admission.slots slot shut.0 shut.1 in
+      ap (λ (w : HeldWire W). written w.wire) shut.2
+      ∙ was.2
       ∙ round_sends_nothing input.now first (with_marks input.ready.items added) last served round slot m.0 was.0 m.1 was.1
       ∙ ap (λ (w : HeldWire W). written w.wire) m.2
 
@@ -251,48 +337,66 @@ module _ {W O : Type 0} (left written : W → Option (List ℕ)) (answer : O →
       → Leads old.adapter new.adapter
   admission_leads now old new is = record { calls = ticks is.times now; after = is.adapter }
 
+  -- nobody ends while frames are admitted and while peers are closed
+  all_ended : (input : RoundInput W) (before : ℕ) (added served admitted closed : ServerState (HeldWire W))
+      → IsAdmission left written input.now served admitted → closed ≡ after_reset before input.now admitted
+      → ended_in (with_marks input.ready.items added).slots closed.slots
+      ≡ ended_in (with_marks input.ready.items added).slots served.slots
+  all_ended input before added served admitted closed admission reset =
+      ap (λ (p : ServerState (HeldWire W)). ended_in (with_marks input.ready.items added).slots p.slots) reset
+      ∙ closed_ended before input.now admitted (with_marks input.ready.items added).slots
+      ∙ admitted_ended left written (with_marks input.ready.items added).slots served.slots admitted.slots admission.slots
+
   -- the peers that ended, with one that gave way, if one did
-  pub ended_more : (input : RoundInput W) (added served admitted new : ServerState (HeldWire W)) (first last : O)
+  pub ended_more : (input : RoundInput W) (before : ℕ) (added served admitted closed new : ServerState (HeldWire W))
+      (first last : O)
       → IsHeldRound left written answer next input.now first (with_marks input.ready.items added) last served
-      → IsAdmission left written input.now served admitted → (gave : Bool)
-      → (gave ≡ true → IsOneEnded admitted new) → (gave ≡ false → new ≡ admitted)
+      → IsAdmission left written input.now served admitted → closed ≡ after_reset before input.now admitted
+      → (gave : Bool) → (gave ≡ true → IsOneEnded closed new) → (gave ≡ false → new ≡ closed)
       → ended_in (with_marks input.ready.items added).slots new.slots
       ≡ ended_in (with_marks input.ready.items added).slots served.slots + bool_byte gave
-  ended_more input added served admitted new first last round admission true one still =
-      let ended : IsOneEnded admitted new = one refl in
-      let of : AreOf (with_marks input.ready.items added).slots admitted.slots
+  ended_more input before added served admitted closed new first last round admission reset true one still =
+      let ended : IsOneEnded closed new = one refl in
+      let of_admitted : AreOf (with_marks input.ready.items added).slots admitted.slots
       = admitted_of left written (with_marks input.ready.items added).slots served.slots admitted.slots
       (round_of (λ (w : HeldWire W). left w.wire) (held_written written) (held_known written) (λ w. w.counts) answer next
       input.now first (with_marks input.ready.items added) last served round)
       admission.slots in
+      let of : AreOf (with_marks input.ready.items added).slots closed.slots
+      = subst (λ (p : ServerState (HeldWire W)). AreOf (with_marks input.ready.items added).slots p.slots) (sym reset)
+      (closed_of before input.now admitted (with_marks input.ready.items added).slots of_admitted) in
       ap (ended_in (with_marks input.ready.items added).slots) ended.3
-      ∙ one_ended (with_marks input.ready.items added).slots admitted.slots ended.0 ended.1 of ended.2
-      ∙ ap (λ n. n + 1) (admitted_ended left written (with_marks input.ready.items added).slots served.slots admitted.slots
-      admission.slots)
-  ended_more input added served admitted new first last round admission false one still =
+      ∙ one_ended (with_marks input.ready.items added).slots closed.slots ended.0 ended.1 of ended.2
+      ∙ ap (λ n. n + 1) (all_ended input before added served admitted closed admission reset)
+  ended_more input before added served admitted closed new first last round admission reset false one still =
       let same : ended_in (with_marks input.ready.items added).slots new.slots
       ≡ ended_in (with_marks input.ready.items added).slots served.slots
       = ap (λ (p : ServerState (HeldWire W)). ended_in (with_marks input.ready.items added).slots p.slots) (still refl)
-      ∙ admitted_ended left written (with_marks input.ready.items added).slots served.slots admitted.slots admission.slots in
+      ∙ all_ended input before added served admitted closed admission reset in
       omega (arith, same)
 
   module _ {G : Type 0} (begins : ℕ → G → ServerState (HeldWire W) → G → ServerState (HeldWire W) → O → Type 0)
       (admits : ℕ → G → ServerState (HeldWire W) → G → ServerState (HeldWire W) → Type 0) where
     pub round_taken : (input : RoundInput W) (first_guest guest_begun guest_served last_guest : G)
-        (old begun added served admitted new : ServerState (HeldWire W)) (first last : O) (outcome : RoundEnd)
+        (old begun added served admitted closed new : ServerState (HeldWire W)) (first last : O) (outcome : RoundEnd)
         → begins input.now first_guest old guest_begun begun first → IsWritten old begun
         → IsAccepted input.now input.accepted begun added
         → IsHeldRound left written answer next input.now first (with_marks input.ready.items added) last served
         → admits input.now guest_served served last_guest admitted → IsAdmission left written input.now served admitted
-        → new ≡ with_room admitted input.now input.room_for
+        → closed ≡ after_reset (resets_of old.adapter) input.now admitted
+        → new ≡ with_room closed input.now input.room_for
         → outcome.ended ≡ ended_in (with_marks input.ready.items added).slots new.slots → outcome.next ≡ next_moment new
         → (calls : List Call) × TakesRound left written answer next begins admits (record { input = input; calls = calls })
         first_guest old last_guest new outcome
-    round_taken input first_guest guest_begun guest_served last_guest old begun added served admitted new first last outcome
-        guest_begins wrote accepted round guest_admits admission room ended next_is =
+    round_taken input first_guest guest_begun guest_served last_guest old begun added served admitted closed new first last
+        outcome guest_begins wrote accepted round guest_admits admission reset room ended next_is =
+        let closed_leads : Leads closed.adapter new.adapter
+        = subst (λ (p : ServerState (HeldWire W)). Leads closed.adapter p.adapter) (sym room)
+        (leads_room closed (slot_for closed input.now input.room_for)) in
         let room_leads : Leads admitted.adapter new.adapter
-        = subst (λ (p : ServerState (HeldWire W)). Leads admitted.adapter p.adapter) (sym room)
-        (leads_room admitted (slot_for admitted input.now input.room_for)) in
+        = subst (λ (a : AdapterState). Leads a new.adapter)
+        (ap (λ (p : ServerState (HeldWire W)). p.adapter) reset
+        ∙ closed_adapter (resets_of old.adapter) input.now admitted) closed_leads in
         let others : Leads begun.adapter new.adapter
         = leads_then begun.adapter added.adapter new.adapter
         (leads_accepted input.now input.accepted begun added accepted)
@@ -308,6 +412,7 @@ module _ {W O : Type 0} (left written : W → Option (List ℕ)) (answer : O →
             added = added;
             served = served;
             admitted = admitted;
+            closed = closed;
             guest_begun = guest_begun;
             guest_served = guest_served;
             owner = first;
@@ -319,6 +424,7 @@ module _ {W O : Type 0} (left written : W → Option (List ℕ)) (answer : O →
             round = round;
             guest_admits = guest_admits;
             admission = admission;
+            reset = reset;
             room = room;
             executed = others.after ∙ ap (λ a. after_calls a others.calls) (written_adapter old begun wrote)
                 ∙ sym (after_calls-append old.adapter (map Writes wrote.0) others.calls);
@@ -342,23 +448,25 @@ module _ {W : Type 0} where
           added_at now (new_held accepted.wire) accepted.rights accepted.group (slot_for old now accepted.group) old new
           added.0 added.1
 
-  -- Neither a connection that is added, nor wires that are marked, nor frames that are admitted, nor room that is made
-  -- changes the device.
+  -- Neither a connection that is added, nor wires that are marked, nor frames that are admitted, nor peers that are closed,
+  -- nor room that is made changes the device.
   pub still_seen : {T : Type 0} (has_seen : T → Device → Type 0) (left written : W → Option (List ℕ)) (before after last : T)
-      (input : RoundInput W) (begun added marked served admitted new : ServerState (HeldWire W))
+      (input : RoundInput W) (resets : ℕ) (begun added marked served admitted closed new : ServerState (HeldWire W))
       → IsAccepted input.now input.accepted begun added → marked ≡ with_marks input.ready.items added
       → (has_seen before marked.adapter.state.shared.objects → has_seen after served.adapter.state.shared.objects)
       → IsAdmission left written input.now served admitted → ((device : Device) → has_seen after device → has_seen last device)
-      → new ≡ with_room admitted input.now input.room_for
+      → closed ≡ after_reset resets input.now admitted → new ≡ with_room closed input.now input.room_for
       → has_seen before begun.adapter.state.shared.objects → has_seen last new.adapter.state.shared.objects
-  still_seen has_seen left written before after last input begun added marked served admitted new accepted marks round
-      admission keeps room seen =
+  still_seen has_seen left written before after last input resets begun added marked served admitted closed new accepted
+      marks round admission keeps reset room seen =
       let begins : marked.adapter.state.shared.objects ≡ begun.adapter.state.shared.objects
       = ap (λ (p : ServerState (HeldWire W)). p.adapter.state.shared.objects) marks
       ∙ accepted_device input.now input.accepted begun added accepted in
       let ends : new.adapter.state.shared.objects ≡ served.adapter.state.shared.objects
       = ap (λ (p : ServerState (HeldWire W)). p.adapter.state.shared.objects) room
-      ∙ room_device admitted (slot_for admitted input.now input.room_for)
+      ∙ room_device closed (slot_for closed input.now input.room_for)
+      ∙ ap (λ (p : ServerState (HeldWire W)). p.adapter.state.shared.objects) reset
+      ∙ ap (λ (a : AdapterState). a.state.shared.objects) (closed_adapter resets input.now admitted)
       ∙ ap (λ (a : AdapterState). a.state.shared.objects) admission.adapter
       ∙ ticked_device admission.times input.now served.adapter in
       subst (has_seen last) (sym ends)

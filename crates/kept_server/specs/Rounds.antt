@@ -6,6 +6,7 @@ use Rattle.cip_objects.specs.OwnRequests.{Asked}
 use Rattle.cip_owner.specs.Replies.{Reply}
 use Rattle.enip_adapter.specs.declared.adapter.Full.{Full}
 use Rattle.enip_adapter.specs.Calls.{AdapterState, Call}
+use Rattle.enip_adapter.specs.Device.{resets_of}
 use Rattle.enip_adapter.specs.Calls.Call.{Ticks, Writes}
 use Rattle.enip_adapter.specs.OwnWrites.{OwnWrite}
 use Rattle.enip_adapter.specs.Runs.{after_calls}
@@ -16,6 +17,7 @@ use Rattle.enip_server.specs.declared.peers.RoundEnd.{RoundEnd}
 use Rattle.enip_server.specs.declared.wire_counts.WireCounts.{WireCounts}
 use Rattle.enip_server.specs.Held.{held_known, held_written, AreReleased}
 use Rattle.enip_server.specs.Evictions.{IsAddedAs, with_room}
+use Rattle.enip_server.specs.Resets.{after_reset}
 use Rattle.enip_server.specs.Rounds.{ServerState, IsRound, first_free, marked_ready, ended_in, is_ready, next_moment, written_all}
 use Rattle.enip_server.specs.Wires.{KnownCalls}
 use Rattle.kept_server.specs.Changes.{kept_over, still_waiting, waiting_for}
@@ -176,7 +178,8 @@ module _ {W G O : Type 0} (left written : W → Option (List ℕ)) (answer : O �
     (admits : ℕ → G → ServerState (HeldWire W) → G → ServerState (HeldWire W) → Type 0) where
   -- The peers take a round with a guest: the guest begins it, which makes these writes, the connection is added, the wires
   -- are marked ready, and then the round is made at the time of the input, in which the guest's owner is asked. After it
-  -- the guest admits frames. Last, room is made for the client that waits for a slot. The adapter is that after these
+  -- the guest admits frames. If the device was reset, all peers are closed. Last, room is made for the client that waits for
+  -- a slot. The adapter is that after these
   -- calls, of which the guest's writes are the first. The outcome is that of the round and of the peer that gave way.
   pub record TakesRound (requests : RoundRequests W) (first : G) (old : ServerState (HeldWire W)) (last : G)
       (new : ServerState (HeldWire W)) (outcome : RoundEnd) : Type 0 where
@@ -186,6 +189,7 @@ module _ {W G O : Type 0} (left written : W → Option (List ℕ)) (answer : O �
     pub added : ServerState (HeldWire W)
     pub served : ServerState (HeldWire W)
     pub admitted : ServerState (HeldWire W)
+    pub closed : ServerState (HeldWire W)
     pub guest_begun : G
     pub guest_served : G
     pub owner : O
@@ -198,7 +202,8 @@ module _ {W G O : Type 0} (left written : W → Option (List ℕ)) (answer : O �
         owner_served served
     pub guest_admits : admits requests.input.now guest_served served last admitted
     pub admission : IsAdmission left written requests.input.now served admitted
-    pub room : new ≡ with_room admitted requests.input.now requests.input.room_for
+    pub reset : closed ≡ after_reset (resets_of old.adapter) requests.input.now admitted
+    pub room : new ≡ with_room closed requests.input.now requests.input.room_for
     pub executed : new.adapter ≡ after_calls old.adapter requests.calls
     pub ended : outcome.ended ≡ ended_in (with_marks requests.input.ready.items added).slots new.slots
     pub next_is : outcome.next ≡ next_moment new

@@ -68,8 +68,9 @@ pub struct RoundInput<W> {
 }
 
 /// Lets the guest make its writes, adds the connection and marks the wires that may be ready, and then serves one round,
-/// which the guest watches, and in which the guest's owner is asked. Then the guest admits frames for the next round. At
-/// the end, room is made for the client that waits: not before it is served, so that a slot holds one peer throughout the
+/// which the guest watches, and in which the guest's owner is asked. Then the guest admits frames for the next round. If the
+/// device was reset, all peers are closed: their answers leave first, as from a peer that the adapter closed. At the end,
+/// room is made for the client that waits: not before it is served, so that a slot holds one peer throughout the
 /// round.
 pub(crate) fn take_round<W: Wire + Drop, G: RoundGuest<W>>(
     peers: &mut Peers<HeldWire<W>>,
@@ -89,15 +90,17 @@ pub(crate) fn take_round<W: Wire + Drop, G: RoundGuest<W>>(
         ready,
         room_for,
     } = input;
+    let before = peers.adapter().resets();
     let mut owner = guest.begin_round(now, peers);
     add_accepted(peers, now, accepted);
     mark_ready(peers, ready.as_slice());
     let end = serve_round(peers, now, &mut owner, guest);
     guest.admit_frames(now, peers);
+    let was_reset = peers.close_if_reset(now, before);
     let gave_way = make_room(peers, now, room_for);
     RoundEnd {
         ended: end.ended + usize::from(gave_way),
-        ready: end.ready,
+        ready: end.ready || was_reset,
         next: peers.next_moment(),
     }
 }

@@ -11,11 +11,12 @@ use crate::shared::{Listen, Shared};
 use cip_ledger::{Ledger, LedgerRouter};
 use cip_manager::Manager;
 use cip_objects::{Objects, ReplyBuf};
-use cip_owner::{OwnedObjects, Queue};
+use cip_owner::{OwnedObjects, Queue, Resetting};
 use std::alloc::{AllocError, Global};
 
 impl Adapter {
     ghost use Rattle.enip_adapter.specs.Adapter.{new_adapter, shared_adapter};
+    ghost use Rattle.enip_adapter.specs.Device.{with_resetting};
 
     /// Makes an adapter with no peer and no connection, and without a command ledger. It allocates all of its memory
     /// here.
@@ -145,6 +146,19 @@ impl Adapter {
             router: OwnedObjects::with_queue(objects, queue),
         };
         Adapter::of_device(alloc, device, listen, limits, shares)
+    }
+
+    /// Lets peers reset the device: Reset of the Identity object is executed from now on, and was refused before. Call it
+    /// before the first peer begins. `resets` says how many were executed.
+    ///
+    /// ```
+    /// let mut adapter = Adapter::new(alloc, Objects::new(alloc, &config)?, listen, limits)?;
+    /// adapter.allow_reset(Resetting::new(alloc, &config)?);
+    /// ```
+    pub fn allow_reset(&mut self, resetting: Resetting)
+        ensures { self.new ≡ with_resetting self.old (Some resetting) }
+    {
+        self.shared.objects.router.reset = Some(resetting);
     }
 
     /// Makes an adapter of the objects, with the ledger before them if there is one.

@@ -1,5 +1,7 @@
-use Rattle.std.proofs.Common.{◌≡◌, ◌+◌, ap, sym, subst, ◌∙◌, arith}
+use Rattle.std.proofs.Common.{◌≡◌, ℕ, ◌+◌, ap, sym, subst, ◌∙◌, arith}
+use Rattle.enip_adapter.specs.Device.{resets_of}
 use Rattle.enip_server.specs.declared.held_wire.HeldWire.{HeldWire}
+use Rattle.enip_server.specs.Resets.{after_reset}
 use Rattle.enip_server.specs.Rounds.{ServerState, state_of, ended_in}
 use Rattle.enip_server.proofs.RoomLemmas.{slots_small}
 use Rattle.kept_server.specs.Rounds.{IsHeldRound, with_marks}
@@ -31,7 +33,13 @@ returns g c =
     let marked : ServerState (HeldWire g.row.W.Denot) = state_of c.mark_ready.new.peers in
     let served : ServerState (HeldWire g.row.W.Denot) = state_of c.serve_round-end.new.peers in
     let admitted : ServerState (HeldWire g.row.W.Denot) = state_of c.admit_frames.new.peers in
+    let closed : ServerState (HeldWire g.row.W.Denot) = state_of c.close_if_reset-was_reset.new.self in
     let new : ServerState (HeldWire g.row.W.Denot) = state_of c.make_room-gave_way.new.peers in
+    let before : ℕ = resets_of old.adapter in
+    let reset : closed ≡ after_reset before c.args.input.now admitted
+    = c.close_if_reset-was_reset.ensures.closed
+    ∙ ap (λ n. after_reset n c.args.input.now admitted)
+    (c.resets-before.ensures ∙ ap (λ a. resets_of a) c.adapter.ensures) in
     let marks : marked ≡ with_marks c.args.input.ready.items added
     = c.mark_ready.ensures ∙ ap (λ wires. with_marks wires added) c.as_slice.ensures.value in
     let round : IsHeldRound left written answer next c.args.input.now owner (with_marks c.args.input.ready.items added) last
@@ -40,23 +48,23 @@ returns g c =
     c.serve_round-end.ensures.round in
     record {
       round = round_taken left written answer next g.G.RoundGuest.begins g.G.RoundGuest.admits c.args.input c.args.guest.now
-          c.begin_round-owner.new.self c.serve_round-end.new.guest c.admit_frames.new.self old begun added served admitted new
+          c.begin_round-owner.new.self c.serve_round-end.new.guest c.admit_frames.new.self old begun added served admitted closed new
           owner last _ c.begin_round-owner.ensures.begun c.begin_round-owner.ensures.writes c.add_accepted.ensures round
-          c.admit_frames.ensures.admitted c.admit_frames.ensures.admission c.make_room-gave_way.ensures.room
+          c.admit_frames.ensures.admitted c.admit_frames.ensures.admission reset c.make_room-gave_way.ensures.room
           (ap (λ n. n + c.from.result)
           (c.serve_round-end.ensures.ended
           ∙ ap (λ (p : ServerState (HeldWire g.row.W.Denot)). ended_in p.slots served.slots) marks)
           ∙ ap (λ n. ended_in (with_marks c.args.input.ready.items added).slots served.slots + n) c.from.ensures
-          ∙ sym (ended_more left written answer next c.args.input added served admitted new owner last round
-          c.admit_frames.ensures.admission c.make_room-gave_way.result c.make_room-gave_way.ensures.ended
+          ∙ sym (ended_more left written answer next c.args.input before added served admitted closed new owner last round
+          c.admit_frames.ensures.admission reset c.make_room-gave_way.result c.make_room-gave_way.ensures.ended
           c.make_room-gave_way.ensures.still))
           c.next_moment.ensures;
-      silent = nothing_sent left written answer next c.args.input old begun added served admitted new owner last
-          c.begin_round-owner.ensures.writes c.add_accepted.ensures round c.admit_frames.ensures.admission
+      silent = nothing_sent left written answer next c.args.input before old begun added served admitted closed new owner last
+          c.begin_round-owner.ensures.writes c.add_accepted.ensures round c.admit_frames.ensures.admission reset
           c.make_room-gave_way.ensures.room;
       watched = λ seen.
           still_seen g.G.Watcher.has_seen left written c.begin_round-owner.new.self c.serve_round-end.new.guest
-          c.admit_frames.new.self c.args.input begun added marked served admitted new c.add_accepted.ensures marks
-          c.serve_round-end.ensures.watched c.admit_frames.ensures.admission c.admit_frames.ensures.seen
+          c.admit_frames.new.self c.args.input before begun added marked served admitted closed new c.add_accepted.ensures marks
+          c.serve_round-end.ensures.watched c.admit_frames.ensures.admission c.admit_frames.ensures.seen reset
           c.make_room-gave_way.ensures.room (c.begin_round-owner.ensures.seen seen);
     }
