@@ -16,6 +16,7 @@ pub mod ObjectsApart
 pub mod Sound
 pub mod ReadAfterSet
 pub mod Effects
+pub mod ListSets
 pub mod CounterRun
 pub mod Sets
 pub mod Refused
@@ -33,3 +34,4 @@ pub mod ObjectWrites
 pub mod ObjectLemmas
 pub mod OwnRequests
 pub mod Approved
+pub mod SetListRun

@@ -9,9 +9,9 @@
 //! refuses them. `Objects::own_request` says what such a request asks, and `Objects::store_checked` stores a set that
 //! the owner approved. `own_request` in `specs/OwnRequests.antt` defines which requests these are.
 //!
-//! Only `Objects::new` allocates. Left out are dynamic assemblies, Set_Attributes_All, Set_Attribute_List,
-//! Multiple_Service_Packet, and Identity Reset. All of these are answered "service not supported". The services of
-//! the Connection Manager belong to `cip_manager`.
+//! Only `Objects::new` allocates. Left out are dynamic assemblies, Set_Attributes_All, Multiple_Service_Packet, and
+//! Identity Reset. All of these are answered "service not supported". The services of the Connection Manager belong to
+//! `cip_manager`.
 //!
 //! ```
 //! let mut objects = Objects::new(alloc, config)?;
@@ -37,6 +37,7 @@ mod read_services;
 mod reply;
 mod router;
 mod service;
+mod set_list;
 mod status;
 mod value;
 
