@@ -40,10 +40,12 @@ is_taken_class counter class =
 abbrev pub is_standard_class : ℕ → Bool
 is_standard_class class = (class == MESSAGE_ROUTER) || (class == 0xf5) || (class == 0xf6)
 
--- An object of the standard has one of these classes and instance number 1. No other object has one of them.
+-- An object of the standard has one of these classes, instance number 1 and no service for lists. No other object has
+-- one of them.
 abbrev pub is_misplaced : ObjectConfig → Bool
 is_misplaced o =
-    if o.standard then not (is_standard_class o.class) || not (o.instance == 1) else is_standard_class o.class
+    if o.standard then not (is_standard_class o.class) || not (o.instance == 1) || o.lists
+    else is_standard_class o.class
 
 abbrev pub has_taken_class : Bool → ObjectConfig → Bool
 has_taken_class counter o = is_taken_class counter o.class || is_misplaced o
@@ -153,6 +155,7 @@ object_of_config o = record {
   instance = o.instance;
   attributes = in_order (map attribute_of_config o.attributes.items);
   services = o.services.items;
+  lists = o.lists;
 }
 
 -- The objects of a configuration.

@@ -1,6 +1,6 @@
 -- The application objects, and what is read and written of them by class, instance and attribute (Volume 1, object
 -- model). The first object of a class and an instance number serves, and the first attribute of a number.
-use Rattle.std.specs.Prelude.{◌≡◌, ◌<◌, ℕ, ◌+◌, Bool, ◌==◌, ◌&&◌, if◌then◌else◌, List, [], ◌∷◌, length, max}
+use Rattle.std.specs.Prelude.{◌≡◌, ◌<◌, ℕ, ◌+◌, Bool, false, ◌==◌, ◌&&◌, if◌then◌else◌, List, [], ◌∷◌, length, max}
 use Rattle.std.specs.Prelude.{slice_index_or, slice_set, Option, Some, None, option_map, option_and_then, ok_or}
 use Rattle.std.specs.Prelude.{Result, Ok, Err}
 use Rattle.cip_bytes.specs.Reading.{◌>>=◌, map_ok}
@@ -17,6 +17,7 @@ pub record ObjectValues : Type 0 where
   pub instance : ℕ
   pub attributes : List AttributeValues
   pub services : List ServiceConfig
+  pub lists : Bool
 
 -- The value of the attribute of an object with this number.
 abbrev pub value_in : ObjectValues → ℕ → Option (List ℕ)
@@ -64,7 +65,8 @@ position_of class instance (o ∷ objects) =
 -- The object at an index. Past the end there is one of class 0, which no configuration has.
 abbrev pub object_in : List ObjectValues → ℕ → ObjectValues
 object_in objects position =
-    slice_index_or objects position (record { class = 0; instance = 0; attributes = []; services = [] })
+    slice_index_or objects position
+    (record { class = 0; instance = 0; attributes = []; services = []; lists = false })
 
 -- The value of an attribute, or None if there is no such attribute.
 abbrev pub value_of : List ObjectValues → ℕ → ℕ → ℕ → Option (List ℕ)

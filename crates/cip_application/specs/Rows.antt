@@ -173,7 +173,7 @@ abbrev pub setpoint : AttributeValues
 setpoint = record { number = 2; kind = speed; settable = true; checked = false; value = 0 ∷ 0 ∷ []; changes = 4 }
 
 abbrev pub conveyor : ObjectValues
-conveyor = record { class = 768; instance = 1; attributes = setpoint ∷ limit ∷ []; services = [] }
+conveyor = record { class = 768; instance = 1; attributes = setpoint ∷ limit ∷ []; services = []; lists = false }
 
 pub rising : in_order (limit ∷ setpoint ∷ []) ≡ setpoint ∷ limit ∷ []
 rising = refl
@@ -294,7 +294,7 @@ identity_taken = refl
 -- The TCP/IP Interface has class 0xf5 and instance 1. No object of a device's own has class 0xf5 or 0xf6.
 abbrev pub placed : Bool → ℕ → ℕ → ObjectConfig → ObjectConfig
 placed standard class instance o =
-    record o { class = class; instance = instance; standard = standard; name = None }
+    record o { class = class; instance = instance; standard = standard; name = None; lists = false }
 
 pub standard_allowed : (o : ObjectConfig) → is_invalid_object true (placed true 0xf5 1 o) ≡ false
 standard_allowed o = refl
@@ -304,6 +304,9 @@ standard_of_another_class o = refl
 
 pub standard_second : (o : ObjectConfig) → is_invalid_object true (placed true 0xf6 2 o) ≡ true
 standard_second o = refl
+
+pub standard_with_lists : (o : ObjectConfig) → is_invalid_object true (record (placed true 0xf6 1 o) { lists = true }) ≡ true
+standard_with_lists o = refl
 
 pub own_interface : (o : ObjectConfig) → is_invalid_object true (placed false 0xf5 1 o) ≡ true
 own_interface o = refl

@@ -117,7 +117,8 @@ link_attributes l =
     ∷ attribute 10 (ShortString 64) (length l.label ∷ l.label)
     ∷ []
 
--- The object is instance 1 of this class of the standard, with these attributes and no services of its own.
+-- The object is instance 1 of this class of the standard, with these attributes, no services of its own and none for
+-- lists.
 pub record IsStandard (class : ℕ) (attributes : List AttributeValues) (o : ObjectConfig) : Type 0 where
   pub of_class : o.class ≡ class
   pub first : o.instance ≡ 1
@@ -125,3 +126,4 @@ pub record IsStandard (class : ℕ) (attributes : List AttributeValues) (o : Obj
   pub unnamed : o.name ≡ None
   pub with_attributes : map attribute_of_config o.attributes.items ≡ attributes
   pub without_services : o.services.items ≡ []
+  pub without_lists : o.lists ≡ false

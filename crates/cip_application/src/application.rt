@@ -1,7 +1,7 @@
 //! The application objects of a device: a list of objects to a caller.
 //! Text: docs/PROTOCOL.md, "Objects".
 ghost use Rattle.std.specs.Prelude.{◌≡◌, ◌≤◌, ◌<◌, IfOk, IfErr, IfSome, OnErr, OnOk, Ok, Err, None, length};
-ghost use Rattle.std.specs.Prelude.{option_copied, unwrap_or, is_some, slice_index_or, slice_get, map};
+ghost use Rattle.std.specs.Prelude.{option_copied, option_map, unwrap_or, is_some, slice_index_or, slice_get, map};
 ghost use Rattle.std.specs.List.{All};
 ghost use Rattle.std.specs.Box.{boxed_slice_items};
 ghost use Rattle.cip_application.specs.Attributes.{AttributeValues, attribute_at, can_be_set};
@@ -13,6 +13,7 @@ ghost use Rattle.cip_application.specs.Objects.{objects_write, objects_restore, 
 ghost use Rattle.cip_application.specs.Objects.{class_of};
 ghost use Rattle.cip_application.specs.Objects.{AllAllowed};
 ghost use Rattle.cip_application.specs.Kept.{is_kept_at, kept_names_of};
+ghost use Rattle.cip_application.specs.Values.{size_for};
 ghost use Rattle.cip_application.specs.Whole.{IsSound};
 
 use crate::attribute::SetFault;
@@ -140,6 +141,30 @@ impl ApplicationObjects {
         ensures short { length result.now ≤ VALUE_LIMIT }
     {
         self.objects[position].value_at(index)
+    }
+
+    /// Whether peers can set a list of attributes of the object at an index with one request.
+    pub fn has_lists(&self, position: usize) -> bool
+        requires { position < length self.now }
+        ensures { result ≡ (object_in self.now position).lists }
+    {
+        self.objects[position].has_lists()
+    }
+
+    /// The bytes of a value that begins with these, for an attribute of the object at an index. `None` if the object
+    /// has no such attribute.
+    ///
+    /// ```
+    /// // attribute 1 is a UINT, attribute 2 a SHORT_STRING
+    /// let size = objects.size_for(0, 1, &[0xe8, 0x03, 0x02]); // Some(2)
+    /// let size = objects.size_for(0, 2, &[0x02, 0x4f, 0x4b]); // Some(3): a byte with the length, then the text
+    /// ```
+    pub fn size_for(&self, position: usize, number: u16, data: &[u8]) -> Option<usize>
+        requires { position < length self.now }
+        ensures { result
+            ≡ option_map (λ a. size_for a.kind data.now) (attribute_at number (object_in self.now position).attributes) }
+    {
+        self.objects[position].size_for(number, data)
     }
 
     /// Whether peers can set an attribute of the object at an index without a question to the owner of the device.

@@ -3,7 +3,7 @@
 ghost use Rattle.std.specs.Prelude.{◌≡◌, ◌≤◌, ◌+◌, IfOk, IfErr, IfSome, OnErr, OnOk, Ok, Err, length, unwrap_or};
 ghost use Rattle.std.specs.Prelude.{is_some, Some};
 ghost use Rattle.std.specs.Prelude.{◌&&◌, nat_le, not};
-ghost use Rattle.cip_application.specs.Values.{capacity, with_bytes_at};
+ghost use Rattle.cip_application.specs.Values.{capacity, size_for, with_bytes_at};
 ghost use Rattle.cip_application.specs.Attributes.{attribute_set, attribute_write, attribute_restore};
 ghost use Rattle.cip_application.specs.Attributes.{check_before_asking};
 ghost use Rattle.cip_application.specs.Kept.{is_kept};
@@ -123,6 +123,13 @@ impl Attribute {
         ensures short { length result.now ≤ VALUE_LIMIT }
     {
         &self.content[..self.size]
+    }
+
+    /// The bytes of a value that begins with these.
+    pub(crate) fn size_for(&self, data: &[u8]) -> usize
+        ensures { result ≡ size_for self.now.kind data.now }
+    {
+        self.kind.size_for(data)
     }
 
     /// Whether peers can set it without a question to the owner of the device.

@@ -61,7 +61,7 @@ pub const ETHERNET_LINK: u16 = 0xf6;
 /// attributes.push(speed)?;
 /// let services = Vec::new(alloc);
 /// let conveyor =
-///     ObjectConfig { class: 768, instance: 1, standard: false, name: None, attributes, services };
+///     ObjectConfig { class: 768, instance: 1, standard: false, name: None, attributes, services, lists: false };
 /// ```
 #[derive(Debug, Drop)]
 pub struct ObjectConfig {
@@ -78,6 +78,8 @@ pub struct ObjectConfig {
     pub attributes: Vec<AttributeConfig>,
     /// The own services, at most 16.
     pub services: Vec<ServiceConfig>,
+    /// Whether peers can set a list of its attributes with one request. Not for an object of the standard.
+    pub lists: bool,
 }
 
 /// An attribute of an application object.
@@ -210,12 +212,13 @@ pub fn is_standard_class(class: u16) -> bool
     matches!(class, MESSAGE_ROUTER | TCP_IP_INTERFACE | ETHERNET_LINK)
 }
 
-/// Whether an object of the standard has another class or instance number, or another object one of its classes.
+/// Whether an object of the standard has another class or instance number or the service for lists, or another object
+/// one of its classes.
 fn is_misplaced(object: &ObjectConfig) -> bool
     ensures { result ≡ is_misplaced object.now }
 {
     if object.standard {
-        return !is_standard_class(object.class) || object.instance != 1;
+        return !is_standard_class(object.class) || object.instance != 1 || object.lists;
     }
     is_standard_class(object.class)
 }

@@ -38,7 +38,7 @@ impl AttributeKind {
     }
 
     /// The bytes of a value that begins with these.
-    fn size_for(&self, value: &[u8]) -> usize
+    pub(crate) fn size_for(&self, value: &[u8]) -> usize
         ensures { result ≡ size_for self.now value.now }
     {
         match *self {

@@ -63,6 +63,7 @@ impl MessageRouter {
             name: None,
             attributes,
             services: Vec::new(alloc),
+            lists: false,
         })
     }
 

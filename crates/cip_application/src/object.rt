@@ -11,7 +11,7 @@ ghost use Rattle.cip_application.specs.Configuration.{attribute_of_config, objec
 ghost use Rattle.cip_application.specs.Objects.{value_in, service_in, object_set, object_write, object_restore};
 ghost use Rattle.cip_application.specs.Objects.{IsAttributeAt};
 ghost use Rattle.cip_application.specs.Kept.{is_kept_in, kept_names_in};
-ghost use Rattle.cip_application.specs.Values.{capacity};
+ghost use Rattle.cip_application.specs.Values.{capacity, size_for};
 ghost use Rattle.cip_application.specs.Whole.{IsShort};
 
 use crate::attribute::{Attribute, SetFault};
@@ -45,6 +45,8 @@ pub(crate) struct Object {
     attributes: BoxedSlice<Attribute>,
     /// The own services.
     services: BoxedSlice<ServiceConfig>,
+    /// Whether peers can set a list of its attributes with one request.
+    lists: bool,
 }
 
 impl Model for Object {
@@ -58,6 +60,7 @@ impl Model for Object {
       instance = o.instance;
       attributes = boxed_slice_items o.attributes;
       services = boxed_slice_items o.services;
+      lists = o.lists;
     } };
 
     ghost use Rattle.std.specs.List.{All};
@@ -80,6 +83,7 @@ impl Object {
             instance: config.instance,
             attributes: attributes_of(alloc, &config.attributes)?,
             services: BoxedSlice::from_slice(alloc, &config.services)?,
+            lists: config.lists,
         })
     }
 
@@ -95,6 +99,13 @@ impl Object {
         ensures { result ≡ self.now.instance }
     {
         self.instance
+    }
+
+    /// Whether peers can set a list of its attributes with one request.
+    pub(crate) fn has_lists(&self) -> bool
+        ensures { result ≡ self.now.lists }
+    {
+        self.lists
     }
 
     /// The number of attributes.
@@ -120,6 +131,14 @@ impl Object {
     {
         let index = attribute_index(&self.attributes, number)?;
         Some(self.attributes[index].value())
+    }
+
+    /// The bytes of a value of the attribute with this number that begins with these.
+    pub(crate) fn size_for(&self, number: u16, data: &[u8]) -> Option<usize>
+        ensures { result ≡ option_map (λ a. size_for a.kind data.now) (attribute_at number self.now.attributes) }
+    {
+        let index = attribute_index(&self.attributes, number)?;
+        Some(self.attributes[index].size_for(data))
     }
 
     /// Whether peers can set the attribute with this number without a question to the owner of the device.

@@ -85,6 +85,7 @@ impl TcpIpInterface<'_> {
             name: None,
             attributes,
             services: Vec::new(alloc),
+            lists: false,
         })
     }
 
@@ -187,6 +188,7 @@ impl EthernetLink<'_> {
             name: None,
             attributes,
             services: Vec::new(alloc),
+            lists: false,
         })
     }
 

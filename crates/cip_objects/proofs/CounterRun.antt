@@ -15,7 +15,7 @@ use Rattle.cip_bytes.specs.Numbers.{le, AreBytes}
 use Rattle.cip_message.specs.PathReading.{path_of}
 use Rattle.cip_message.specs.Request.{Request, request_of}
 use Rattle.cip_objects.specs.declared.service.Service.{Service}
-use Rattle.cip_objects.specs.declared.service.Service.TheVariants.{GetAttributesAll, GetAttributeList, GetAttributeSingle, SetAttributeSingle, GetMember, SetMember, Add, Clear}
+use Rattle.cip_objects.specs.declared.service.Service.TheVariants.{GetAttributesAll, GetAttributeList, SetAttributeList, GetAttributeSingle, SetAttributeSingle, GetMember, SetMember, Add, Clear}
 use Rattle.cip_objects.specs.declared.status.Refusal.{Refusal}
 use Rattle.cip_objects.specs.declared.status.Completion.TheVariants.{Whole}
 use Rattle.cip_objects.specs.declared.status.Refusal.TheVariants.{ReplyDataTooLarge}
@@ -32,11 +32,12 @@ use Rattle.cip_objects.proofs.Executed.{answered_by}
 use Rattle.cip_objects.proofs.Refuses.{no_success}
 use Rattle.cip_objects.specs.Service.{service_code}
 use Rattle.std.specs.List.{list_any}
-use Rattle.cip_objects.specs.Tables.{Shape, shape_at, services_of, ObjectShape, Shapes, object_at, is_counter_class}
-use Rattle.cip_objects.proofs.Offers.{table, offered}
+use Rattle.cip_objects.specs.Tables.{assembly_list_services, object_list_services, Shape, shape_at, services_of, ObjectShape, Shapes, object_at, is_counter_class}
+use Rattle.cip_objects.proofs.Offers.{table, offered, not_among}
 use Rattle.cip_objects.proofs.Effects.{goes, set_effect, Sets, member_effect, SetsMember, add_effect, clear_effect, read_effect, change_effect, chosen_code}
 use Rattle.cip_objects.proofs.ReadAfterSet.{udint_at-changed, udint_at-other, udint_at-elsewhere, udint_at-set}
 use Rattle.cip_objects.proofs.Blocks.{eqb-other}
+use Rattle.cip_objects.proofs.ListSets.{SetsList, list_effect, all_keep, at, list_place}
 use Rattle.cip_objects.proofs.Settable.{settable_limit}
 
 table_add : (b1 b4 b6 b100 z o : Bool) (x : Option Shape) (k : Bool) (y : Option ObjectShape) (s : Service) → offered 0x32 (table b1 b4 b6 b100 z o x k y) ≡ Ok s → (b100 ≡ true) × (o ≡ true)
@@ -45,7 +46,7 @@ table_add true b4 b6 b100 false true x k y s e = absurd (cc)
 table_add true b4 b6 b100 false false x k y s e = absurd (cc)
 table_add false true b6 b100 true o x k y s e = absurd (cc)
 table_add false true b6 b100 false o None k y s e = absurd (cc)
-table_add false true b6 b100 false o (Some w) k y s e = absurd (cc)
+table_add false true b6 b100 false o (Some w) k y s e = absurd (not_among 0x32 w.lists assembly_list_services s refl e)
 table_add false false true b100 z true x k y s e = absurd (cc)
 table_add false false true b100 z false x k y s e = absurd (cc)
 table_add false false false true true o x k y s e = absurd (cc)
@@ -54,7 +55,7 @@ table_add false false false true false false x k y s e = absurd (cc)
 table_add false false false false true o x true y s e = absurd (cc)
 table_add false false false false true o x false y s e = absurd (cc)
 table_add false false false false false o x k None s e = absurd (cc)
-table_add false false false false false o x k (Some w) s e = absurd (cc)
+table_add false false false false false o x k (Some w) s e = absurd (not_among 0x32 w.lists object_list_services s refl e)
 
 table_clear : (b1 b4 b6 b100 z o : Bool) (x : Option Shape) (k : Bool) (y : Option ObjectShape) (s : Service) → offered 0x33 (table b1 b4 b6 b100 z o x k y) ≡ Ok s → (b100 ≡ true) × (o ≡ true)
 table_clear true b4 b6 b100 true o x k y s e = absurd (cc)
@@ -62,7 +63,7 @@ table_clear true b4 b6 b100 false true x k y s e = absurd (cc)
 table_clear true b4 b6 b100 false false x k y s e = absurd (cc)
 table_clear false true b6 b100 true o x k y s e = absurd (cc)
 table_clear false true b6 b100 false o None k y s e = absurd (cc)
-table_clear false true b6 b100 false o (Some w) k y s e = absurd (cc)
+table_clear false true b6 b100 false o (Some w) k y s e = absurd (not_among 0x33 w.lists assembly_list_services s refl e)
 table_clear false false true b100 z true x k y s e = absurd (cc)
 table_clear false false true b100 z false x k y s e = absurd (cc)
 table_clear false false false true true o x k y s e = absurd (cc)
@@ -71,7 +72,7 @@ table_clear false false false true false false x k y s e = absurd (cc)
 table_clear false false false false true o x true y s e = absurd (cc)
 table_clear false false false false true o x false y s e = absurd (cc)
 table_clear false false false false false o x k None s e = absurd (cc)
-table_clear false false false false false o x k (Some w) s e = absurd (cc)
+table_clear false false false false false o x k (Some w) s e = absurd (not_among 0x33 w.lists object_list_services s refl e)
 
 both_true : (a b : Bool) → a && b ≡ true → (a ≡ true) × (b ≡ true)
 both_true true b h = (refl, h)
@@ -241,6 +242,34 @@ clear_moves m text o q hc e na leaves done =
 still : (m : Contents) (text : List ℕ) (o : Outcome) (q : Request) → IsCounter m → request_of text ≡ Ok q → eqb q.service 0x32 ≡ false → eqb q.service 0x33 ≡ false → o.after ≡ m → Effect m text o
 still m text o q hc e na nc after = unmoved m text o q e na nc (ap (λ k. k.shapes) after) (ap value_of after) (ap limit_of after) (ap additions_of after) hc
 
+-- the counter's numbers are those that they were
+record IsQuiet (m n : Contents) : Type 0 where
+  shapes : n.shapes ≡ m.shapes
+  value : value_of n ≡ value_of m
+  limit : limit_of n ≡ limit_of m
+  additions : additions_of n ≡ additions_of m
+
+-- a set of an attribute of another class
+set_quiet : (m n : Contents) (p : Path) (v : List ℕ) (c : Change) → (p.class ≡ 100 → ⊥) → Sets n p v c → IsQuiet m n
+    → IsQuiet m c.after
+set_quiet m n p v c apart x h =
+    let other = λ (b : ℕ). ap (λ t. t && (eqb 1 p.instance && eqb b x.attribute)) (eqb-other 100 p.class (λ z. apart (sym z))) in
+    record {
+      shapes = ap (λ k. k.shapes) x.leaves ∙ h.shapes;
+      value = ap value_of x.leaves ∙ udint_at-elsewhere n p.class p.instance x.attribute v 100 1 1 (other 1) ∙ h.value;
+      limit = ap limit_of x.leaves ∙ udint_at-elsewhere n p.class p.instance x.attribute v 100 1 2 (other 2) ∙ h.limit;
+      additions = ap additions_of x.leaves ∙ udint_at-elsewhere n p.class p.instance x.attribute v 100 1 3 (other 3) ∙ h.additions;
+    }
+
+-- a list of sets
+list_moves : (m : Contents) (text : List ℕ) (o : Outcome) (q : Request) (p : Path) → IsCounter m → request_of text ≡ Ok q → eqb q.service 0x32 ≡ false → eqb q.service 0x33 ≡ false → SetsList m p q.data o → (p.class ≡ 100 → ⊥) → Effect m text o
+list_moves m text o q p hc e na nc x apart =
+    let h = all_keep (λ n. IsQuiet m n) p m x.settings
+    (λ n a v c set quiet. set_quiet m n (at p a) v c apart set quiet)
+    (record { shapes = refl; value = refl; limit = refl; additions = refl }) in
+    unmoved m text o q e na nc (ap (λ k. k.shapes) x.after ∙ h.shapes) (ap value_of x.after ∙ h.value)
+    (ap limit_of x.after ∙ h.limit) (ap additions_of x.after ∙ h.additions) hc
+
 not_code : (s q code : ℕ) → s ≡ q → eqb s code ≡ false → eqb q code ≡ false
 not_code s q code e h = ap (λ n. eqb n code) (sym e) ∙ h
 
@@ -252,6 +281,10 @@ by_service m text o q p GetAttributesAll hc hb e f ch code done =
     still m text o q hc e (not_code 0x01 q.service 0x32 code refl) (not_code 0x01 q.service 0x33 code refl) (read_effect m (get_attributes_all m p q.data) o done)
 by_service m text o q p GetAttributeList hc hb e f ch code done =
     still m text o q hc e (not_code 0x03 q.service 0x32 code refl) (not_code 0x03 q.service 0x33 code refl) (read_effect m (get_attribute_list m p q.data) o done)
+by_service m text o q p SetAttributeList hc hb e f ch code done =
+    list_moves m text o q p hc e (not_code 0x04 q.service 0x32 code refl) (not_code 0x04 q.service 0x33 code refl) (list_effect m p q.data o done)
+    (list_place m.shapes p.class p.instance SetAttributeList hc.there
+    (subst (λ k. service_at m.shapes p.class p.instance k ≡ Ok SetAttributeList) (sym code) ch))
 by_service m text o q p GetAttributeSingle hc hb e f ch code done =
     still m text o q hc e (not_code 0x0e q.service 0x32 code refl) (not_code 0x0e q.service 0x33 code refl) (read_effect m (get_attribute_single m p q.data) o done)
 by_service m text o q p SetAttributeSingle hc hb e f ch code done =

@@ -16,6 +16,7 @@ pub mod ObjectsApart
 pub mod Sound
 pub mod ReadAfterSet
 pub mod Effects
+pub mod ListSets
 pub mod CounterRun
 pub mod Sets
 pub mod Refused
@@ -36,3 +37,4 @@ pub mod Approved
 pub mod Packets
 pub mod PacketSteps
 pub mod ObjectList
+pub mod SetListRun

@@ -11,7 +11,7 @@ use Rattle.cip_bytes.specs.Numbers.{le, words_of}
 use Rattle.cip_message.specs.PathReading.{path_of}
 use Rattle.cip_message.specs.Request.{Request}
 use Rattle.cip_objects.specs.declared.service.Service.{Service}
-use Rattle.cip_objects.specs.declared.service.Service.TheVariants.{GetAttributesAll, GetAttributeList, GetAttributeSingle, SetAttributeSingle, GetMember, SetMember, Add, Clear}
+use Rattle.cip_objects.specs.declared.service.Service.TheVariants.{GetAttributesAll, GetAttributeList, SetAttributeList, GetAttributeSingle, SetAttributeSingle, GetMember, SetMember, Add, Clear}
 use Rattle.cip_objects.specs.declared.status.Refusal.{Refusal}
 use Rattle.cip_bytes.specs.declared.protocol.GeneralStatus.TheVariants.{Success}
 use Rattle.cip_objects.specs.declared.status.Refusal.TheVariants.{AttributeNotSupported, NotEnoughData}
@@ -36,6 +36,7 @@ use Rattle.cip_objects.proofs.Sets.{get_makes, got}
 is_list : (s : Service) → service_code s ≡ 0x03 → s ≡ GetAttributeList
 is_list GetAttributesAll e = absurd (omega arith)
 is_list GetAttributeList e = refl
+is_list SetAttributeList e = absurd (omega arith)
 is_list GetAttributeSingle e = absurd (omega arith)
 is_list SetAttributeSingle e = absurd (omega arith)
 is_list GetMember e = absurd (omega arith)

@@ -8,7 +8,7 @@ use Rattle.cip_message.specs.PathReading.{path_of}
 use Rattle.cip_message.specs.Request.{Request}
 use Rattle.cip_objects.specs.declared.assembly.Span.{Span}
 use Rattle.cip_objects.specs.declared.service.Service.{Service}
-use Rattle.cip_objects.specs.declared.service.Service.TheVariants.{GetAttributesAll, GetAttributeList, GetAttributeSingle, SetAttributeSingle, GetMember, SetMember, Add, Clear}
+use Rattle.cip_objects.specs.declared.service.Service.TheVariants.{GetAttributesAll, GetAttributeList, SetAttributeList, GetAttributeSingle, SetAttributeSingle, GetMember, SetMember, Add, Clear}
 use Rattle.cip_objects.specs.declared.status.Completion.TheVariants.{Whole}
 use Rattle.cip_objects.specs.declared.status.Refusal.TheVariants.{AttributeNotSupported, InvalidMemberId}
 use Rattle.cip_objects.specs.Check.{demand}
@@ -20,8 +20,8 @@ use Rattle.cip_objects.specs.Laws.{IsRequestWith}
 use Rattle.cip_objects.specs.Members.{AreWhole, member_after_set_law}
 use Rattle.cip_objects.specs.Service.{service_code}
 use Rattle.std.specs.List.{list_any}
-use Rattle.cip_objects.specs.Tables.{Shape, shape_at, span_in, member_at, services_of, ObjectShape, Shapes, object_at, is_counter_class}
-use Rattle.cip_objects.proofs.Offers.{table, offered}
+use Rattle.cip_objects.specs.Tables.{Shape, shape_at, span_in, member_at, object_list_services, services_of, ObjectShape, Shapes, object_at, is_counter_class}
+use Rattle.cip_objects.proofs.Offers.{table, offered, not_among}
 use Rattle.cip_objects.proofs.Effects.{goes, bound, after_check, found_some, change_effect, chosen_code}
 use Rattle.cip_objects.proofs.ReadAfterSet.{value_at-same}
 use Rattle.cip_objects.proofs.Sets.{went_well, got}
@@ -65,6 +65,7 @@ named shapes path span e =
 is_set_member : (s : Service) → service_code s ≡ 0x19 → s ≡ SetMember
 is_set_member GetAttributesAll e = absurd (omega arith)
 is_set_member GetAttributeList e = absurd (omega arith)
+is_set_member SetAttributeList e = absurd (omega arith)
 is_set_member GetAttributeSingle e = absurd (omega arith)
 is_set_member SetAttributeSingle e = absurd (omega arith)
 is_set_member GetMember e = absurd (omega arith)
@@ -75,6 +76,7 @@ is_set_member Clear e = absurd (omega arith)
 pub is_get_member : (s : Service) → service_code s ≡ 0x18 → s ≡ GetMember
 is_get_member GetAttributesAll e = absurd (omega arith)
 is_get_member GetAttributeList e = absurd (omega arith)
+is_get_member SetAttributeList e = absurd (omega arith)
 is_get_member GetAttributeSingle e = absurd (omega arith)
 is_get_member SetAttributeSingle e = absurd (omega arith)
 is_get_member GetMember e = refl
@@ -98,7 +100,7 @@ table_member false false false true false false x k y s e = absurd (cc)
 table_member false false false false true o x true y s e = absurd (cc)
 table_member false false false false true o x false y s e = absurd (cc)
 table_member false false false false false o x k None s e = absurd (cc)
-table_member false false false false false o x k (Some w) s e = absurd (cc)
+table_member false false false false false o x k (Some w) s e = absurd (not_among 0x19 w.lists object_list_services s refl e)
 
 -- an assembly whose members can be set also has Get_Member
 member_offers : (shapes : Shapes) (class instance : ℕ) (s : Service) → service_at shapes class instance 0x19 ≡ Ok s

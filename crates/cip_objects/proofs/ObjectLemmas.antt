@@ -30,9 +30,9 @@ use Rattle.cip_objects.specs.DeviceWrites.{with_attribute_by, object_by, object_
 use Rattle.cip_objects.specs.Entries.{IdentityValues, AssemblyValues, CounterValues, AreApart, AreDistinct, NoneIsClass, attribute_in, attributes_of_class, class_attributes, class_revision, counter_attributes, object_attributes, object_shape_of, attribute_shape_of, object_tallies, contents_of}
 use Rattle.cip_objects.specs.ObjectMap.{key}
 use Rattle.cip_objects.specs.ObjectRef.{IsFree, IsObjectIndex, IsObjectClass, IsSettable, kind_to_set, Resolves, value_to, bytes_to, after_set, object_in as shape_in}
-use Rattle.cip_objects.specs.ReadServices.{IDENTITY_ATTRIBUTES, all_attributes, numbers_of}
+use Rattle.cip_objects.specs.ReadServices.{IDENTITY_ATTRIBUTES, ASSEMBLY_ATTRIBUTES, all_attributes, numbers_of}
 use Rattle.cip_objects.specs.Status.{set_refusal}
-use Rattle.cip_objects.specs.Tables.{ObjectShape, Shapes, object_at, position_at, attribute_at as shape_at_number, kind_of_settable, kind_in, settable_kind, numbers_in, greatest_number, services_of, application_services, object_services, is_counter_class}
+use Rattle.cip_objects.specs.Tables.{ObjectShape, Shapes, object_at, position_at, attribute_at as shape_at_number, kind_of_settable, kind_in, settable_kind, numbers_in, greatest_number, services_of, application_services, services_of_object, is_counter_class, value_kind, kind_in_assembly, kind_in_object, shape_at}
 use Rattle.cip_objects.proofs.Lookup.{find_object, object_value, own_value, object_at-map, above_none, both_true, taken_value, value_at-contents_of}
 use Rattle.cip_objects.proofs.Numbers.{enabled}
 use Rattle.cip_objects.proofs.ObjectRefs.{free_kind}
@@ -82,7 +82,7 @@ position-map class instance [] = refl
 position-map class instance (o ∷ os) =
     ap (λ p. cond (eqb o.class class && eqb o.instance instance) (Some 0) (option_map (λ k. k + 1) p)) (position-map class instance os)
 
-pub shape_in-map : (k : ℕ) (os : List ObjectValues) → get_or (map object_shape_of os) k (record { class = 0; instance = 0; attributes = []; services = [] }) ≡ object_shape_of (object_in os k)
+pub shape_in-map : (k : ℕ) (os : List ObjectValues) → get_or (map object_shape_of os) k (record { class = 0; instance = 0; attributes = []; services = []; lists = false }) ≡ object_shape_of (object_in os k)
 shape_in-map k [] = refl
 shape_in-map zero (o ∷ os) = refl
 shape_in-map (suc k) (o ∷ os) = shape_in-map k os
@@ -486,7 +486,7 @@ written_object k n os a new e number shape place =
       of_class = refl;
       of_instance = refl;
       value = λ x. attributes_written a new o.attributes x there ∙ ap (λ y. cond (eqb x y) (Some new.value) (attribute_in x (object_attributes o))) number;
-      shape = ap (λ l. record { class = o.class; instance = o.instance; attributes = l; services = o.services }) (same_parts attribute_shape_of a new o.attributes there shape);
+      shape = ap (λ l. record { class = o.class; instance = o.instance; attributes = l; services = o.services; lists = o.lists }) (same_parts attribute_shape_of a new o.attributes there shape);
     }
 
 -- the contents with another value of an attribute, which is counted
@@ -529,7 +529,7 @@ apart_after counter k n os a content found h =
     let after = set_to a content in
     let number = number_found n o.attributes a found in
     let there : attribute_at after.number o.attributes ≡ Some a = ap (λ x. attribute_at x o.attributes) number ∙ found in
-    let shape = ap (λ l. record { class = o.class; instance = o.instance; attributes = l; services = o.services }) (same_parts attribute_shape_of a after o.attributes there refl) in
+    let shape = ap (λ l. record { class = o.class; instance = o.instance; attributes = l; services = o.services; lists = o.lists }) (same_parts attribute_shape_of a after o.attributes there refl) in
     subst (AreApart counter) (sym (map_set object_shape_of k os (object_with o after) shape)) h
 
 pub set_apart : (counter : Bool) (k n : ℕ) (os new : List ObjectValues) (a : AttributeValues) (content : List ℕ) → attribute_at n (object_in os k).attributes ≡ Some a → a.settable ≡ true → objects_set os k n content ≡ Ok new → AreApart counter (map object_shape_of os) → AreApart counter (map object_shape_of new)
@@ -658,7 +658,7 @@ value_by_number d bs c os m k index a is h own p w =
 
 -- the application object that the shapes have at an index
 abbrev no_object : ObjectShape
-no_object = record { class = 0; instance = 0; attributes = []; services = [] }
+no_object = record { class = 0; instance = 0; attributes = []; services = []; lists = false }
 
 later_shape : (s : ObjectShape) (ss : List ObjectShape) (p : Option ℕ) → option_map (λ k. get_or ss k no_object) p ≡ option_map (λ k. get_or (s ∷ ss) k no_object) (option_map (λ k. k + 1) p)
 later_shape s ss None = refl
@@ -678,6 +678,24 @@ pub kind_at_index : (shapes : Shapes) (k n : ℕ) → IsObjectIndex shapes k →
 kind_at_index shapes k n p =
     free_kind shapes (shape_in shapes k).class (shape_in shapes k).instance n p.free
     ∙ ap (kind_in n) (shape_position (shape_in shapes k).class (shape_in shapes k).instance shapes.objects ∙ ap (option_map (λ j. get_or shapes.objects j no_object)) p.first)
+
+-- the size of a value, by the shape of the attribute
+pub size_in_shape : (n : ℕ) (value : List ℕ) (os : List ObjectValues) (k : ℕ) → option_map (λ a. size_for a.kind value) (attribute_at n (object_in os k).attributes) ≡ option_map (λ kind. size_for kind value) (kind_in_object n (object_shape_of (object_in os k)))
+size_in_shape n value os k =
+    sym (ap (λ s. option_map (λ kind. size_for kind value) (option_map (λ a. a.kind) s)) (attribute_at-map n (object_in os k).attributes)
+    ∙ elim (attribute_at n (object_in os k).attributes) as (λ f. option_map (λ kind. size_for kind value) (option_map (λ a. a.kind) (option_map attribute_shape_of f)) ≡ option_map (λ a. size_for a.kind value) f) [
+      | None ↦ refl
+      | Some a ↦ refl
+    ])
+
+-- the kind of the values of an attribute of an application object
+pub value_kind_at : (shapes : Shapes) (k n : ℕ) → IsObjectIndex shapes k → value_kind shapes (shape_in shapes k).class (shape_in shapes k).instance n ≡ kind_in_object n (shape_in shapes k)
+unfolding value_kind
+value_kind_at shapes k n p =
+    let class = (shape_in shapes k).class in
+    let instance = (shape_in shapes k).instance in
+    ap (λ t. cond t (option_and_then (kind_in_assembly n) (shape_at instance shapes.assemblies)) (option_and_then (kind_in_object n) (object_at class instance shapes.objects))) p.free.assembly
+    ∙ ap (option_and_then (kind_in_object n)) (shape_position class instance shapes.objects ∙ ap (option_map (λ j. get_or shapes.objects j no_object)) p.first)
 
 whole_kind : (o : Option AttributeKind) → is_some o ≡ true → Some (unwrap_or o (Fixed 0 None)) ≡ o
 whole_kind None e = absurd (cc)
@@ -700,15 +718,15 @@ free_services shapes class instance f = rw (f.identity, f.assembly, f.manager, f
 
 -- what a class and a number lead to, among the application objects
 pub services_at_place : (d : IdentityValues) (bs : List AssemblyValues) (c : CounterValues) (os : List ObjectValues) (m : Contents) (class instance : ℕ) → contents_of d bs c os ≡ m → eqb instance 0 ≡ false
-    → application_services class instance m.shapes.objects ≡ option_map (λ _. object_services) (position_of class instance os)
+    → application_services class instance m.shapes.objects ≡ option_map (λ k. services_of_object (shape_in m.shapes k)) (position_of class instance os)
 services_at_place d bs c os m class instance is z =
     let all = m.shapes.objects in
-    ap (λ t. cond t (cond (list_any (λ o. eqb o.class class) all) (Some (GetAttributeSingle ∷ [])) None) (option_map (λ _. object_services) (object_at class instance all))) z
-    ∙ ap (λ x. option_map (λ _. object_services) (object_at class instance x.objects)) (shapes-contents d bs c os m is)
-    ∙ ap (option_map (λ _. object_services)) (object_at-map class instance os ∙ ap (option_map object_shape_of) (find_position class instance os))
-    ∙ elim (position_of class instance os) as (λ p. option_map (λ _. object_services) (option_map object_shape_of (option_map (object_in os) p)) ≡ option_map (λ _. object_services) p) [
+    ap (λ t. cond t (cond (list_any (λ o. eqb o.class class) all) (Some (GetAttributeSingle ∷ [])) None) (option_map services_of_object (object_at class instance all))) z
+    ∙ ap (λ x. option_map services_of_object (object_at class instance x.objects)) (shapes-contents d bs c os m is)
+    ∙ ap (option_map services_of_object) (object_at-map class instance os ∙ ap (option_map object_shape_of) (find_position class instance os))
+    ∙ elim (position_of class instance os) as (λ p. option_map services_of_object (option_map object_shape_of (option_map (object_in os) p)) ≡ option_map (λ k. services_of_object (shape_in m.shapes k)) p) [
       | None ↦ refl
-      | Some k ↦ refl
+      | Some k ↦ ap (λ s. Some (services_of_object s)) (sym (shape_here d bs c os m k is))
     ]
 
 pub services_at_class : (d : IdentityValues) (bs : List AssemblyValues) (c : CounterValues) (os : List ObjectValues) (m : Contents) (class : ℕ) → contents_of d bs c os ≡ m
@@ -812,5 +830,6 @@ pub all_of_object : (shapes : Shapes) (k : ℕ) → IsObjectIndex shapes k → a
 all_of_object shapes k p =
     let class = (shape_in shapes k).class in
     let instance = (shape_in shapes k).instance in
-    ap (λ t. cond t IDENTITY_ATTRIBUTES (numbers_of (object_at class instance shapes.objects))) p.free.identity
+    ap (λ t. cond t IDENTITY_ATTRIBUTES (cond (eqb class 4) ASSEMBLY_ATTRIBUTES (numbers_of (object_at class instance shapes.objects)))) p.free.identity
+    ∙ ap (λ t. cond t ASSEMBLY_ATTRIBUTES (numbers_of (object_at class instance shapes.objects))) p.free.assembly
     ∙ ap numbers_of (shape_position class instance shapes.objects ∙ ap (option_map (λ j. get_or shapes.objects j no_object)) p.first)

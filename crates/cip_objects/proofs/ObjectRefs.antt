@@ -16,11 +16,11 @@ use Rattle.cip_objects.specs.declared.object_ref.ObjectRef.TheVariants as object
 use Rattle.cip_objects.specs.declared.objects.Objects.TheInside.{Inside}
 use Rattle.cip_objects.specs.Contents.{Contents, value_at}
 use Rattle.cip_objects.specs.Counter.{counter_values}
-use Rattle.cip_objects.specs.ObjectRef.{IsFree, class_at, instance_at, number_at, IsAssemblyIndex, Exists, IsAssemblyAt}
+use Rattle.cip_objects.specs.ObjectRef.{IsFree, class_at, instance_at, number_at, IsAssemblyIndex, Exists, IsAssemblyAt, assembly_in}
 use Rattle.cip_objects.specs.Entries.{IdentityValues, AssemblyValues, CounterValues, contents_of, shape_of, assembly_at, NoneIsClass, AreApart, object_shape_of, attributes_of_class}
 use Rattle.cip_objects.specs.Entries.{attribute_in, assembly_attributes, class_attributes, greatest_of}
 use Rattle.cip_objects.specs.FirstOf.{IsFirst}
-use Rattle.cip_objects.specs.Tables.{Shape, ObjectShape, Shapes, shape_at, object_at, services_of, assembly_services, kind_in}
+use Rattle.cip_objects.specs.Tables.{Shape, ObjectShape, Shapes, shape_at, object_at, services_of, services_of_assembly, kind_in}
 use Rattle.cip_bytes.specs.declared.protocol.TheConstants.{ASSEMBLY}
 use Rattle.cip_objects.specs.Tables.{settable_kind, kind_if_settable}
 use Rattle.cip_objects.proofs.Blocks.{eqb-other, first_at}
@@ -46,10 +46,10 @@ shape-get (b ∷ bs) (suc k) d = shape-get bs k d
 
 -- an assembly of a shape, without data
 abbrev with_shape : Shape → AssemblyValues
-with_shape s = record { instance = s.instance; settable = s.settable; members = s.members; content = []; changes = 0 }
+with_shape s = record { instance = s.instance; settable = s.settable; members = s.members; lists = s.lists; content = []; changes = 0 }
 
 abbrev no_block : AssemblyValues
-no_block = record { instance = 0; settable = false; members = []; content = []; changes = 0 }
+no_block = record { instance = 0; settable = false; members = []; lists = false; content = []; changes = 0 }
 
 -- the first assembly with a number has the first shape with it
 first_shape : (bs : List AssemblyValues) (i k : ℕ) → IsFirstBlock bs i k → IsFirstShape (map shape_of bs) i k
@@ -129,26 +129,50 @@ place_value o m k attribute b is h own p =
     (eqb-other i 0 (let above = first_above bs i k b h f in λ z. omega arith))
     ∙ ap (block_value attribute) (first_at bs i k b f)
 
+-- the shape at an index is the first with its number
+shape_first : (ss : List Shape) (i k : ℕ) (d : Shape) → IsFirstShape ss i k → shape_at i ss ≡ Some (get_or ss k d)
+shape_first [] i k d f = absurd (omega (arith, f.within))
+shape_first (s ∷ ss) i zero d f =
+    ap (λ t. cond t (Some s) (shape_at i ss)) (let same = f.here d in let e : eqb s.instance i ≡ true = grind (arith, nat_tests) in e)
+shape_first (s ∷ ss) i (suc k) d f =
+    ap (λ t. cond t (Some s) (shape_at i ss)) (eqb-other s.instance i (f.before 0 d (omega arith)))
+    ∙ shape_first ss i k d
+    (record { within = omega (arith, f.within); here = f.here; before = λ j e lt. f.before (suc j) e (omega arith) })
+
+same_shape : (s t : Shape) → ◌≡◌ {A = Option Shape} (Some s) (Some t) → s ≡ t
+same_shape s t e = cc
+
+-- and whether it has the services for lists
+pub lists_here : (shapes : Shapes) (k : ℕ) (s : Shape) → IsAssemblyIndex shapes k
+    → shape_at (number_at shapes k) shapes.assemblies ≡ Some s → s.lists ≡ (assembly_in shapes k).lists
+lists_here shapes k s p e =
+    ap (λ x. x.lists) (same_shape s (assembly_in shapes k)
+    (sym e ∙ shape_first shapes.assemblies (number_at shapes k) k (shape_of no_block) p))
+
 -- an instance other than 0 has the services of an assembly, if one has its number
 services_at_number : (shapes : Shapes) (class instance : ℕ) → class ≡ 4 → (instance ≡ 0 → ⊥)
-    → services_of shapes class instance ≡ option_map (λ _. assembly_services) (shape_at instance shapes.assemblies)
+    → services_of shapes class instance ≡ option_map services_of_assembly (shape_at instance shapes.assemblies)
 unfolding services_of
 services_at_number shapes class instance e n = rw (e, eqb-other instance 0 n) refl
 
 pub services_found : (o : Inside) (m : Contents) (class i k : ℕ) → Shows o m → class ≡ 4 → (i ≡ 0 → ⊥)
-    → IsFirstBlock (boxed_slice_items o.assemblies) i k → services_of m.shapes class i ≡ Some assembly_services
+    → IsFirstBlock (boxed_slice_items o.assemblies) i k
+    → services_of m.shapes class i ≡ Some (services_of_assembly (assembly_in m.shapes k))
 services_found o m class i k is e n f =
     let bs = boxed_slice_items o.assemblies in
     services_at_number m.shapes class i e n
-    ∙ ap (option_map (λ _. assembly_services))
+    ∙ ap (option_map services_of_assembly)
     (shape_at-contents o.identity bs (counter_values o.counter) o.application m i is
     ∙ ap (option_map shape_of) (first_at bs i k no_block f))
+    ∙ ap (λ s. Some (services_of_assembly s))
+    (sym (ap (λ x. get_or x.assemblies k (shape_of no_block))
+    (shapes-contents o.identity bs (counter_values o.counter) o.application m is) ∙ shape-get bs k no_block))
 
 pub services_missing : (o : Inside) (m : Contents) (class i : ℕ) → Shows o m → class ≡ 4 → (i ≡ 0 → ⊥)
     → assembly_at i (boxed_slice_items o.assemblies) ≡ None → services_of m.shapes class i ≡ None
 services_missing o m class i is e n none =
     services_at_number m.shapes class i e n
-    ∙ ap (option_map (λ _. assembly_services))
+    ∙ ap (option_map services_of_assembly)
     (shape_at-contents o.identity (boxed_slice_items o.assemblies) (counter_values o.counter) o.application m i is
     ∙ ap (option_map shape_of) none)
 

@@ -1,5 +1,5 @@
 -- Which services an instance offers, by tests of its class and its number.
-use Rattle.std.proofs.Common.{ℕ, Bool, cond, List, [], ◌∷◌, Option, Some, None, option_map, Result}
+use Rattle.std.proofs.Common.{◌≡◌, ℕ, Bool, true, false, cond, sym, ap, ◌∙◌, Ok, List, [], ◌∷◌, Option, Some, None, option_map, Result}
 use Rattle.std.specs.Option.{ok_or}
 use Rattle.cip_objects.specs.declared.service.Service.{Service}
 use Rattle.cip_objects.specs.declared.service.Service.TheVariants.{GetAttributesAll, GetAttributeList, GetAttributeSingle, SetAttributeSingle, Add, Clear}
@@ -7,7 +7,7 @@ use Rattle.cip_objects.specs.declared.status.Refusal.{Refusal}
 use Rattle.cip_objects.specs.declared.status.Refusal.TheVariants.{PathDestinationUnknown, ServiceNotSupported}
 use Rattle.cip_bytes.specs.Reading.{◌>>=◌}
 use Rattle.cip_objects.specs.Service.{service_in}
-use Rattle.cip_objects.specs.Tables.{Shape, ObjectShape, assembly_services, object_services}
+use Rattle.cip_objects.specs.Tables.{Shape, ObjectShape, services_of_assembly, services_of_object}
 
 -- a class with one instance: the class itself, the first instance
 abbrev single : Bool → Bool → List Service → Option (List Service)
@@ -18,10 +18,17 @@ single zero one services = cond zero (Some (GetAttributeSingle ∷ [])) (cond on
 abbrev pub table : Bool → Bool → Bool → Bool → Bool → Bool → Option Shape → Bool → Option ObjectShape → Option (List Service)
 table b1 b4 b6 b100 z o x k y =
     cond b1 (single z o (GetAttributesAll ∷ GetAttributeList ∷ GetAttributeSingle ∷ []))
-    (cond b4 (cond z (Some (GetAttributeSingle ∷ [])) (option_map (λ _. assembly_services) x))
+    (cond b4 (cond z (Some (GetAttributeSingle ∷ [])) (option_map services_of_assembly x))
     (cond b6 (cond o (Some []) None)
     (cond b100 (single z o (Add ∷ Clear ∷ GetAttributeList ∷ GetAttributeSingle ∷ SetAttributeSingle ∷ []))
-    (cond z (cond k (Some (GetAttributeSingle ∷ [])) None) (option_map (λ _. object_services) y)))))
+    (cond z (cond k (Some (GetAttributeSingle ∷ [])) None) (option_map services_of_object y)))))
+
+-- a service that is not for lists, whether the object has those or not
+pub not_among : (code : ℕ) (lists : Bool) (ss : List Service) (s : Service) → service_in code ss ≡ None
+    → ok_or (service_in code (cond lists ss [])) ServiceNotSupported ≡ Ok s → ⊥
+not_among code true ss s e f =
+    let g : ok_or None ServiceNotSupported ≡ Ok s = ap (λ o. ok_or o ServiceNotSupported) (sym e) ∙ f in cc
+not_among code false ss s e f = cc
 
 -- the service of this code among them
 abbrev pub offered : ℕ → Option (List Service) → Result Service Refusal

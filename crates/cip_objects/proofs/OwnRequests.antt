@@ -33,7 +33,7 @@ use Rattle.cip_objects.specs.ReadServices.{service_at}
 use Rattle.cip_objects.specs.Router.{general_status}
 use Rattle.cip_objects.specs.Service.{service_in as offered_in}
 use Rattle.cip_objects.specs.Status.{refusal_status, set_refusal}
-use Rattle.cip_objects.specs.Tables.{AttributeShape, ObjectShape, Shapes, object_at, attribute_at as shape_at_number, services_of, object_services, settable_kind, kind_in, kind_of_settable}
+use Rattle.cip_objects.specs.Tables.{AttributeShape, ObjectShape, Shapes, object_at, attribute_at as shape_at_number, services_of, services_of_object, settable_kind, kind_in, kind_of_settable}
 use Rattle.cip_objects.proofs.Lookup.{object_at-map}
 use Rattle.cip_objects.proofs.ObjectLemmas.{find_position, attribute_at-map, at_position, found_at, found_index, shape_here, index_found, object_read, of_list, not_taken, not_counter, below_zero, object_checks, checked, set_to, set_contents, apart_after, IsFound, free_services}
 use Rattle.cip_objects.proofs.ObjectRefs.{free_kind}
@@ -298,15 +298,11 @@ pub record IsRefused (m : Contents) (text : List ℕ) : Type 0 where
 record IsOwnObject (shapes : Shapes) (class instance : ℕ) (o : ObjectShape) : Type 0 where
   free : IsFree shapes class
   here : object_at class instance shapes.objects ≡ Some o
-  offers : services_of shapes class instance ≡ Some object_services
+  offers : services_of shapes class instance ≡ Some (services_of_object o)
 
 not_none : {A : Type 0} (t : Bool) (r : Option A) (x : A) → cond t None r ≡ Some x → (t ≡ false) × (r ≡ Some x)
 not_none true r x e = absurd (cc)
 not_none false r x e = (refl, e)
-
-offers_to : (class instance : ℕ) (ss : List ObjectShape) (t : Bool) (r : Option ObjectShape) (o : ObjectShape) → t ≡ false → r ≡ Some o → cond t (cond (is_some r) (Some object_services) None) (option_map (λ _. object_services) r) ≡ Some object_services
-offers_to class instance ss true r o e f = absurd (cc)
-offers_to class instance ss false r o e f = ap (option_map (λ _. object_services)) f
 
 own_is : (shapes : Shapes) (class instance : ℕ) (o : ObjectShape) → own_object shapes class instance ≡ Some o → IsOwnObject shapes class instance o
 own_is shapes class instance o e =
@@ -324,26 +320,33 @@ own_is shapes class instance o e =
       offers = free_services shapes class instance free ∙ rw (b.1, n.1) refl;
     }
 
-outcome_at : (m : Contents) (text : List ℕ) (q : Request) (p : Path) (s : Result Service Refusal) → request_of text ≡ Ok q → path_of q.path ≡ Ok p → service_at m.shapes p.class p.instance q.service ≡ s → outcome m text ≡ (s >>= λ x. perform m x p q.data)
+pub outcome_at : (m : Contents) (text : List ℕ) (q : Request) (p : Path) (s : Result Service Refusal) → request_of text ≡ Ok q → path_of q.path ≡ Ok p → service_at m.shapes p.class p.instance q.service ≡ s → outcome m text ≡ (s >>= λ x. perform m x p q.data)
 unfolding outcome
 outcome_at m text q p s e f g =
     ap (λ r. request_or_refusal r >>= λ x. path_or_refusal (path_of x.path) >>= λ y. service_at m.shapes y.class y.instance x.service >>= λ z. perform m z y x.data) e
     ∙ ap (λ r. path_or_refusal r >>= λ y. service_at m.shapes y.class y.instance q.service >>= λ z. perform m z y q.data) f
     ∙ ap (λ r. r >>= λ z. perform m z p q.data) g
 
-service_offered : (shapes : Shapes) (class instance code : ℕ) (o : ObjectShape) → IsOwnObject shapes class instance o → service_at shapes class instance code ≡ ok_or (offered_in code object_services) refusals.ServiceNotSupported
+service_offered : (shapes : Shapes) (class instance code : ℕ) (o : ObjectShape) → IsOwnObject shapes class instance o → service_at shapes class instance code ≡ ok_or (offered_in code (services_of_object o)) refusals.ServiceNotSupported
 unfolding service_at
 service_offered shapes class instance code o i =
     ap (λ x. ok_or x refusals.PathDestinationUnknown >>= λ s. ok_or (offered_in code s) refusals.ServiceNotSupported) i.offers
 
 -- an own service is none of the services of the object
-not_offered : (code : ℕ) → is_own_service code ≡ true → offered_in code object_services ≡ None
-not_offered code e =
+not_offered : (code : ℕ) (o : ObjectShape) (lists : Bool) → o.lists ≡ lists → is_own_service code ≡ true → offered_in code (services_of_object o) ≡ None
+not_offered code o true e own =
+    let one : eqb 0x01 code ≡ false = grind (arith, nat_tests) in
+    let three : eqb 0x03 code ≡ false = grind (arith, nat_tests) in
+    let four : eqb 0x04 code ≡ false = grind (arith, nat_tests) in
+    let fourteen : eqb 0x0e code ≡ false = grind (arith, nat_tests) in
+    let sixteen : eqb 0x10 code ≡ false = grind (arith, nat_tests) in
+    rw (one, three, fourteen, sixteen, e, four) refl
+not_offered code o false e own =
     let one : eqb 0x01 code ≡ false = grind (arith, nat_tests) in
     let three : eqb 0x03 code ≡ false = grind (arith, nat_tests) in
     let fourteen : eqb 0x0e code ≡ false = grind (arith, nat_tests) in
     let sixteen : eqb 0x10 code ≡ false = grind (arith, nat_tests) in
-    rw (one, three, fourteen, sixteen) refl
+    rw (one, three, fourteen, sixteen, e) refl
 
 service_refused : (m : Contents) (text : List ℕ) (q : Request) (p : Path) (o : Option ObjectShape) (t : Bool) → request_of text ≡ Ok q → path_of q.path ≡ Ok p → own_object m.shapes p.class p.instance ≡ o → is_own_service q.service ≡ t
     → (option_map (ask_service q p) (cond t (option_and_then (λ x. service_in q.service x.services) o) None) ≡ None → ⊥) → IsRefused m text
@@ -351,7 +354,7 @@ service_refused m text q p o false e f g t h = absurd (h refl)
 service_refused m text q p None true e f g t h = absurd (h refl)
 service_refused m text q p (Some o) true e f g t h =
     let i = own_is m.shapes p.class p.instance o g in
-    let none = service_offered m.shapes p.class p.instance q.service o i ∙ ap (λ x. ok_or x refusals.ServiceNotSupported) (not_offered q.service t) in
+    let none = service_offered m.shapes p.class p.instance q.service o i ∙ ap (λ x. ok_or x refusals.ServiceNotSupported) (not_offered q.service o o.lists refl t) in
     record { refusal = refusals.ServiceNotSupported; refused = outcome_at m text q p _ e f none; status = inl refl }
 
 -- a checked attribute is not settable for the objects
@@ -375,7 +378,7 @@ set_code : (m : Contents) (text : List ℕ) (q : Request) (p : Path) (n : ℕ) (
 set_code m text q p n v o a e f s at value g there t =
     let i = own_is m.shapes p.class p.instance o g in
     let found : service_at m.shapes p.class p.instance q.service ≡ Ok SetAttributeSingle =
-    service_offered m.shapes p.class p.instance q.service o i ∙ ap (λ x. ok_or (offered_in x object_services) refusals.ServiceNotSupported) s in
+    service_offered m.shapes p.class p.instance q.service o i ∙ ap (λ x. ok_or (offered_in x (services_of_object o)) refusals.ServiceNotSupported) s in
     record {
       refusal = refusals.AttributeNotSettable;
       refused = outcome_at m text q p _ e f found

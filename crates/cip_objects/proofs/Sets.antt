@@ -8,7 +8,7 @@ use Rattle.cip_message.specs.declared.request.RequestFault.{RequestFault}
 use Rattle.cip_message.specs.PathReading.{path_of}
 use Rattle.cip_message.specs.Request.{Request}
 use Rattle.cip_objects.specs.declared.service.Service.{Service}
-use Rattle.cip_objects.specs.declared.service.Service.TheVariants.{GetAttributesAll, GetAttributeList, GetAttributeSingle, SetAttributeSingle, GetMember, SetMember, Add, Clear}
+use Rattle.cip_objects.specs.declared.service.Service.TheVariants.{GetAttributesAll, GetAttributeList, SetAttributeList, GetAttributeSingle, SetAttributeSingle, GetMember, SetMember, Add, Clear}
 use Rattle.cip_bytes.specs.declared.protocol.GeneralStatus.TheVariants.{Success}
 use Rattle.cip_objects.specs.declared.status.Completion.TheVariants.{Whole}
 use Rattle.cip_objects.specs.Contents.{Contents, value_at, with_change}
@@ -48,12 +48,14 @@ changes_fit m Clear path content text o max_size h e fits =
 changes_fit m GetAttributesAll path content text o max_size h e fits = absurd h
 changes_fit m GetAttributeList path content text o max_size h e fits = absurd h
 changes_fit m GetAttributeSingle path content text o max_size h e fits = absurd h
+changes_fit m SetAttributeList path content text o max_size h e fits = absurd h
 changes_fit m GetMember path content text o max_size h e fits = absurd h
 
 -- a service of code 0x10 is Set_Attribute_Single
 is_set : (s : Service) → service_code s ≡ 0x10 → s ≡ SetAttributeSingle
 is_set GetAttributesAll e = absurd (omega arith)
 is_set GetAttributeList e = absurd (omega arith)
+is_set SetAttributeList e = absurd (omega arith)
 is_set GetAttributeSingle e = absurd (omega arith)
 is_set SetAttributeSingle e = refl
 is_set GetMember e = absurd (omega arith)

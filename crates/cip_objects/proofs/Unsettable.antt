@@ -10,7 +10,7 @@ use Rattle.cip_message.specs.declared.path.Path.{Path}
 use Rattle.cip_bytes.specs.Numbers.{le}
 use Rattle.cip_objects.specs.declared.assembly.Span.{Span}
 use Rattle.cip_objects.specs.declared.service.Service.{Service}
-use Rattle.cip_objects.specs.declared.service.Service.TheVariants.{GetAttributesAll, GetAttributeList}
+use Rattle.cip_objects.specs.declared.service.Service.TheVariants.{GetAttributesAll, GetAttributeList, SetAttributeList}
 use Rattle.cip_objects.specs.declared.service.Service.TheVariants.{GetAttributeSingle, SetAttributeSingle, GetMember}
 use Rattle.cip_objects.specs.declared.service.Service.TheVariants.{SetMember, Add, Clear}
 use Rattle.cip_objects.specs.declared.status.Refusal.{Refusal}
@@ -23,12 +23,14 @@ use Rattle.cip_objects.specs.ChangeServices.{clear}
 use Rattle.cip_objects.specs.Execution.{Outcome, perform, outcome, exec}
 use Rattle.cip_objects.specs.Laws.{is_add, is_clear, changes_unsettable, unsettable_law}
 use Rattle.cip_objects.specs.Service.{service_code}
+use Rattle.cip_objects.specs.SetLists.{set_all}
 use Rattle.cip_objects.specs.Tables.{Shapes, settable_kind}
 use Rattle.cip_objects.proofs.CounterRun.{add_place, clear_place, to_it}
 use Rattle.cip_objects.proofs.Effects.{Goes, goes, chosen_code, bound, after_check, found_some, set_effect, add_effect}
 use Rattle.cip_objects.proofs.Effects.{clear_effect, read_effect, change_effect}
 use Rattle.cip_objects.proofs.ReadAfterSet.{value_at-other}
 use Rattle.cip_objects.proofs.Settable.{exact_size}
+use Rattle.cip_objects.proofs.ListSets.{list_effect, all_keep}
 use Rattle.cip_objects.proofs.Refuses.{exec_left}
 
 -- a Set_Member: the bytes of the member, and the new data of its assembly
@@ -81,6 +83,9 @@ record Keeps (m n : Contents) (class instance attribute : ℕ) : Type 0 where
 all_kept : (m n : Contents) (d j b : ℕ) → n ≡ m → Keeps m n d j b
 all_kept m n d j b e = record { shapes = ap (λ x. x.shapes) e; value = ap (λ x. value_at x d j b) e }
 
+after_kept : (m n k : Contents) (d j b : ℕ) → Keeps m n d j b → Keeps n k d j b → Keeps m k d j b
+after_kept m n k d j b x y = record { shapes = y.shapes ∙ x.shapes; value = y.value ∙ x.value }
+
 other_key : (d c j i b a : ℕ) → ((d ≡ c) × (j ≡ i) × (b ≡ a) → ⊥) → eqb d c && (eqb j i && eqb b a) ≡ false
 other_key d c j i b a h = grind (arith, nat_tests)
 
@@ -123,6 +128,15 @@ perform_kept m GetAttributesAll path content o d j b e h = all_kept m o.after d 
     (read_effect m (get_attributes_all m path content) o e)
 perform_kept m GetAttributeList path content o d j b e h = all_kept m o.after d j b
     (read_effect m (get_attribute_list m path content) o e)
+perform_kept m SetAttributeList path content o d j b e h =
+    let x = list_effect m path content o e in
+    let k = all_keep (λ n. Keeps m n d j b) path m x.settings
+    (λ n a v c set kept. after_kept m n c.after d j b kept
+    (other_kept n c.after path.class path.instance set.attribute v d j b set.leaves
+    (not_settable n.shapes path.class path.instance set.attribute set.kind d j b set.can
+    (ap (λ s. settable_kind s d j b) kept.shapes ∙ h.unsettable))))
+    (all_kept m m d j b refl) in
+    after_kept m (set_all m path x.settings).after o.after d j b k (all_kept (set_all m path x.settings).after o.after d j b x.after)
 perform_kept m GetAttributeSingle path content o d j b e h = all_kept m o.after d j b
     (read_effect m (get_attribute_single m path content) o e)
 perform_kept m SetAttributeSingle path content o d j b e h =

@@ -13,7 +13,7 @@ use Rattle.cip_message.specs.declared.path.Path.{Path}
 use Rattle.cip_bytes.specs.Numbers.{le}
 use Rattle.cip_objects.specs.declared.config.AssemblyConfig.{AssemblyConfig}
 use Rattle.cip_objects.specs.declared.service.Service.{Service}
-use Rattle.cip_objects.specs.declared.service.Service.TheVariants.{GetAttributesAll, GetAttributeList, GetAttributeSingle, SetAttributeSingle, GetMember, SetMember, Add, Clear}
+use Rattle.cip_objects.specs.declared.service.Service.TheVariants.{GetAttributesAll, GetAttributeList, SetAttributeList, GetAttributeSingle, SetAttributeSingle, GetMember, SetMember, Add, Clear}
 use Rattle.cip_objects.specs.ChangeServices.{Change, with_bytes_at, set_attribute_single, set_member, add, clear}
 use Rattle.cip_objects.specs.Configuration.{assembly_of_config}
 use Rattle.cip_objects.specs.Contents.{Contents, bytes_at, udint_at, with_value, with_change}
@@ -29,6 +29,8 @@ use Rattle.cip_objects.proofs.Blocks.{eqb-other}
 use Rattle.cip_objects.proofs.Lookup.{value_at-contents_of}
 use Rattle.cip_objects.proofs.Members.{named, fits_in}
 use Rattle.cip_objects.proofs.Settable.{settable_data}
+use Rattle.cip_objects.specs.SetLists.{set_all}
+use Rattle.cip_objects.proofs.ListSets.{list_effect, all_keep, at}
 use Rattle.cip_objects.proofs.Refuses.{exec_left}
 use Rattle.cip_objects.proofs.Shapes.{shape_at-contents}
 use Rattle.cip_objects.proofs.Spans.{length-with_bytes_at}
@@ -106,6 +108,11 @@ perform_whole m GetAttributesAll path content o h e = same_whole m o.after
     (read_effect m (get_attributes_all m path content) o e) h
 perform_whole m GetAttributeList path content o h e = same_whole m o.after
     (read_effect m (get_attribute_list m path content) o e) h
+perform_whole m SetAttributeList path content o h e =
+    let x = list_effect m path content o e in
+    same_whole (set_all m path x.settings).after o.after x.after
+    (all_keep AreWhole path m x.settings
+    (λ n a v c set whole. set_whole n (at path a) v c c.after whole refl set (eqb_tells path.class 4)) h)
 perform_whole m GetAttributeSingle path content o h e = same_whole m o.after
     (read_effect m (get_attribute_single m path content) o e) h
 perform_whole m SetAttributeSingle path content o h e =

@@ -85,6 +85,7 @@ assembly_of_config a = record {
   instance = a.instance;
   settable = a.settable;
   members = a.members.items;
+  lists = a.lists;
   content = replicate (sum a.members.items) 0;
   changes = 0;
 }

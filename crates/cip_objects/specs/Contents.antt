@@ -53,8 +53,10 @@ key_code =
 
 abbrev pub shape_code : Coded Shape
 shape_code =
-    code_by (ℕ × (Bool × List ℕ)) (coded× coded_ℕ (coded× coded_bool (coded_list coded_ℕ)))
-    (λ s. (s.instance, (s.settable, s.members))) (λ p. record { instance = p.0; settable = p.1.0; members = p.1.1 })
+    code_by (ℕ × (Bool × (List ℕ × Bool)))
+    (coded× coded_ℕ (coded× coded_bool (coded× (coded_list coded_ℕ) coded_bool)))
+    (λ s. (s.instance, (s.settable, (s.members, s.lists))))
+    (λ p. record { instance = p.0; settable = p.1.0; members = p.1.1.0; lists = p.1.1.1 })
     (λ _. refl)
 
 abbrev pub device_code : Coded Device
@@ -87,10 +89,10 @@ attribute_code =
 
 abbrev pub object_code : Coded ObjectShape
 object_code =
-    code_by (ℕ × (ℕ × (List AttributeShape × List ServiceConfig)))
-    (coded× coded_ℕ (coded× coded_ℕ (coded× (coded_list attribute_code) (coded_list service_code))))
-    (λ o. (o.class, (o.instance, (o.attributes, o.services))))
-    (λ p. record { class = p.0; instance = p.1.0; attributes = p.1.1.0; services = p.1.1.1 })
+    code_by (ℕ × (ℕ × (List AttributeShape × (List ServiceConfig × Bool))))
+    (coded× coded_ℕ (coded× coded_ℕ (coded× (coded_list attribute_code) (coded× (coded_list service_code) coded_bool))))
+    (λ o. (o.class, (o.instance, (o.attributes, (o.services, o.lists)))))
+    (λ p. record { class = p.0; instance = p.1.0; attributes = p.1.1.0; services = p.1.1.1.0; lists = p.1.1.1.1 })
     (λ _. refl)
 
 abbrev pub shapes_code : Coded Shapes

@@ -36,6 +36,7 @@ pub record AssemblyValues : Type 0 where
   pub instance : ℕ
   pub settable : Bool
   pub members : List ℕ
+  pub lists : Bool
   pub content : List ℕ
   pub changes : ℕ
 
@@ -119,7 +120,7 @@ greatest_of [] = 0
 greatest_of (b ∷ bs) = max b.instance (greatest_of bs)
 
 abbrev pub shape_of : AssemblyValues → Shape
-shape_of b = record { instance = b.instance; settable = b.settable; members = b.members }
+shape_of b = record { instance = b.instance; settable = b.settable; members = b.members; lists = b.lists }
 
 abbrev pub tally_of : AssemblyValues → Tally
 tally_of b = record { of_key = data_key b.instance; changes = b.changes }
@@ -133,6 +134,7 @@ object_shape_of o = record {
   instance = o.instance;
   attributes = map attribute_shape_of o.attributes;
   services = o.services;
+  lists = o.lists;
 }
 
 abbrev pub object_tallies : ObjectValues → List Tally

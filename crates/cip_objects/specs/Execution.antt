@@ -8,7 +8,7 @@ use Rattle.cip_message.specs.PathReading.{path_of}
 use Rattle.cip_message.specs.Request.{Request, request_of}
 use Rattle.cip_message.specs.Reply.{reply, reply_of_fields}
 use Rattle.cip_objects.specs.declared.service.Service.{Service}
-use Rattle.cip_objects.specs.declared.service.Service.TheVariants.{GetAttributesAll, GetAttributeList}
+use Rattle.cip_objects.specs.declared.service.Service.TheVariants.{GetAttributesAll, GetAttributeList, SetAttributeList}
 use Rattle.cip_objects.specs.declared.service.Service.TheVariants.{GetAttributeSingle, SetAttributeSingle, GetMember}
 use Rattle.cip_objects.specs.declared.service.Service.TheVariants.{SetMember, Add, Clear}
 use Rattle.cip_bytes.specs.declared.protocol.GeneralStatus.{GeneralStatus}
@@ -21,6 +21,7 @@ use Rattle.cip_objects.specs.Contents.{Contents}
 use Rattle.cip_objects.specs.ReadServices.{Answer, service_at, get_attribute_single, get_attributes_all}
 use Rattle.cip_objects.specs.ReadServices.{get_attribute_list, get_member}
 use Rattle.cip_objects.specs.ChangeServices.{Change, set_attribute_single, set_member, add, clear}
+use Rattle.cip_objects.specs.SetLists.{ListOutcome, set_attribute_list}
 use Rattle.cip_message.specs.Reply.{reply_service}
 use Rattle.cip_bytes.specs.Protocol.{general_status_number}
 use Rattle.cip_objects.specs.Status.{completion_status, refusal_status}
@@ -40,9 +41,14 @@ abbrev pub outcome_of_change : Result Change Refusal → Result Outcome Refusal
 outcome_of_change (Ok c) = Ok (record { after = c.after; status = Whole; content = c.content })
 outcome_of_change (Err s) = Err s
 
+abbrev pub outcome_of_list : Result ListOutcome Refusal → Result Outcome Refusal
+outcome_of_list (Ok l) = Ok (record { after = l.after; status = l.status; content = l.content })
+outcome_of_list (Err s) = Err s
+
 abbrev pub perform : Contents → Service → Path → List ℕ → Result Outcome Refusal
 perform m GetAttributesAll path content = outcome_of_read m (get_attributes_all m path content)
 perform m GetAttributeList path content = outcome_of_read m (get_attribute_list m path content)
+perform m SetAttributeList path content = outcome_of_list (set_attribute_list m path content)
 perform m GetAttributeSingle path content = outcome_of_read m (get_attribute_single m path content)
 perform m SetAttributeSingle path content = outcome_of_change (set_attribute_single m path content)
 perform m GetMember path content = outcome_of_read m (get_member m path content)

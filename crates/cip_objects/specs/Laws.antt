@@ -1,12 +1,12 @@
 -- What holds of executions, in terms of objects, attributes and requests.
 use Rattle.std.specs.Prelude.{◌≡◌, ℕ, ◌+◌, ◌≤◌, ◌==◌, ◌&&◌, ◌||◌, Bool, false, List, [], ◌∷◌, length, Some, None, is_some}
-use Rattle.std.specs.Prelude.{Ok}
+use Rattle.std.specs.Prelude.{Ok, slice_index}
 use Rattle.std.specs.List.{AllByRecursion}
 use Rattle.cip_message.specs.declared.path.Path.{Path}
 use Rattle.cip_message.specs.PathReading.{path_of}
 use Rattle.cip_message.specs.Request.{request_of}
 use Rattle.cip_objects.specs.declared.service.Service.{Service}
-use Rattle.cip_objects.specs.declared.service.Service.TheVariants.{GetAttributesAll, GetAttributeList}
+use Rattle.cip_objects.specs.declared.service.Service.TheVariants.{GetAttributesAll, GetAttributeList, SetAttributeList}
 use Rattle.cip_objects.specs.declared.service.Service.TheVariants.{GetAttributeSingle, SetAttributeSingle, GetMember}
 use Rattle.cip_objects.specs.declared.service.Service.TheVariants.{SetMember, Add, Clear}
 use Rattle.cip_bytes.specs.declared.protocol.GeneralStatus.TheVariants.{Success}
@@ -28,22 +28,23 @@ too_large_law =
     (m : Contents) (max_size : ℕ) (text : List ℕ) → general_status (exec m max_size text).answer ≡ REPLY_TOO_LARGE
     → (exec m max_size text).after ≡ m
 
--- The services that change the object map.
-abbrev pub IsChanging : Service → Type 0
-IsChanging SetAttributeSingle = Unit {0}
-IsChanging SetMember = Unit {0}
-IsChanging Add = Unit {0}
-IsChanging Clear = Unit {0}
-IsChanging GetAttributesAll = ⊥
-IsChanging GetAttributeList = ⊥
-IsChanging GetAttributeSingle = ⊥
-IsChanging GetMember = ⊥
+-- The services that change the object map, but for the one that sets a list. The longer the list, the longer its reply.
+abbrev pub ChangesOne : Service → Type 0
+ChangesOne SetAttributeSingle = Unit {0}
+ChangesOne SetMember = Unit {0}
+ChangesOne Add = Unit {0}
+ChangesOne Clear = Unit {0}
+ChangesOne SetAttributeList = ⊥
+ChangesOne GetAttributesAll = ⊥
+ChangesOne GetAttributeList = ⊥
+ChangesOne GetAttributeSingle = ⊥
+ChangesOne GetMember = ⊥
 
--- If `max_size` is 8 or more, the reply of each service that changes the object map fits.
+-- If `max_size` is 8 or more, the reply of each of these services fits.
 abbrev pub changes_fit_law : Type 0
 changes_fit_law =
     (m : Contents) (service : Service) (path : Path) (content text : List ℕ) (o : Outcome) (max_size : ℕ)
-    → IsChanging service → perform m service path content ≡ Ok o → 8 ≤ max_size
+    → ChangesOne service → perform m service path content ≡ Ok o → 8 ≤ max_size
     → length (reply_to text (completion_status o.status) o.content) ≤ max_size
 
 -- After a Set_Attribute_Single that succeeded, Get_Attribute_Single answers the value that was set.
@@ -68,9 +69,15 @@ refused_law =
     → (general_status (exec m max_size text).answer ≡ 0x0a → ⊥)
     → (length (exec m max_size text).answer ≡ 4) × ((exec m max_size text).after ≡ m)
 
--- If `max_size` is 8 or more, the contents after a request do not depend on it.
+-- The reply fits.
+abbrev pub Fits : Contents → ℕ → List ℕ → Type 0
+Fits m max_size text = general_status (exec m max_size text).answer ≡ REPLY_TOO_LARGE → ⊥
+
+-- If `max_size` is 8 or more, the contents after a request do not depend on it. Those after a Set_Attribute_List depend
+-- on whether its reply fits.
 abbrev pub any_max_size_law : Type 0
 any_max_size_law = (m : Contents) (max_size other : ℕ) (text : List ℕ) → 8 ≤ max_size → 8 ≤ other
+    → (slice_index text 0 ≡ 0x04 → Fits m max_size text × Fits m other text)
     → (exec m max_size text).after ≡ (exec m other text).after
 
 -- An Add, and a Clear, of the counter.

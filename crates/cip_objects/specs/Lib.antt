@@ -16,6 +16,7 @@ pub mod Check
 pub mod ReplyWriting
 pub mod ReadServices
 pub mod ChangeServices
+pub mod SetLists
 pub mod Execution
 pub mod ExecutionLaws
 pub mod Packets
@@ -30,6 +31,7 @@ pub mod Rows
 pub mod Objects
 pub mod Assembly
 pub mod Lists
+pub mod SetListLaws
 pub mod Members
 pub mod DeviceWrites
 pub mod Kept
@@ -37,3 +39,4 @@ pub mod OwnRequests
 pub mod OwnRows
 pub mod ChangesRun
 pub mod ObjectList
+pub mod SetListRows

@@ -1,7 +1,7 @@
 -- The object that the class and the instance of a path lead to (Volume 1, object model), and its settable
 -- attributes.
 use Rattle.std.specs.Prelude.{◌≡◌, ℕ, ◌+◌, ◌≤◌, List, [], ◌∷◌, length, map, slice_index, Option, Some, None, true}
-use Rattle.std.specs.Prelude.{Result, Ok, Err, ⊤, false, ◌==◌, slice_index_or, unwrap_or, is_some}
+use Rattle.std.specs.Prelude.{Result, Ok, Err, ⊤, Bool, false, ◌==◌, slice_index_or, unwrap_or, is_some, ◌++◌, if◌then◌else◌}
 use Rattle.cip_application.specs.declared.kind.AttributeKind.{AttributeKind}
 use Rattle.cip_application.specs.declared.kind.AttributeKind.TheVariants.{Fixed}
 use Rattle.cip_application.specs.Values.{size_for}
@@ -25,8 +25,8 @@ use Rattle.cip_objects.specs.Check.{demand, check_size}
 use Rattle.cip_objects.specs.Contents.{Contents, value_at, bytes_at, with_change}
 use Rattle.cip_objects.specs.Service.{service_code, service_in}
 use Rattle.cip_objects.specs.FirstOf.{IsFirst}
-use Rattle.cip_objects.specs.Tables.{Shapes, ObjectShape, shape_at, object_at, position_at, kind_in, is_counter_class}
-use Rattle.cip_objects.specs.Tables.{assembly_services, object_services}
+use Rattle.cip_objects.specs.Tables.{Shape, Shapes, ObjectShape, shape_at, object_at, position_at, kind_in, is_counter_class}
+use Rattle.cip_objects.specs.Tables.{assembly_services, assembly_list_services, object_services, object_list_services}
 use Rattle.cip_bytes.specs.declared.protocol.TheConstants.{IDENTITY, ASSEMBLY, CONNECTION_MANAGER, COUNTER}
 
 abbrev pub class_number : Class → ℕ
@@ -37,7 +37,14 @@ class_number classes.Counter = COUNTER
 -- The application object at this index. Past the end there is one of class 0, which no configuration has.
 abbrev pub object_in : Shapes → ℕ → ObjectShape
 object_in shapes object_index =
-    slice_index_or shapes.objects object_index (record { class = 0; instance = 0; attributes = []; services = [] })
+    slice_index_or shapes.objects object_index
+    (record { class = 0; instance = 0; attributes = []; services = []; lists = false })
+
+-- The assembly at this index. Past the end there is one without members.
+abbrev pub assembly_in : Shapes → ℕ → Shape
+assembly_in shapes assembly_index =
+    slice_index_or shapes.assemblies assembly_index
+    (record { instance = 0; settable = false; members = []; lists = false })
 
 -- The object's class.
 abbrev pub class_at : Shapes → ObjectRef → ℕ
@@ -63,18 +70,43 @@ instance_at shapes object_refs.Counter = 1
 instance_at shapes (object_refs.ApplicationClass class) = 0
 instance_at shapes (object_refs.Application object_index) = (object_in shapes object_index).instance
 
--- The object's services.
-abbrev pub services_at : ObjectRef → List Service
-services_at (object_refs.Class c) = services.GetAttributeSingle ∷ []
-services_at object_refs.Identity =
+-- The object's services, without those for lists of attributes that it may have.
+abbrev pub usual_services : ObjectRef → List Service
+usual_services (object_refs.Class c) = services.GetAttributeSingle ∷ []
+usual_services object_refs.Identity =
     services.GetAttributesAll ∷ services.GetAttributeList ∷ services.GetAttributeSingle ∷ []
-services_at (object_refs.Assembly assembly_index) = assembly_services
-services_at object_refs.ConnectionManager = []
-services_at object_refs.Counter =
+usual_services (object_refs.Assembly assembly_index) = assembly_services
+usual_services object_refs.ConnectionManager = []
+usual_services object_refs.Counter =
     services.Add ∷ services.Clear ∷ services.GetAttributeList ∷ services.GetAttributeSingle
     ∷ services.SetAttributeSingle ∷ []
-services_at (object_refs.ApplicationClass class) = services.GetAttributeSingle ∷ []
-services_at (object_refs.Application object_index) = object_services
+usual_services (object_refs.ApplicationClass class) = services.GetAttributeSingle ∷ []
+usual_services (object_refs.Application object_index) = object_services
+
+-- Those for lists of attributes.
+abbrev pub list_services : ObjectRef → List Service
+list_services (object_refs.Class c) = []
+list_services object_refs.Identity = []
+list_services (object_refs.Assembly assembly_index) = assembly_list_services
+list_services object_refs.ConnectionManager = []
+list_services object_refs.Counter = []
+list_services (object_refs.ApplicationClass class) = []
+list_services (object_refs.Application object_index) = object_list_services
+
+-- The object has them.
+abbrev pub has_lists : Shapes → ObjectRef → Bool
+has_lists shapes (object_refs.Class c) = false
+has_lists shapes object_refs.Identity = false
+has_lists shapes (object_refs.Assembly assembly_index) = (assembly_in shapes assembly_index).lists
+has_lists shapes object_refs.ConnectionManager = false
+has_lists shapes object_refs.Counter = false
+has_lists shapes (object_refs.ApplicationClass class) = false
+has_lists shapes (object_refs.Application object_index) = (object_in shapes object_index).lists
+
+-- The object's services.
+abbrev pub services_at : Shapes → ObjectRef → List Service
+services_at shapes object =
+    usual_services object ++ (if has_lists shapes object then list_services object else [])
 
 -- The index is that of an assembly, the first with its instance number.
 abbrev pub IsAssemblyIndex : Shapes → ℕ → Type 0
@@ -87,8 +119,8 @@ pub record IsAssemblyAt (shapes : Shapes) (instance assembly_index : ℕ) : Type
   pub there : IsAssemblyIndex shapes assembly_index
 
 -- The object has this service.
-abbrev pub HasService : ObjectRef → Service → Type 0
-HasService object service = service_in (service_code service) (services_at object) ≡ Some service
+abbrev pub HasService : Shapes → ObjectRef → Service → Type 0
+HasService shapes object service = service_in (service_code service) (services_at shapes object) ≡ Some service
 
 -- The device has a counter.
 abbrev pub HasCounter : Shapes → Type 0
@@ -142,11 +174,21 @@ IsAssembly (object_refs.Application object_index) = ⊥
 abbrev pub IsReadWhole : ObjectRef → Type 0
 IsReadWhole (object_refs.Class c) = ⊥
 IsReadWhole object_refs.Identity = ⊤
-IsReadWhole (object_refs.Assembly assembly_index) = ⊥
+IsReadWhole (object_refs.Assembly assembly_index) = ⊤
 IsReadWhole object_refs.ConnectionManager = ⊥
 IsReadWhole object_refs.Counter = ⊥
 IsReadWhole (object_refs.ApplicationClass class) = ⊥
 IsReadWhole (object_refs.Application object_index) = ⊤
+
+-- Set_Attribute_List can set attributes of the object.
+abbrev pub IsSetAsList : ObjectRef → Type 0
+IsSetAsList (object_refs.Class c) = ⊥
+IsSetAsList object_refs.Identity = ⊥
+IsSetAsList (object_refs.Assembly assembly_index) = ⊤
+IsSetAsList object_refs.ConnectionManager = ⊥
+IsSetAsList object_refs.Counter = ⊥
+IsSetAsList (object_refs.ApplicationClass class) = ⊥
+IsSetAsList (object_refs.Application object_index) = ⊤
 
 -- Class and instance lead to this object.
 pub record Resolves (shapes : Shapes) (class instance : ℕ) (object : ObjectRef) : Type 0 where

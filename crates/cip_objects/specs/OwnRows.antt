@@ -42,7 +42,7 @@ abbrev pub standard : ServiceConfig
 standard = record { number = 0x31; least = 0; most = 0; reply = 0; kind = kinds.Asked }
 
 abbrev pub conveyor : ObjectShape
-conveyor = record { class = 768; instance = 1; attributes = speed ∷ []; services = move ∷ load ∷ standard ∷ [] }
+conveyor = record { class = 768; instance = 1; attributes = speed ∷ []; services = move ∷ load ∷ standard ∷ []; lists = false }
 
 abbrev pub line : Shapes
 line = record { assemblies = []; has_counter = true; objects = conveyor ∷ [] }

@@ -54,6 +54,10 @@ get_attribute_single m path content = do
 abbrev pub IDENTITY_ATTRIBUTES : List ℕ
 IDENTITY_ATTRIBUTES = 1 ∷ 2 ∷ 3 ∷ 4 ∷ 5 ∷ 6 ∷ 7 ∷ []
 
+-- Those of an assembly.
+abbrev pub ASSEMBLY_ATTRIBUTES : List ℕ
+ASSEMBLY_ATTRIBUTES = 1 ∷ 3 ∷ 4 ∷ []
+
 -- It reads all of an application object, in the order of their numbers.
 abbrev pub numbers_of : Option ObjectShape → List ℕ
 numbers_of None = []
@@ -61,7 +65,8 @@ numbers_of (Some o) = map (λ a. a.number) o.attributes
 
 abbrev pub all_attributes : Shapes → ℕ → ℕ → List ℕ
 all_attributes shapes class instance =
-    if class == IDENTITY then IDENTITY_ATTRIBUTES else numbers_of (object_at class instance shapes.objects)
+    if class == IDENTITY then IDENTITY_ATTRIBUTES
+    else (if class == ASSEMBLY then ASSEMBLY_ATTRIBUTES else numbers_of (object_at class instance shapes.objects))
 
 -- Get_Attributes_All: the values of these attributes, joined. The TCP/IP Interface and the Ethernet Link do not have
 -- the service, as they lack attributes that its reply would have (our choice).

@@ -1,11 +1,12 @@
 //! An assembly: its data are its members, one after another (Volume 1, class 0x04).
 //! Text: docs/PROTOCOL.md, "Objects".
 ghost use Rattle.std.specs.Prelude.{◌≡◌, ◌≤◌, ◌+◌, ◌-◌, ◌*◌, ◌<◌, length, sum, take, drop, slice_index, option_map};
-ghost use Rattle.std.specs.Prelude.{option_copied, ◌++◌, IfOk, IfSome, replicate, MatchOption};
-ghost use Rattle.cip_objects.specs.Entries.{attribute_in, assembly_attributes, assembly_at, greatest_of};
+ghost use Rattle.std.specs.Prelude.{ℕ, List, option_copied, ◌++◌, IfOk, IfSome, replicate, MatchOption};
+ghost use Rattle.cip_objects.specs.Entries.{attribute_in, assembly_attributes, assembly_at, greatest_of, shape_of};
 ghost use Rattle.cip_objects.specs.Changes.{one_more};
 ghost use Rattle.cip_objects.specs.FirstOf.{IsFirst};
-ghost use Rattle.cip_objects.specs.Tables.{span_of};
+ghost use Rattle.cip_objects.specs.Tables.{span_of, kind_in_assembly};
+ghost use Rattle.cip_application.specs.Values.{size_for};
 ghost use Rattle.cip_objects.specs.AttributeValue.{value_bytes, IsShort};
 
 use crate::value::AttributeValue;
@@ -38,6 +39,8 @@ pub(crate) struct Assembly {
     settable: bool,
     /// The sizes of the members in bytes, in the order of the data.
     members: BoxedSlice<u16>,
+    /// Whether it has the services for lists of attributes.
+    lists: bool,
     /// The data: the members, one after another.
     content: BoxedSlice<u8>,
     /// How often peers wrote the data, modulo 2^32.
@@ -54,6 +57,7 @@ impl Model for Assembly {
       instance = a.instance;
       settable = a.settable;
       members = boxed_slice_items a.members;
+      lists = a.lists;
       content = boxed_slice_items a.content;
       changes = a.changes;
     } };
@@ -70,6 +74,7 @@ impl Assembly {
         instance: u16,
         settable: bool,
         members: &[u16],
+        lists: bool,
     ) -> Result<Assembly, AllocError>
         requires few { length members.now ≤ MEMBER_LIMIT }
         requires small { sum members.now ≤ DATA_LIMIT }
@@ -78,6 +83,7 @@ impl Assembly {
               instance = instance;
               settable = settable;
               members = members.now;
+              lists = lists;
               content = replicate (sum members.now) 0;
               changes = 0;
             }) }
@@ -86,6 +92,7 @@ impl Assembly {
             instance,
             settable,
             members: BoxedSlice::from_slice(alloc, members)?,
+            lists,
             content: vec![in alloc; 0; total(members)]?.into_boxed_slice(),
             changes: 0,
         })
@@ -141,6 +148,25 @@ impl Assembly {
         ensures { result ≡ self.now.settable }
     {
         self.settable
+    }
+
+    /// Whether it has the services for lists of attributes.
+    pub(crate) fn has_lists(&self) -> bool
+        ensures { result ≡ self.now.lists }
+    {
+        self.lists
+    }
+
+    /// The bytes of a value of an attribute, or `None` if there is no such attribute.
+    pub(crate) fn value_size(&self, attribute: u16) -> Option<usize>
+        ensures { (value : List ℕ) → result
+            ≡ option_map (λ kind. size_for kind value) (kind_in_assembly attribute (shape_of self.now)) }
+    {
+        match attribute {
+            1 | 4 => Some(2),
+            3 => Some(self.content.len()),
+            _ => None,
+        }
     }
 
     /// The data.

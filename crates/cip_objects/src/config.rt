@@ -80,7 +80,7 @@ pub struct CounterConfig {
 /// ```
 /// let mut members = Vec::new(alloc);
 /// members.push(4)?;
-/// let assembly = AssemblyConfig { instance: 100, settable: true, members };
+/// let assembly = AssemblyConfig { instance: 100, settable: true, members, lists: false };
 /// ```
 #[derive(Debug, Drop)]
 pub struct AssemblyConfig {
@@ -90,6 +90,8 @@ pub struct AssemblyConfig {
     pub settable: bool,
     /// The sizes of the members in bytes. None of them is 0.
     pub members: Vec<u16>,
+    /// Whether peers can read all its attributes, and set a list of them, with one request.
+    pub lists: bool,
 }
 
 /// Why no objects are made from a configuration: the first of these that holds.

@@ -42,7 +42,7 @@ impl Objects {
         reply: &mut ReplyBuf,
     ) -> Result<Completion, Refusal>
         requires there { Exists self.old.shapes resolved.object }
-        requires offered { HasService resolved.object service }
+        requires offered { HasService self.old.shapes resolved.object service }
         requires max_size_from { 8 ≤ max_size }
         requires max_size_to { max_size ≤ REPLY_LIMIT }
         requires head { length reply.old.items ≡ 4 }
@@ -54,6 +54,7 @@ impl Objects {
         match service {
             Service::GetAttributesAll => self.get_attributes_all(resolved, data, max_size, reply),
             Service::GetAttributeList => self.get_attribute_list(resolved, data, max_size, reply),
+            Service::SetAttributeList => self.set_attribute_list(resolved, data, max_size, reply),
             Service::GetAttributeSingle => {
                 let value = self.get_attribute_single(resolved, data)?;
                 value.append(max_size, reply)?;
@@ -113,8 +114,8 @@ impl Objects {
             .object(path.class, path.instance)
             .ok_or(Refusal::PathDestinationUnknown)?;
         // The object does not have this service: 0x08.
-        let service = object
-            .service(view.service)
+        let service = self
+            .service(object, view.service)
             .ok_or(Refusal::ServiceNotSupported)?;
         let resolved = ResolvedPath {
             object,

@@ -3,6 +3,7 @@
 ghost use Rattle.cip_objects.specs.Laws.{too_large_law, refused_law, any_max_size_law, changes_fit_law};
 ghost use Rattle.cip_objects.specs.Laws.{get_after_set_law, set_leaves_others_law, unsettable_law};
 ghost use Rattle.cip_objects.specs.Lists.{list_law};
+ghost use Rattle.cip_objects.specs.SetListLaws.{set_list_law};
 ghost use Rattle.cip_objects.specs.Members.{member_after_set_law, set_member_leaves_others_law, whole_law};
 ghost use Rattle.cip_objects.specs.Router.{RepliesWellFormed};
 ghost use Rattle.cip_objects.specs.Contents.{Contents};
@@ -29,12 +30,13 @@ pub fn replies_are_well_formed()
     ensures { RepliesWellFormed (λ (m : Contents) max_size text. (exec m max_size text).answer) }
 {}
 
-/// If `max_size` is 8 or more, the object map after a request does not depend on it.
+/// If `max_size` is 8 or more, the object map after a request does not depend on it. That after a Set_Attribute_List depends
+/// on whether its reply fits.
 pub fn any_max_size()
     ensures { any_max_size_law }
 {}
 
-/// If `max_size` is 8 or more, the reply of each service that changes the object map fits.
+/// If `max_size` is 8 or more, the reply of each service that changes the object map fits, but for Set_Attribute_List.
 pub fn changes_fit()
     ensures { changes_fit_law }
 {}
@@ -42,6 +44,12 @@ pub fn changes_fit()
 /// The reply to a Get_Attribute_List has, for each attribute, what Get_Attribute_Single answers for it.
 pub fn list_is_gets()
     ensures { list_law }
+{}
+
+/// Set_Attribute_List is Set_Attribute_Single of each attribute, one after another: the object map afterwards is the same,
+/// and the reply has, for each attribute, the status of the reply to that request.
+pub fn set_list_is_sets()
+    ensures { set_list_law }
 {}
 
 /// After a Set_Attribute_Single that succeeded, Get_Attribute_Single answers the value that was set.

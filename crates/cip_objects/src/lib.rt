@@ -9,8 +9,8 @@
 //! refuses them. `Objects::own_request` says what such a request asks, and `Objects::store_checked` stores a set that
 //! the owner approved. `own_request` in `specs/OwnRequests.antt` defines which requests these are.
 //!
-//! Only `Objects::new` allocates. Left out are dynamic assemblies, Set_Attributes_All, Set_Attribute_List and Identity
-//! Reset. All of these are answered "service not supported". The services of the Connection Manager belong to
+//! Only `Objects::new` allocates. Left out are dynamic assemblies and Set_Attributes_All, which are answered "service not
+//! supported", and Identity Reset, which `cip_owner` executes. The services of the Connection Manager belong to
 //! `cip_manager`.
 //!
 //! ```
@@ -39,6 +39,7 @@ mod read_services;
 mod reply;
 mod router;
 mod service;
+mod set_list;
 mod status;
 mod value;
 

@@ -16,7 +16,7 @@ static IDENTITY_SERVICES: [Service; 3] = [
     Service::GetAttributeSingle,
 ];
 
-/// The services of an assembly.
+/// The services of each assembly.
 static ASSEMBLY_SERVICES: [Service; 5] = [
     Service::GetAttributeList,
     Service::GetAttributeSingle,
@@ -34,13 +34,22 @@ static COUNTER_SERVICES: [Service; 5] = [
     Service::SetAttributeSingle,
 ];
 
-/// The services of an application object.
+/// The services of each application object.
 static OBJECT_SERVICES: [Service; 4] = [
     Service::GetAttributesAll,
     Service::GetAttributeList,
     Service::GetAttributeSingle,
     Service::SetAttributeSingle,
 ];
+
+/// The services for lists of attributes, of an assembly that has them.
+static ASSEMBLY_LIST_SERVICES: [Service; 2] = [
+    Service::SetAttributeList,
+    Service::GetAttributesAll,
+];
+
+/// The same of an application object. Each of them has Get_Attributes_All.
+static OBJECT_LIST_SERVICES: [Service; 1] = [Service::SetAttributeList];
 
 /// The object that the class and the instance of a path lead to. If there is none, the path destination is unknown:
 /// 0x05.
@@ -63,12 +72,12 @@ pub(crate) enum ObjectRef {
 }
 
 impl ObjectRef {
-    ghost use Rattle.cip_objects.specs.ObjectRef.{services_at};
+    ghost use Rattle.cip_objects.specs.ObjectRef.{usual_services, list_services};
 
-    /// The object's services.
+    /// The object's services, without those for lists of attributes that it may have.
     #[inline(always)]
     fn services(self) -> &'static [Service]
-        ensures { result.now ≡ services_at self }
+        ensures { result.now ≡ usual_services self }
     {
         match self {
             ObjectRef::Class(_) | ObjectRef::ApplicationClass(_) => &CLASS_SERVICES,
@@ -82,12 +91,23 @@ impl ObjectRef {
         }
     }
 
-    /// The service with this code, or `None` if the object does not have it.
+    /// The service with this code among these.
     #[inline(always)]
-    pub(crate) fn service(self, code: u8) -> Option<Service>
-        ensures { result ≡ service_in code (services_at self) }
+    pub(crate) fn usual_service(self, code: u8) -> Option<Service>
+        ensures { result ≡ service_in code (usual_services self) }
     {
         service_in(code, self.services())
+    }
+
+    /// The service for lists of attributes with this code, of an object that has them.
+    pub(crate) fn list_service(self, code: u8) -> Option<Service>
+        ensures { result ≡ service_in code (list_services self) }
+    {
+        match self {
+            ObjectRef::Assembly(_) => service_in(code, &ASSEMBLY_LIST_SERVICES),
+            ObjectRef::Application(_) => service_in(code, &OBJECT_LIST_SERVICES),
+            _ => None,
+        }
     }
 }
 

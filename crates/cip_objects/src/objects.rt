@@ -10,7 +10,7 @@ ghost use Rattle.cip_objects.specs.Contents.{value_at, bytes_at, udint_at, with_
 ghost use Rattle.cip_objects.specs.Changes.{changes_of, changes_at};
 ghost use Rattle.cip_objects.specs.ChangeServices.{with_bytes_at};
 ghost use Rattle.cip_objects.specs.ObjectRef.{ClassExists, class_number, Resolves, HasNoValue, Exists, IsAssemblyIndex};
-ghost use Rattle.cip_objects.specs.ObjectRef.{services_at, class_at, instance_at, number_at, value_to, data_at};
+ghost use Rattle.cip_objects.specs.ObjectRef.{services_at, has_lists, class_at, instance_at, number_at, value_to, data_at};
 ghost use Rattle.cip_objects.specs.ObjectRef.{CanBeSet, kind_to_set, IsAssemblyAt, HasCounter};
 ghost use Rattle.cip_objects.specs.DeviceWrites.{device_write, with_device_status, with_device_state};
 ghost use Rattle.cip_objects.specs.Members.{AreWhole};
@@ -18,6 +18,7 @@ ghost use Rattle.cip_objects.specs.Run.{IsCounter};
 ghost use Rattle.cip_objects.specs.Entries.{shape_of};
 ghost use Rattle.cip_objects.specs.Tables.{services_of, shape_at, settable_kind};
 ghost use Rattle.cip_objects.specs.ObjectMap.{key};
+ghost use Rattle.cip_objects.specs.Service.{service_in};
 ghost use Rattle.cip_objects.specs.AttributeValue.{value_bytes, IsShort};
 
 mod application;
@@ -30,6 +31,7 @@ use crate::counter::Counter;
 use crate::identity::{Identity, NAME_LIMIT};
 use crate::object_ref::{ObjectRef, Settable};
 use crate::router::ReplyBuf;
+use crate::service::Service;
 use crate::value::AttributeValue;
 use arrayvec::ArrayVec;
 use cip_application::ApplicationObjects;
@@ -125,7 +127,7 @@ impl Objects {
     /// The object that a class and an instance lead to, if there is one.
     #[tactic(auto, unfolding(crate::specs::Tables::services_of), using(crate::proofs::ObjectRefs::reaches))]
     pub(crate) fn object(&self, class: u16, instance: u32) -> Option<ObjectRef>
-        ensures services { option_map services_at result ≡ services_of self.now.shapes class instance }
+        ensures services { option_map (services_at self.now.shapes) result ≡ services_of self.now.shapes class instance }
         ensures resolves { MatchOption result (HasNoValue self.now class instance)
             (Resolves self.now.shapes class instance) }
         ensures identity { class ≡ IDENTITY → instance ≡ 1 → result ≡ Some ObjectRef.Identity }
@@ -146,7 +148,8 @@ impl Objects {
     /// The object that the counter's class and an instance lead to, if there is one. If the device does not have the
     /// counter, application objects can have its class.
     fn counter_object(&self, instance: u32) -> Option<ObjectRef>
-        ensures services { option_map services_at result ≡ services_of self.now.shapes COUNTER instance }
+        ensures services { option_map (services_at self.now.shapes) result
+            ≡ services_of self.now.shapes COUNTER instance }
         ensures resolves { MatchOption result (HasNoValue self.now COUNTER instance)
             (Resolves self.now.shapes COUNTER instance) }
     {
@@ -161,6 +164,34 @@ impl Objects {
             return Some(ObjectRef::Counter);
         }
         None
+    }
+
+    /// The service of an object with this code, or `None` if the object does not have it.
+    #[inline(always)]
+    pub(crate) fn service(&self, object: ObjectRef, code: u8) -> Option<Service>
+        requires { Exists self.now.shapes object }
+        ensures { result ≡ service_in code (services_at self.now.shapes object) }
+    {
+        // Most requests ask for a service that each object of the kind has.
+        if let Some(service) = object.usual_service(code) {
+            return Some(service);
+        }
+        if !self.has_lists(object) {
+            return None;
+        }
+        object.list_service(code)
+    }
+
+    /// Whether an object has the services for lists of attributes.
+    fn has_lists(&self, object: ObjectRef) -> bool
+        requires { Exists self.now.shapes object }
+        ensures { result ≡ has_lists self.now.shapes object }
+    {
+        match object {
+            ObjectRef::Assembly(assembly_index) => self.assembly(assembly_index).has_lists(),
+            ObjectRef::Application(object_index) => self.object_has_lists(object_index),
+            _ => false,
+        }
     }
 
     /// The value of an attribute of an object, if it has an attribute with this number.
@@ -473,7 +504,13 @@ fn assemblies_of(
 {
     let mut assemblies = Vec::with_capacity(alloc, configs.len())?;
     for config in configs {
-        assemblies.push(Assembly::new(alloc, config.instance, config.settable, &config.members)?)?;
+        assemblies.push(Assembly::new(
+            alloc,
+            config.instance,
+            config.settable,
+            &config.members,
+            config.lists,
+        )?)?;
     }
     Ok(assemblies.into_boxed_slice())
 }

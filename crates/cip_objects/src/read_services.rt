@@ -6,10 +6,10 @@ ghost use Rattle.cip_application.specs.Configuration.{is_standard_class};
 ghost use Rattle.cip_bytes.specs.Numbers.{le, words_of};
 ghost use Rattle.cip_bytes.specs.Protocol.{general_status_number};
 ghost use Rattle.cip_objects.specs.ObjectRef.{Exists, IsAssembly, bytes_to, path_to, span_result};
-ghost use Rattle.cip_objects.specs.ObjectRef.{IsInside, IsReadWhole, IsObjectIndex, object_in, class_at, instance_at};
+ghost use Rattle.cip_objects.specs.ObjectRef.{IsInside, IsReadWhole, IsAssemblyIndex, IsObjectIndex, object_in, class_at, instance_at};
 ghost use Rattle.cip_objects.specs.ReadServices.{get_attribute_single, get_attributes_all, get_attribute_list};
 ghost use Rattle.cip_objects.specs.ReadServices.{get_member, named_member, list_entry, has_attribute, has_all_attributes};
-ghost use Rattle.cip_objects.specs.ReadServices.{answer_result, IDENTITY_ATTRIBUTES, all_attributes, numbers_of};
+ghost use Rattle.cip_objects.specs.ReadServices.{answer_result, IDENTITY_ATTRIBUTES, ASSEMBLY_ATTRIBUTES, all_attributes, numbers_of};
 ghost use Rattle.cip_objects.specs.Execution.{outcome_of_read, outcome_result, outcome_within};
 ghost use Rattle.cip_objects.specs.ReplyWriting.{Writes};
 ghost use Rattle.cip_objects.specs.AttributeValue.{value_bytes};
@@ -106,6 +106,9 @@ impl Objects {
             ObjectRef::Application(object_index) => {
                 self.append_object(object_index, max_size, reply)
             }
+            ObjectRef::Assembly(assembly_index) => {
+                self.append_assembly(assembly_index, max_size, reply)
+            }
             _ => self.append_identity(max_size, reply),
         }
     }
@@ -129,6 +132,26 @@ impl Objects {
         self.append_value(object, 5, max_size, reply)?;
         self.append_value(object, 6, max_size, reply)?;
         self.append_value(object, 7, max_size, reply)
+    }
+
+    /// Appends the values of all attributes of the assembly at an index.
+    fn append_assembly(
+        &self,
+        assembly_index: usize,
+        max_size: usize,
+        reply: &mut ReplyBuf,
+    ) -> Result<(), Refusal>
+        requires there { IsAssemblyIndex self.now.shapes assembly_index }
+        requires max_size { max_size ≤ REPLY_LIMIT }
+        requires fits { length reply.old.items ≤ max_size }
+        ensures { Writes max_size
+            (reply.old.items ++ flat_map (bytes_to self.now (ObjectRef.Assembly assembly_index)) ASSEMBLY_ATTRIBUTES)
+            result reply.new.items }
+    {
+        let assembly = ObjectRef::Assembly(assembly_index);
+        self.append_value(assembly, 1, max_size, reply)?;
+        self.append_value(assembly, 3, max_size, reply)?;
+        self.append_value(assembly, 4, max_size, reply)
     }
 
     /// Appends the values of all attributes of the application object at an index, in the order of their numbers.
@@ -312,7 +335,7 @@ impl Objects {
 
 /// Appends what comes before an attribute's value in a list: its number and its status.
 #[inline(always)]
-fn append_head(
+pub(crate) fn append_head(
     attribute: u16,
     status: GeneralStatus,
     max_size: usize,

@@ -4,10 +4,12 @@ ghost use Rattle.std.specs.Prelude.{◌≡◌};
 /// A service of some object (Volume 1, common services; Add and Clear are the counter's own).
 #[derive(Clone, Copy)]
 pub(crate) enum Service {
-    /// Reads attributes 1 to 7, joined.
+    /// Reads all attributes, joined. Of Identity it reads 1 to 7.
     GetAttributesAll,
     /// Reads a list of attributes, each with its status.
     GetAttributeList,
+    /// Sets a list of attributes.
+    SetAttributeList,
     /// Reads one attribute.
     GetAttributeSingle,
     /// Sets one attribute.
@@ -32,6 +34,7 @@ impl Service {
         match self {
             Service::GetAttributesAll => 0x01,
             Service::GetAttributeList => 0x03,
+            Service::SetAttributeList => 0x04,
             Service::GetAttributeSingle => 0x0e,
             Service::SetAttributeSingle => 0x10,
             Service::GetMember => 0x18,

@@ -5,6 +5,7 @@ ghost use Rattle.std.specs.Prelude.{Some, None, MatchOption, IfSome, OnOk, OnErr
 ghost use Rattle.byteorder.specs.Endian.{little_number};
 ghost use Rattle.cip_application.specs.Configuration.{is_standard_class};
 ghost use Rattle.cip_application.specs.Objects.{service_in};
+ghost use Rattle.cip_application.specs.Values.{size_for};
 ghost use Rattle.cip_objects.specs.AttributeValue.{value_bytes, IsShort};
 ghost use Rattle.cip_objects.specs.ChangeServices.{change_result};
 ghost use Rattle.cip_objects.specs.Contents.{value_at};
@@ -14,7 +15,7 @@ ghost use Rattle.cip_objects.specs.ObjectRef.{IsFree, HasNoValue, Resolves, IsOb
 ghost use Rattle.cip_objects.specs.ObjectRef.{services_at, object_in, value_to, bytes_to, after_set};
 ghost use Rattle.cip_objects.specs.OwnRequests.{own_object, IsOwnAt, checked_attribute, check_set, with_stored};
 ghost use Rattle.cip_objects.specs.ReadServices.{numbers_of};
-ghost use Rattle.cip_objects.specs.Tables.{application_services};
+ghost use Rattle.cip_objects.specs.Tables.{application_services, kind_in_object};
 
 use crate::class::class_attribute;
 use crate::object_ref::{ObjectRef, Settable};
@@ -38,7 +39,7 @@ impl Objects {
     /// has itself.
     pub(crate) fn application_object(&self, class: u16, instance: u32) -> Option<ObjectRef>
         requires { IsFree self.now.shapes class }
-        ensures services { option_map services_at result
+        ensures services { option_map (services_at self.now.shapes) result
             ≡ application_services class instance self.now.shapes.objects }
         ensures resolves { MatchOption result (HasNoValue self.now class instance)
             (Resolves self.now.shapes class instance) }
@@ -111,6 +112,29 @@ impl Objects {
             Some(value) => Some(uint_in(value)),
             None => None,
         }
+    }
+
+    /// Whether the application object at an index has the service that sets a list of attributes.
+    pub(crate) fn object_has_lists(&self, object_index: usize) -> bool
+        requires { IsObjectIndex self.now.shapes object_index }
+        ensures { result ≡ (object_in self.now.shapes object_index).lists }
+    {
+        self.application.has_lists(object_index)
+    }
+
+    /// The bytes of a value that begins with these, for an attribute of the application object at an index.
+    pub(crate) fn object_size_for(
+        &self,
+        object_index: usize,
+        attribute: u16,
+        data: &[u8],
+    ) -> Option<usize>
+        requires { IsObjectIndex self.now.shapes object_index }
+        ensures { result
+            ≡ option_map (λ kind. size_for kind «data».now)
+            (kind_in_object attribute (object_in self.now.shapes object_index)) }
+    {
+        self.application.size_for(object_index, attribute, data)
     }
 
     /// The value of an attribute of the application object at an index.

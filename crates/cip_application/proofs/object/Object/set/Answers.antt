@@ -8,7 +8,7 @@ pub returns-clause-set : goal.returns-clause-set
 returns-clause-set c =
     let i = c.self.inside in
     let o : ObjectValues =
-    record { class = i.class; instance = i.instance; attributes = boxed_slice_items i.attributes; services = boxed_slice_items i.services } in
+    record { class = i.class; instance = i.instance; attributes = boxed_slice_items i.attributes; services = boxed_slice_items i.services; lists = i.lists } in
     let at : IsAttributeAt o.attributes c.args.number c.in-Some.index = rw c.deref.ensures.value at c.in-Some.ensures in
     on_ok c.set.result
     (λ e. ap (λ x. object_set x c.args.number c.args.data.now) (sym c.self.view_is)
@@ -19,7 +19,7 @@ pub returns-clause-fault : goal.returns-clause-fault
 returns-clause-fault c =
     let i = c.self.inside in
     let o : ObjectValues =
-    record { class = i.class; instance = i.instance; attributes = boxed_slice_items i.attributes; services = boxed_slice_items i.services } in
+    record { class = i.class; instance = i.instance; attributes = boxed_slice_items i.attributes; services = boxed_slice_items i.services; lists = i.lists } in
     let at : IsAttributeAt o.attributes c.args.number c.in-Some.index = rw c.deref.ensures.value at c.in-Some.ensures in
     if_err _ _ c.set.result
     (λ fault e. ap (λ x. object_set x c.args.number c.args.data.now) (sym c.self.view_is)

@@ -31,7 +31,7 @@ returns-in_err-position-in-4-default-clause-services c =
     let i = c.args.instance in
     let none : assembly_at i (boxed_slice_items c.self.inside.assemblies) ≡ None =
     rw c.deref.ensures.value at c.in_err-position-in-4-default.ensures in
-    ap (option_map services_at) c.from_residual.ensures
+    ap (option_map (services_at c.args.self.now.shapes)) c.from_residual.ensures
     ∙ sym (services_missing c.self.inside c.args.self.now c.args.class i c.self.view_is c.in-4-default.is-0
     c.in-4-default.is-1.1 none)
 
