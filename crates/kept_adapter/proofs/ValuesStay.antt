@@ -538,7 +538,7 @@ given_values w service asked (Some reply) have =
 
 owner_values : (w : OwnedState) (max_size : ℕ) (text : List ℕ) (own : Option (Result Asked Refusal))
     → HasValues w.objects → HasValues (by_owner w max_size text own).after.objects
-owner_values w max_size text None have = exec_routed_keeps {HasValues} executed_values w.objects max_size text have
+owner_values w max_size text None have = exec_routed_keeps {P = HasValues} executed_values w.objects max_size text have
 owner_values w max_size text (Some (Err refusal)) have = have
 owner_values w max_size text (Some (Ok asked)) have = by_kind asked.kind (slice_index text 0)
   where

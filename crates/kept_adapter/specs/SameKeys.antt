@@ -219,7 +219,7 @@ given_shapes w service asked (Some reply) =
 owner_shapes : (w : OwnedState) (max_size : ℕ) (text : List ℕ) (own : Option (Result Asked Refusal))
     → (by_owner w max_size text own).after.objects.shapes ≡ w.objects.shapes
 owner_shapes w max_size text None =
-    exec_routed_keeps {λ (m : Contents). m.shapes ≡ w.objects.shapes}
+    exec_routed_keeps {P = λ (m : Contents). m.shapes ≡ w.objects.shapes}
     (λ m max_size text h. executed_shapes m max_size text ∙ h) w.objects max_size text refl
 owner_shapes w max_size text (Some (Err refusal)) = refl
 owner_shapes w max_size text (Some (Ok asked)) = by_kind asked.kind (slice_index text 0)
