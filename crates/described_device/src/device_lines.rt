@@ -1,8 +1,7 @@
 //! The lines of `enip check`: the device that a configuration describes.
 
 use cip_application::{
-    AttributeConfig, AttributeKind, ETHERNET_LINK, NumberRange, ObjectConfig, ServiceConfig,
-    ServiceKind, TCP_IP_INTERFACE,
+    AttributeConfig, AttributeKind, NumberRange, ObjectConfig, ServiceConfig, ServiceKind,
 };
 use cip_names::{ClassText, ServiceText};
 use cip_objects::{AssemblyConfig, Config};
@@ -12,9 +11,6 @@ use enip_config::{AttributeType, Configuration, LedgerConfig};
 use std::alloc::Global;
 use std::io::{self, BufWriter, Write};
 use std::net::IpAddr;
-
-/// The most bytes of the label of an Ethernet Link. (Volume 2, Ethernet Link object.)
-const LABEL_ROOM: u8 = 64;
 
 /// Prints the device that a configuration describes: its identity, its objects, its limits, and who may do what. Then
 /// what this client may do, if there is one.
@@ -237,28 +233,11 @@ fn print_network_object<W: Write>(
 ) -> io::Result<()> {
     print_head(output, object)?;
     for attribute in &object.attributes {
-        let of_type = network_type(object.class, attribute);
+        let size = u16::try_from(attribute.value.len()).unwrap_or(u16::MAX);
+        let of_type = AttributeType::of_standard(object.class, attribute.number, size);
         print_attribute(alloc, output, attribute, of_type)?;
     }
     Ok(())
-}
-
-/// The type of an attribute of the TCP/IP Interface or of the Ethernet Link. One of several parts has the bytes of its
-/// value. (Volume 2, TCP/IP Interface and Ethernet Link objects.)
-fn network_type(class: u16, attribute: &AttributeConfig) -> AttributeType {
-    let element = match (class, attribute.number) {
-        (TCP_IP_INTERFACE, 1..=3) | (ETHERNET_LINK, 2) => ElementaryType::Dword,
-        (TCP_IP_INTERFACE, 13) => ElementaryType::Uint,
-        (ETHERNET_LINK, 1) => ElementaryType::Udint,
-        (ETHERNET_LINK, 3) => return AttributeType::Array(ElementaryType::Usint, 6),
-        (ETHERNET_LINK, 7 | 8) => ElementaryType::Usint,
-        (ETHERNET_LINK, 10) => return AttributeType::ShortString(LABEL_ROOM),
-        _ => {
-            let size = u16::try_from(attribute.value.len()).unwrap_or(u16::MAX);
-            return AttributeType::Bytes(size);
-        }
-    };
-    AttributeType::One(element)
 }
 
 /// Prints an attribute of an object: its number, its type and its value, whether it can be set and whether a set is

@@ -4,6 +4,7 @@ pub mod Commands
 pub mod Objects
 pub mod ObjectTypes
 pub mod StandardObjects
+pub mod StandardTypes
 pub mod Known
 pub mod Access
 pub mod Documents

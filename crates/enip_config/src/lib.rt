@@ -51,6 +51,7 @@ mod own_problems;
 mod own_value_problems;
 mod standard;
 mod standard_problems;
+mod standard_types;
 mod text_problems;
 mod typed;
 mod value_problems;

@@ -5,9 +5,10 @@ ghost use Rattle.std.specs.List.{flat_map};
 ghost use Rattle.owner_port.specs.Ports.{life_in};
 ghost use Rattle.owner_port.specs.Sessions.{IsHelloLine};
 ghost use Rattle.owner_port.specs.Tables.{HasIdentity, settable_in, settable_data, settable_attribute, settable_attributes, if_settable, named, value_type_of};
+ghost use Rattle.owner_port.specs.Tables.{typed_attribute, own_types, all_own_types, standard_type, standard_types, standard_types_if, types_in};
 
 use crate::attribute_table::TypedAttribute;
-use cip_application::{AttributeConfig, ObjectConfig};
+use cip_application::{AttributeConfig, AttributeKind, ObjectConfig};
 use cip_bytes::protocol::ASSEMBLY;
 use cip_objects::{AssemblyConfig, Config};
 use cip_values::{ElementaryType, ValueType};
@@ -75,6 +76,7 @@ impl DeviceTable {
     /// `AllocError` if memory is refused.
     pub fn new(alloc: Global, configuration: &Configuration) -> Result<DeviceTable, AllocError>
         ensures settable { IfOk result (λ table. table.settable.items ≡ settable_in configuration.now.objects) }
+        ensures types { IfOk result (λ table. table.types.items ≡ types_in configuration.now) }
         ensures identity { IfOk result (HasIdentity configuration.now.objects) }
     {
         let config = &configuration.objects;
@@ -227,7 +229,7 @@ fn described_object<'a, 'b>(
     }
 }
 
-/// The assemblies and the own objects of a device.
+/// The assemblies and the own objects of a device, and after them the TCP/IP Interface and the Ethernet Link.
 fn objects_of(
     alloc: Global,
     configuration: &Configuration,
@@ -239,6 +241,11 @@ fn objects_of(
     let described = &configuration.objects.objects;
     for (object, types) in described.iter().zip(&configuration.attribute_types) {
         objects.push(own_object(alloc, object, types.as_slice())?)?;
+    }
+    for object in described {
+        if object.standard {
+            objects.push(standard_object(alloc, object)?)?;
+        }
     }
     Ok(objects)
 }
@@ -289,32 +296,140 @@ fn own_object(
     })
 }
 
+/// The TCP/IP Interface or the Ethernet Link.
+fn standard_object(alloc: Global, object: &ObjectConfig) -> Result<TableObject, AllocError> {
+    let mut attributes = Vec::new(alloc);
+    for attribute in &object.attributes {
+        let of_type = standard_type(object, attribute);
+        attributes.push(TableAttribute {
+            number: attribute.number,
+            type_name: format!(in alloc; "{of_type}")?,
+            value: Vec::new(alloc),
+        })?;
+    }
+    Ok(TableObject {
+        class: object.class,
+        instance: u32::from(object.instance),
+        name: None,
+        attributes,
+    })
+}
+
+/// The type of an attribute of the TCP/IP Interface or of the Ethernet Link.
+fn standard_type(object: &ObjectConfig, attribute: &AttributeConfig) -> AttributeType
+    ensures { result ≡ standard_type object.now attribute.now }
+{
+    let size = match attribute.kind {
+        AttributeKind::Fixed { size, .. } => size,
+        AttributeKind::ShortString { .. } => 0,
+    };
+    AttributeType::of_standard(object.class, attribute.number, size)
+}
+
 /// The attributes whose types are elementary ones, or lists of them.
-fn types_of(
-    alloc: Global,
-    configuration: &Configuration,
-) -> Result<Vec<TypedAttribute>, AllocError> {
+fn types_of(alloc: Global, configuration: &Configuration) -> Result<Vec<TypedAttribute>, AllocError>
+    ensures { IfOk result (λ types. types.items ≡ types_in configuration.now) }
+{
     let mut typed = Vec::new(alloc);
     let described = &configuration.objects.objects;
-    for (object, types) in described.iter().zip(&configuration.attribute_types) {
-        append_types(object, types.as_slice(), &mut typed)?;
-    }
+    append_own(described, &configuration.attribute_types, &mut typed)?;
+    append_standard(described, &mut typed)?;
     Ok(typed)
 }
 
-/// Appends the attributes of an object whose types are elementary ones, or lists of them.
+/// Appends the attributes of these own objects, each of which has the types at the same index.
+fn append_own(
+    objects: &[ObjectConfig],
+    types: &[Vec<AttributeType>],
+    typed: &mut Vec<TypedAttribute>,
+) -> Result<(), AllocError>
+    ensures { OnOk result (typed.new.items ≡ typed.old.items ++ all_own_types objects.now types.now) }
+{
+    let (Some((object, other_objects)), Some((first, other_types))) = (
+        objects.split_first(),
+        types.split_first(),
+    ) else {
+        return Ok(());
+    };
+    append_types(object, &object.attributes, first.as_slice(), typed)?;
+    append_own(other_objects, other_types, typed)
+}
+
+/// Appends these attributes of an own object, each of which has the type at the same index.
 fn append_types(
     object: &ObjectConfig,
+    attributes: &[AttributeConfig],
     types: &[AttributeType],
     typed: &mut Vec<TypedAttribute>,
-) -> Result<(), AllocError> {
-    for (attribute, of_type) in object.attributes.iter().zip(types) {
-        if let Some(value_type) = value_type_of(*of_type) {
-            typed.push(TypedAttribute {
-                attribute: named(object.class, object.instance, attribute.number),
-                value_type,
-            })?;
-        }
+) -> Result<(), AllocError>
+    ensures { OnOk result (typed.new.items ≡ typed.old.items ++ own_types object.now attributes.now types.now) }
+{
+    let (Some((attribute, other_attributes)), Some((of_type, other_types))) = (
+        attributes.split_first(),
+        types.split_first(),
+    ) else {
+        return Ok(());
+    };
+    append_typed(object, attribute, *of_type, typed)?;
+    append_types(object, other_attributes, other_types, typed)
+}
+
+/// Appends the attributes of the TCP/IP Interface and of the Ethernet Link.
+fn append_standard(
+    objects: &[ObjectConfig],
+    typed: &mut Vec<TypedAttribute>,
+) -> Result<(), AllocError>
+    ensures { OnOk result (typed.new.items ≡ typed.old.items ++ flat_map standard_types_if objects.now) }
+{
+    let Some((object, others)) = objects.split_first() else {
+        return Ok(());
+    };
+    append_if_standard(object, typed)?;
+    append_standard(others, typed)
+}
+
+/// Appends the attributes of an object if it is the TCP/IP Interface or the Ethernet Link.
+fn append_if_standard(
+    object: &ObjectConfig,
+    typed: &mut Vec<TypedAttribute>,
+) -> Result<(), AllocError>
+    ensures { OnOk result (typed.new.items ≡ typed.old.items ++ standard_types_if object.now) }
+{
+    if object.standard {
+        append_standard_types(object, &object.attributes, typed)?;
+    }
+    Ok(())
+}
+
+/// Appends these attributes of the TCP/IP Interface or of the Ethernet Link.
+fn append_standard_types(
+    object: &ObjectConfig,
+    attributes: &[AttributeConfig],
+    typed: &mut Vec<TypedAttribute>,
+) -> Result<(), AllocError>
+    ensures { OnOk result (typed.new.items ≡ typed.old.items ++ flat_map (standard_types object.now) attributes.now) }
+{
+    let Some((attribute, others)) = attributes.split_first() else {
+        return Ok(());
+    };
+    append_typed(object, attribute, standard_type(object, attribute), typed)?;
+    append_standard_types(object, others, typed)
+}
+
+/// Appends an attribute, unless it has bytes of any meaning.
+fn append_typed(
+    object: &ObjectConfig,
+    attribute: &AttributeConfig,
+    of_type: AttributeType,
+    typed: &mut Vec<TypedAttribute>,
+) -> Result<(), AllocError>
+    ensures { OnOk result (typed.new.items ≡ typed.old.items ++ typed_attribute object.now attribute.now of_type) }
+{
+    if let Some(value_type) = value_type_of(of_type) {
+        typed.push(TypedAttribute {
+            attribute: named(object.class, object.instance, attribute.number),
+            value_type,
+        })?;
     }
     Ok(())
 }
