@@ -4,8 +4,8 @@ import struct
 
 from reading.networks import NETWORK_REVISION, NETWORK_SERVICES, toml_of_table
 from reading.protocol import (
-    ATTRIBUTE, COUNTER, DEVICE_STATE, GET, GET_ALL, GET_LIST, LONG, NOT_SETTABLE, SET, SHORT, TOO_LARGE, VALUE, check,
-    check_length, number,
+    ATTRIBUTE, COUNTER, DEVICE_STATE, GET, GET_ALL, GET_LIST, LONG, NOT_SETTABLE, SET, SET_LIST, SHORT, TOO_LARGE, VALUE,
+    check, check_length, number,
 )
 
 # The numbers: how each is packed.
@@ -60,7 +60,8 @@ class Applications:
         one = self.objects.get((kind, instance))
         if one and "table" in one:
             return NETWORK_SERVICES
-        return one and [GET_ALL, GET_LIST, GET, SET] + [service["number"] for service in one["services"]]
+        own = one and [service["number"] for service in one["services"]] + [SET_LIST] * one["lists"]
+        return one and [GET_ALL, GET_LIST, GET, SET] + own
 
     def has(self, kind, instance):
         return (kind, instance) in self.objects
@@ -76,11 +77,19 @@ class Applications:
         return b"".join(value for _, value in sorted(
             (key[2], value) for key, value in self.values.items() if key[:2] == (kind, instance)))
 
-    def set(self, kind, instance, attribute, data):
-        """A set. If the attribute is checked, the owner decides, and there is none."""
+    def shape(self, kind, instance, attribute):
         shapes = self.objects[kind, instance]["attributes"]
-        shape = next(one for one in shapes if one["number"] == attribute)
+        return next((one for one in shapes if one["number"] == attribute), None)
+
+    def value_size(self, kind, instance, attribute, data):
+        shape = self.shape(kind, instance, attribute)
+        return shape and size_of(shape, data)
+
+    def set(self, kind, instance, attribute, data, checked=DEVICE_STATE):
+        """A set. If the attribute is checked, the owner decides, and there is none. In a list it cannot be set."""
+        shape = self.shape(kind, instance, attribute)
         check(shape["settable"], NOT_SETTABLE)
+        check(not shape["checked"] or checked == DEVICE_STATE, checked)
         check_length(data, size_of(shape, data))
         check(is_allowed(shape, data), VALUE)
         check(not shape["checked"], DEVICE_STATE)
@@ -147,7 +156,7 @@ class Describing:
         keys = list(dict.fromkeys(self.random.sample(sorted(keys), self.pick(1, 2, 3, 5))))
         numbers = [1, 2, 3, 4, 5, 255, 256, 300, 65535]
         return [{
-            "class": kind, "instance": instance,
+            "class": kind, "instance": instance, "lists": self.seldom(0.5),
             "attributes": [self.own_attribute(one) for one in self.random.sample(numbers, self.pick(0, 1, 2, 3, 5))],
             "services": [self.own_service_shape(one) for one in self.random.sample(SERVICES, self.pick(0, 1, 2, 3))],
         } for kind, instance in keys]
@@ -179,7 +188,7 @@ class Describing:
         if self.seldom(0.1):
             return GET, self.right_path(one["class"], 0) + self.segment("attribute", self.pick(1, 2, 3)), b""
         path = self.right_path(one["class"], one["instance"])
-        kinds = ["all", "list"] + ["get", "set", "set", "set"] * bool(one["attributes"])
+        kinds = ["all", "list"] + ["get", "set", "set", "set", "sets"] * bool(one["attributes"])
         kind = self.pick(*kinds, *["service"] * 2 * bool(one["services"]))
         if kind == "service":
             shape = self.random.choice(one["services"])
@@ -193,6 +202,11 @@ class Describing:
             listed = [shape["number"] for shape in one["attributes"]] + [6]
             listed = self.random.choices(listed, k=self.random.randrange(5))
             return GET_LIST, path, b"".join(number(2, value) for value in [len(listed), *listed])
+        if kind == "sets":
+            shapes = self.random.choices(one["attributes"], k=self.random.randrange(5))
+            text = number(2, len(shapes))
+            text += b"".join(number(2, shape["number"]) + self.new_value(shape) for shape in shapes)
+            return SET_LIST, path, self.pick(text[:-1], text + b"\0", text + number(2, 6)) if self.seldom(0.1) else text
         shape = self.random.choice(one["attributes"])
         path += self.segment("attribute", shape["number"])
         return (GET, path, b"") if kind == "get" else (SET, path, self.new_value(shape))
@@ -223,6 +237,7 @@ def toml_of_object(one):
     if "table" in one:
         return toml_of_table(one)
     lines = ["[[object]]", "class = %d" % one["class"], "instance = %d" % one["instance"]]
+    lines += ["lists = true"] * one["lists"]
     for attribute in one["attributes"]:
         lines += ["[[object.attribute]]", "number = %d" % attribute["number"]]
         lines += ['type = "%s"' % toml_of_type(attribute), "value = " + toml_of_value(attribute)]

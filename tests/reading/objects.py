@@ -3,7 +3,7 @@ import struct
 
 from reading.protocol import (
     ADD, ASSEMBLY, ATTRIBUTE, CLEAR, CONNECTION_MANAGER, COUNTER, DESTINATION, GET, GET_ALL, GET_LIST, GET_MEMBER,
-    IDENTITY, LIST, MEMBER, NOT_SETTABLE, PARAMETER, SERVICE, SET, SET_MEMBER, SHORT, TOO_LARGE, VALUE, check,
+    IDENTITY, LIST, MEMBER, NOT_SETTABLE, PARAMETER, SERVICE, SET, SET_LIST, SET_MEMBER, SHORT, TOO_LARGE, VALUE, check,
     check_length, number, Refusal, request_of,
 )
 from reading.applications import Applications
@@ -24,6 +24,21 @@ def listed(value_of, data):
     return status, reply
 
 
+def settings_in(size_of, data):
+    """The attributes of a Set_Attribute_List, each with its value. `size_of` gives the size of a value, or None."""
+    check(len(data) >= 2, SHORT)
+    settings, rest = [], data[2:]
+    for _ in range(int.from_bytes(data[:2], "little")):
+        check(len(rest) >= 2, SHORT)
+        attribute, rest = int.from_bytes(rest[:2], "little"), rest[2:]
+        size = size_of(attribute, rest)
+        check(size is not None, ATTRIBUTE)
+        check(len(rest) >= size, SHORT)
+        settings, rest = settings + [(attribute, rest[:size])], rest[size:]
+    check_length(rest, 0)
+    return settings
+
+
 class Objects:
     """Identity, Assembly, the counter and the application objects of a configuration."""
 
@@ -35,7 +50,8 @@ class Objects:
 
     def services(self, kind, instance):
         if kind == ASSEMBLY and instance in self.assemblies:
-            return [GET_LIST, GET, SET, GET_MEMBER, SET_MEMBER]
+            lists = [GET_ALL, SET_LIST] if self.assemblies[instance]["lists"] else []
+            return [GET_LIST, GET, SET, GET_MEMBER, SET_MEMBER] + lists
         if kind == COUNTER and not self.config["has_counter"]:
             return self.applications.services(kind, instance)
         services = {
@@ -88,15 +104,18 @@ class Objects:
         check(services is not None, DESTINATION)
         check(service in services, SERVICE)
         own = self.applications.has(kind, instance) and self.is_application(kind, instance)
-        if own and service not in (GET_ALL, GET_LIST, GET, SET):
+        if own and service not in (GET_ALL, GET_LIST, SET_LIST, GET, SET):
             self.applications.own_service(kind, instance, service, data, room)
         if service == GET_ALL:
             check_length(data, 0)
             if own:
                 return 0, self.applications.all_attributes(kind, instance)
-            return 0, b"".join(self.attribute(kind, instance, place) for place in range(1, 8))
+            places = (1, 3, 4) if kind == ASSEMBLY else range(1, 8)
+            return 0, b"".join(self.attribute(kind, instance, place) for place in places)
         if service == GET_LIST:
             return listed(lambda attribute: self.attribute(kind, instance, attribute), data)
+        if service == SET_LIST:
+            return self.set_all(kind, instance, data)
         if service == ADD:
             return 0, self.added(data)
         if service == CLEAR:
@@ -114,6 +133,26 @@ class Objects:
             self.applications.set(kind, instance, path["attribute"], data)
             return 0, b""
         return 0, self.set(kind, instance, path["attribute"], len(value), data)
+
+    def set_all(self, kind, instance, data):
+        """Sets one attribute after another. A refused one changes nothing, and the next is set."""
+        status, reply = 0, data[:2]
+        for attribute, value in settings_in(lambda *of: self.value_size(kind, instance, *of), data):
+            try:
+                if kind == ASSEMBLY:
+                    self.set(kind, instance, attribute, len(value), value)
+                else:
+                    self.applications.set(kind, instance, attribute, value, NOT_SETTABLE)
+                reply += number(2, attribute) + number(2, 0)
+            except Refusal as refusal:
+                status, reply = LIST, reply + number(2, attribute) + number(2, refusal.args[0])
+        return status, reply
+
+    def value_size(self, kind, instance, attribute, data):
+        """The size of a value of an attribute that begins with these bytes, or None."""
+        if kind == ASSEMBLY:
+            return {1: 2, 3: sum(self.assemblies[instance]["members"]), 4: 2}.get(attribute)
+        return self.applications.value_size(kind, instance, attribute, data)
 
     def set(self, kind, instance, attribute, length, data):
         settable = attribute == 2 if kind == COUNTER else attribute == 3 and self.assemblies[instance]["settable"]

@@ -3,7 +3,8 @@ import random
 
 from reading.protocol import (
     ADD, ASSEMBLY, CLEAR, CONNECTION_MANAGER, COUNTER, DEFAULTS, FORWARD_CLOSE, FORWARD_OPEN, GET, GET_ALL, GET_LIST,
-    GET_MEMBER, IDENTITY, LARGE_FORWARD_OPEN, LARGEST_ASSEMBLY, LAST, LEDGER, ORDER, SEGMENTS, SET, SET_MEMBER, number,
+    GET_MEMBER, IDENTITY, LARGE_FORWARD_OPEN, LARGEST_ASSEMBLY, LAST, LEDGER, ORDER, SEGMENTS, SET, SET_LIST, SET_MEMBER,
+    number,
 )
 from reading.applications import Describing
 from reading.networks import Networking
@@ -33,7 +34,8 @@ class Configurations(Chooser, Describing, Networking):
         sizes = [self.random.randint(1, self.pick(480, LARGEST_ASSEMBLY))] if self.seldom(0.15) else sizes
         while sum(sizes) > LARGEST_ASSEMBLY:
             sizes.pop()
-        return {"instance": instance, "settable": not self.seldom(0.3), "members": sizes}
+        settable, lists = not self.seldom(0.3), self.seldom(0.5)
+        return {"instance": instance, "settable": settable, "members": sizes, "lists": lists}
 
     def ledger(self):
         """No command ledger, or one with few slots, so that they are all taken, or with many."""
@@ -120,7 +122,7 @@ class Requests(Configurations):
         return b""
 
     def any_request(self, config):
-        known = [GET_ALL, GET_LIST, GET, SET, GET_MEMBER, SET_MEMBER, ADD, CLEAR]
+        known = [GET_ALL, GET_LIST, SET_LIST, GET, SET, GET_MEMBER, SET_MEMBER, ADD, CLEAR]
         services = (FORWARD_CLOSE, FORWARD_OPEN, LARGE_FORWARD_OPEN)
         service = self.pick(*known * 3, *services, 0x8E, self.random.randrange(256))
         path = self.any_path(config)
@@ -134,10 +136,12 @@ class Requests(Configurations):
         elif config["assemblies"] and self.seldom(0.3):
             one = self.random.choice(config["assemblies"])
             member = self.random.randint(1, len(one["members"]))
-            service = self.pick(GET, SET, GET_MEMBER, SET_MEMBER)
+            service = self.pick(GET, SET, GET_MEMBER, SET_MEMBER, *[GET_ALL, SET_LIST] * one["lists"])
             values = ASSEMBLY, one["instance"], 3, member
             size = {SET: sum(one["members"]), SET_MEMBER: one["members"][member - 1]}.get(service, 0)
-            path, data = self.right_path(*values[: 3 if service in (GET, SET) else 4]), self.random.randbytes(size)
+            segments = {GET: 3, SET: 3, GET_ALL: 2, SET_LIST: 2}.get(service, 4)
+            path, data = self.right_path(*values[:segments]), self.random.randbytes(size)
+            data = self.settings(one) if service == SET_LIST else data
         elif self.seldom(0.2):
             service, path, data = GET_ALL, self.right_path(IDENTITY, 1), b""
         elif self.cleared and self.seldom(0.5):
@@ -152,6 +156,13 @@ class Requests(Configurations):
             amount = self.pick(0, 1, 5, config["limit"] // 9) if service == ADD else config["limit"]
             data = number(4, amount) if service in (ADD, SET) else b""
         return bytes([service, len(path) // 2]) + path + data
+
+    def settings(self, assembly):
+        """The data of a Set_Attribute_List of an assembly: some of its attributes, most of which cannot be set."""
+        sizes = {1: 2, 3: sum(assembly["members"]), 4: 2}
+        listed = self.random.choices([1, 3, 3, 4], k=self.random.randrange(4))
+        text = number(2, len(listed))
+        return text + b"".join(number(2, one) + self.random.randbytes(sizes[one]) for one in listed)
 
     def request(self, config):
         return self.right_request(config) if self.seldom(0.6) else self.any_request(config)

@@ -64,6 +64,7 @@ fn add_assembly(alloc: Global, assemblies: &mut Vec<AssemblyConfig>) -> Result<(
         instance: 101,
         settable: false,
         members,
+        lists: false,
     })?;
     Ok(())
 }

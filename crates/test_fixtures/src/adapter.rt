@@ -55,6 +55,7 @@ fn assemblies(alloc: Global) -> Result<Vec<AssemblyConfig>, Fail> {
         instance: 100,
         settable: true,
         members,
+        lists: false,
     })?;
     Ok(assemblies)
 }

@@ -54,6 +54,7 @@ pub fn config(alloc: Global, limit: u32) -> Result<Config, Fail> {
         instance: 100,
         settable: true,
         members: Vec::from_slice(alloc, &[1, 2, 1])?,
+        lists: false,
     })?;
     Ok(Config {
         vendor: 0x1234,

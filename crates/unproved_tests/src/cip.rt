@@ -21,5 +21,6 @@ mod objects;
 mod own_requests;
 mod queued;
 mod route;
+mod set_lists;
 mod texts;
 mod words;

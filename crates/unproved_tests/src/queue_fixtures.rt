@@ -52,6 +52,7 @@ pub fn queued_config(alloc: Global) -> Result<Config, Fail> {
             name: None,
             attributes: Vec::new(alloc),
             services: services(alloc, instance < 3)?,
+            lists: false,
         })?;
     }
     Ok(config)

@@ -26,6 +26,7 @@ fn large_bench(alloc: Global) -> Result<Bench, Fail> {
         instance: 101,
         settable: true,
         members: Vec::from_slice(alloc, &[3_900])?,
+        lists: false,
     })?;
     let Ok(objects) = Objects::new(alloc, &config) else {
         return Err(Fail::from("the objects are made"));

@@ -43,7 +43,7 @@ fn attribute(
 }
 
 /// Instance 2 of this class: a speed of 0 to 3,000 as attribute 3, a name as attribute 1, and a checked attribute 4.
-fn conveyor(alloc: Global, class: u16) -> Result<ObjectConfig, Fail> {
+pub(super) fn conveyor(alloc: Global, class: u16) -> Result<ObjectConfig, Fail> {
     let speeds = NumberRange {
         number: NumberType::Uint,
         least: 0,
@@ -74,6 +74,7 @@ fn conveyor(alloc: Global, class: u16) -> Result<ObjectConfig, Fail> {
         name: None,
         attributes,
         services: Vec::new(alloc),
+        lists: false,
     })
 }
 

@@ -29,6 +29,7 @@ fn objects(alloc: Global) -> Result<Objects, Fail> {
         instance: 101,
         settable: false,
         members: Vec::from_slice(alloc, &[2])?,
+        lists: false,
     })?;
     Ok(Objects::new(alloc, &config)?)
 }

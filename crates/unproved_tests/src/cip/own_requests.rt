@@ -81,6 +81,7 @@ fn objects(alloc: Global) -> Result<Objects, Fail> {
         name: None,
         attributes: Vec::new(alloc),
         services: Vec::new(alloc),
+        lists: false,
     })?;
     config.objects.push(ObjectConfig {
         class: 768,
@@ -89,6 +90,7 @@ fn objects(alloc: Global) -> Result<Objects, Fail> {
         name: None,
         attributes: attributes(alloc)?,
         services,
+        lists: false,
     })?;
     Ok(Objects::new(alloc, &config)?)
 }

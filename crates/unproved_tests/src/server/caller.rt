@@ -68,6 +68,7 @@ fn adapter_with_outputs(alloc: Global) -> Result<Adapter, Fail> {
         instance: 101,
         settable: true,
         members: Vec::from_slice(alloc, &[2])?,
+        lists: false,
     })?;
     let objects = Objects::new(alloc, &config)
         .ok()

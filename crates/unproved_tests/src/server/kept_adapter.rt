@@ -174,6 +174,7 @@ fn the_entries_of_another_device_are_refused(rt: HostRuntime) -> Result<(), Fail
         instance: 99,
         settable: true,
         members: Vec::from_slice(alloc, &[1])?,
+        lists: false,
     })?;
     assert_eq!(rt; other.start(alloc, &[]).err(), Some(KeepError::Refused));
     Ok(())

@@ -81,6 +81,7 @@ pub(super) fn config_with_machine(alloc: Global) -> Result<Config, Fail> {
         name: None,
         attributes,
         services,
+        lists: false,
     })?;
     Ok(config)
 }

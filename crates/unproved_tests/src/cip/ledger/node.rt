@@ -77,6 +77,7 @@ pub fn objects(alloc: Global) -> Result<Objects, Fail> {
             instance,
             settable: true,
             members,
+            lists: false,
         })?;
     }
     let config = Config {
