@@ -204,6 +204,9 @@ class Describing:
             return GET_LIST, path, b"".join(number(2, value) for value in [len(listed), *listed])
         if kind == "sets":
             shapes = self.random.choices(one["attributes"], k=self.random.randrange(5))
+            short = [shape for shape in one["attributes"] if shape["size"] == 1]
+            # one whose reply is too large
+            shapes = [self.random.choice(short)] * 130 if short and self.seldom(0.3) else shapes
             text = number(2, len(shapes))
             text += b"".join(number(2, shape["number"]) + self.new_value(shape) for shape in shapes)
             return SET_LIST, path, self.pick(text[:-1], text + b"\0", text + number(2, 6)) if self.seldom(0.1) else text

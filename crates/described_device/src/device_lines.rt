@@ -174,18 +174,19 @@ fn print_permission<W: Write>(
     writeln!(output, "{client} {text}")
 }
 
-/// Prints an assembly: its instance, whether it can be set, its size, and the sizes of its members. (Volume 1,
-/// Assembly.)
+/// Prints an assembly: its instance, whether it can be set, whether it has the services for lists, its size, and the
+/// sizes of its members. (Volume 1, Assembly.)
 fn print_assembly<W: Write>(output: &mut W, assembly: &AssemblyConfig) -> io::Result<()> {
     let instance = assembly.instance;
     let access = access_of(assembly.settable);
+    let lists = lists_of(assembly.lists);
     let bytes = assembly
         .members
         .iter()
         .fold(0u64, |sum, size| sum.saturating_add(u64::from(*size)));
     write!(
         output,
-        "assembly {instance}, {access}, {bytes} bytes, member sizes"
+        "assembly {instance}, {access}{lists}, {bytes} bytes, member sizes"
     )?;
     for size in &assembly.members {
         write!(output, " {size}")?;
@@ -196,6 +197,11 @@ fn print_assembly<W: Write>(output: &mut W, assembly: &AssemblyConfig) -> io::Re
 /// What clients can do with data: set them too, or only read them.
 fn access_of(settable: bool) -> &'static str {
     if settable { "settable" } else { "read-only" }
+}
+
+/// Whether clients can read or set several attributes at once.
+fn lists_of(lists: bool) -> &'static str {
+    if lists { ", lists" } else { "" }
 }
 
 /// Prints an own object: its class, its instance and its name, then a line for each attribute and each service.
@@ -215,10 +221,11 @@ fn print_object<W: Write>(
     Ok(())
 }
 
-/// Prints the class, the instance and the name of an object.
+/// Prints the class and the instance of an object, whether it has the service for lists, and its name.
 fn print_head<W: Write>(output: &mut W, object: &ObjectConfig) -> io::Result<()> {
     let (class, instance) = (ClassText(object.class), object.instance);
-    write!(output, "object of {class}, instance {instance}")?;
+    let lists = lists_of(object.lists);
+    write!(output, "object of {class}, instance {instance}{lists}")?;
     if let Some(name) = &object.name {
         write!(output, ", {}", name.as_str())?;
     }

@@ -25,9 +25,15 @@ counter-no-table = refl
 
 -- a settable assembly of three members
 pub assembly-described : option_and_then assemblies_of (parse_document (codes "[[assembly]]\ninstance = 100\nsettable = true\nmembers = [1, 2, 1]\n"))
-    ≡ Some ((100, (true, 1 ∷ 2 ∷ 1 ∷ [])) ∷ [])
+    ≡ Some ((100, (true, (1 ∷ 2 ∷ 1 ∷ [], false))) ∷ [])
 unfolding toml_on_literals
 assembly-described = refl
+
+-- one with the services for lists
+pub assembly-with-lists : option_and_then assemblies_of (parse_document (codes "[[assembly]]\ninstance = 100\nmembers = [2]\nlists = true\n"))
+    ≡ Some ((100, (false, (2 ∷ [], true))) ∷ [])
+unfolding toml_on_literals
+assembly-with-lists = refl
 
 -- an address of three numbers, and one of four
 pub address-short : option_and_then address_of (parse_document (codes "address = [127, 0, 0]\n")) ≡ None

@@ -47,7 +47,7 @@ seen_values (a ∷ attributes) = ap (λ rest. attribute_seen a ∷ rest) (seen_v
 
 standard_seen : (class : ℕ) (attributes : List AttributeValues) (o : ObjectConfig) → IsStandard class attributes o → object_seen o ≡ standard_object class attributes
 standard_seen class attributes o is =
-    rw (is.standard, is.of_class, is.first, is.unnamed, is.without_services, seen_values o.attributes.items, is.with_attributes) refl
+    rw (is.standard, is.of_class, is.first, is.unnamed, is.without_services, is.without_lists, seen_values o.attributes.items, is.with_attributes) refl
 
 map_last : (objects : List ObjectConfig) (o : ObjectConfig) → map object_seen (objects ++ (o ∷ [])) ≡ map object_seen objects ++ (object_seen o ∷ [])
 map_last [] o = refl

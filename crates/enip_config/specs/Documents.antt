@@ -22,7 +22,7 @@ use Rattle.enip_config.specs.Known.{has_unknown_key}
 use Rattle.enip_config.specs.declared.ledger.LedgerConfig.{LedgerConfig}
 use Rattle.enip_config.specs.Commands.{has_queued}
 use Rattle.enip_config.specs.Keys.{row, originators_row, life_row, queue_row, number_of, name_of, address_of, assemblies_of}
-use Rattle.enip_config.specs.Keys.{ledger_of, queue_of, counter_enabled}
+use Rattle.enip_config.specs.Keys.{ledger_of, queue_of, counter_enabled, AssemblySeen}
 use Rattle.enip_config.specs.Objects.{object_seen}
 use Rattle.enip_config.specs.StandardObjects.{all_objects_of}
 use Rattle.enip_config.specs.ObjectTypes.{types_of, types_seen}
@@ -47,9 +47,9 @@ number_in c FirstId = c.first_id
 number_in c CounterValue = c.objects.counter.value
 number_in c CounterLimit = c.objects.counter.limit
 
--- an assembly's instance, whether it is settable, and the sizes of its members
-abbrev pub assembly_seen : AssemblyConfig → ℕ × (Bool × List ℕ)
-assembly_seen assembly = (assembly.instance, (assembly.settable, assembly.members.items))
+-- an assembly's instance, whether it is settable, the sizes of its members, and whether it has the services for lists
+abbrev pub assembly_seen : AssemblyConfig → AssemblySeen
+assembly_seen assembly = (assembly.instance, (assembly.settable, (assembly.members.items, assembly.lists)))
 
 -- how many originators a ledger has slots for, and its life
 abbrev pub ledger_seen : LedgerConfig → ℕ × ℕ

@@ -136,22 +136,31 @@ counter_enabled described = option_and_then (flag_of (codes "enabled") true) (co
 abbrev pub settable_of : Members → Option Bool
 settable_of described = flag_of (codes "settable") false described
 
+-- whether an assembly or an object has the services for lists of attributes
+abbrev pub lists_of : Members → Option Bool
+lists_of described = flag_of (codes "lists") false described
+
 -- two results as a pair; None if either is
 abbrev pub both : {A B : Type 0} → Option A → Option B → Option (A × B)
 both None second = None
 both (Some a) second = option_map (λ b. (a, b)) second
 
--- an assembly's instance, whether it is settable, and the sizes of its members
-abbrev pub assembly_in : Data → Option (ℕ × (Bool × List ℕ))
-assembly_in (table described) = both (number_by instance_row described) (both (settable_of described) (sizes_of described))
+-- an assembly's instance, whether it is settable, the sizes of its members, and whether it has the services for lists
+abbrev pub AssemblySeen : Type 0
+AssemblySeen = ℕ × (Bool × (List ℕ × Bool))
+
+abbrev pub assembly_in : Data → Option AssemblySeen
+assembly_in (table described) =
+    both (number_by instance_row described)
+    (both (settable_of described) (both (sizes_of described) (lists_of described)))
 assembly_in _ = None
 
 -- the assemblies, in the order of the file
-abbrev pub assemblies_in : Data → Option (List (ℕ × (Bool × List ℕ)))
+abbrev pub assemblies_in : Data → Option (List AssemblySeen)
 assemblies_in (array values) = each assembly_in values
 assemblies_in _ = None
 
-abbrev pub assemblies_of : Members → Option (List (ℕ × (Bool × List ℕ)))
+abbrev pub assemblies_of : Members → Option (List AssemblySeen)
 assemblies_of described = read_or (Some []) assemblies_in (get_member (codes "assembly") described)
 
 -- how many originators a ledger has slots for, and its life

@@ -61,7 +61,7 @@ text_numbers =
 abbrev pub keys_of : TableKind → List (List ℕ)
 keys_of Text = map (λ key. (row key).name) text_numbers ++ (codes "name" ∷ codes "address" ∷ [])
 keys_of Counter = map (λ key. (row key).name) (CounterValue ∷ CounterLimit ∷ []) ++ (codes "enabled" ∷ [])
-keys_of Assembly = instance_row.name ∷ codes "settable" ∷ codes "members" ∷ []
+keys_of Assembly = instance_row.name ∷ codes "settable" ∷ codes "members" ∷ codes "lists" ∷ []
 keys_of Ledger = originators_row.name ∷ life_row.name ∷ []
 keys_of Commands = queue_row.name ∷ []
 keys_of Access = codes "read" ∷ codes "write" ∷ codes "per_address" ∷ codes "connections_per_address" ∷ []
@@ -70,7 +70,7 @@ keys_of TcpIp =
     ∷ timeout_row.name ∷ []
 keys_of EthernetLink =
     speed_row.name ∷ flags_row.name ∷ codes "physical_address" ∷ type_row.name ∷ state_row.name ∷ codes "label" ∷ []
-keys_of Object = class_row.name ∷ instance_row.name ∷ codes "name" ∷ []
+keys_of Object = class_row.name ∷ instance_row.name ∷ codes "name" ∷ codes "lists" ∷ []
 keys_of Attribute =
     attribute_row.name ∷ codes "type" ∷ codes "value" ∷ codes "settable" ∷ codes "checked" ∷ codes "min"
     ∷ codes "max" ∷ []

@@ -11,7 +11,7 @@ use Rattle.cip_application.specs.declared.config.ServiceKind.TheVariants as kind
 use Rattle.cip_application.specs.declared.kind.AttributeKind.{AttributeKind}
 use Rattle.enip_config.specs.Commands.{is_queued_kind}
 use Rattle.enip_config.specs.Keys.{KeyRow, required, optional, instance_row, number_in, number_by, read_or, each, both}
-use Rattle.enip_config.specs.Keys.{flag_of}
+use Rattle.enip_config.specs.Keys.{flag_of, lists_of}
 use Rattle.enip_config.specs.Types.{typed_in}
 
 -- the key `class` of a table `object`
@@ -112,9 +112,10 @@ attributes_of described = read_or (Some []) attributes_in (get_member (codes "at
 
 -- ---- objects
 
--- whether an object is one of the standard, its class, instance, name if it has one, attributes and services
+-- whether an object is one of the standard, its class, instance, name if it has one, attributes and services, and whether
+-- it has the service for lists
 abbrev pub ObjectSeen : Type 0
-ObjectSeen = Bool × (ℕ × (ℕ × (Option (List ℕ) × (List AttributeSeen × List ServiceSeen))))
+ObjectSeen = Bool × (ℕ × (ℕ × (Option (List ℕ) × (List AttributeSeen × (List ServiceSeen × Bool)))))
 
 abbrev pub object_name : Members → Option (Option (List ℕ))
 object_name described =
@@ -125,7 +126,8 @@ object_in (table described) =
     both (Some false)
     (both (number_by class_row described)
     (both (number_by instance_row described)
-    (both (object_name described) (both (attributes_of described) (services_of described)))))
+    (both (object_name described)
+    (both (attributes_of described) (both (services_of described) (lists_of described))))))
 object_in _ = None
 
 abbrev pub object_seen : ObjectConfig → ObjectSeen
@@ -137,7 +139,7 @@ object_seen object = (
       object.instance,
       (
         option_map string_bytes object.name,
-        (map attribute_seen object.attributes.items, map service_seen object.services.items),
+        (map attribute_seen object.attributes.items, (map service_seen object.services.items, object.lists)),
       ),
     ),
   ),

@@ -1,5 +1,5 @@
 -- The tables `tcp_ip` and `ethernet_link` of a configuration.
-use Rattle.std.specs.Prelude.{◌≡◌, ◌≤◌, ℕ, List, [], ◌∷◌, ◌++◌, Bool, true, not, ◌&&◌, ◌||◌, nat_le, nat_lt, codes, length, map}
+use Rattle.std.specs.Prelude.{◌≡◌, ◌≤◌, ℕ, List, [], ◌∷◌, ◌++◌, Bool, true, not, ◌&&◌, ◌||◌, nat_le, nat_lt, codes, length, map, false}
 use Rattle.std.specs.Prelude.{Option, Some, None, option_map, option_and_then, if◌then◌else◌}
 use Rattle.std.specs.List.{list_any}
 use Rattle.toml.specs.Data.{Data, string, array, table, Items, no_items, item, Members, get_member}
@@ -143,9 +143,9 @@ link_of described =
 abbrev pub values_seen : AttributeValues → AttributeSeen
 values_seen a = (a.number, (a.settable, (a.checked, (a.kind, a.value))))
 
--- instance 1 of a class of the standard, with these attributes and no services
+-- instance 1 of a class of the standard, with these attributes, no services of its own and none for lists
 abbrev pub standard_object : ℕ → List AttributeValues → ObjectSeen
-standard_object class attributes = (true, (class, (1, (None, (map values_seen attributes, [])))))
+standard_object class attributes = (true, (class, (1, (None, (map values_seen attributes, ([], false))))))
 
 abbrev pub interface_objects : Option InterfaceValues → List ObjectSeen
 interface_objects None = []

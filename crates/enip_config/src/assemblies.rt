@@ -52,6 +52,7 @@ fn assembly_of(alloc: Global, value: &Value) -> Result<AssemblyConfig, LoadFault
         instance: number_by(table, INSTANCE)?,
         settable: flag_of(table, "settable", false)?,
         members: sizes_of(alloc, table)?,
+        lists: flag_of(table, "lists", false)?,
     })
 }
 

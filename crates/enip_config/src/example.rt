@@ -58,11 +58,13 @@ label = "Port 1"             # up to 64 characters; default none
 instance = 100               # 1 to 65535
 settable = true              # whether clients can write the data; default false
 members = [1, 2, 1]          # the sizes of its members in bytes: up to 64, 3900 bytes in all
+lists = false                # true: clients can read all its attributes, or set several, at once; default false
 
 [[object]]                   # an object of your own, up to 32
 class = 768                  # 1 to 65535, not one of the adapter's own
 instance = 1                 # 1 to 65535
 name = "Conveyor"            # optional, for `enip check`
+lists = false                # true: clients can set several of its attributes at once; default false
 
 [[object.attribute]]         # up to 32 in an object
 number = 1                   # 1 to 65535

@@ -75,13 +75,17 @@ impl TableKind {
             }
             TableKind::Assembly => INSTANCE.is_named(name)
                 || name == "settable"
-                || name == "members",
+                || name == "members"
+                || name == "lists",
             TableKind::Ledger => ORIGINATORS.is_named(name) || LIFE.is_named(name),
             TableKind::Commands => QUEUE.is_named(name),
             TableKind::Access => is_access_key(name),
             TableKind::TcpIp => is_tcp_ip_key(name),
             TableKind::EthernetLink => is_link_key(name),
-            TableKind::Object => CLASS.is_named(name) || INSTANCE.is_named(name) || name == "name",
+            TableKind::Object => CLASS.is_named(name)
+                || INSTANCE.is_named(name)
+                || name == "name"
+                || name == "lists",
             TableKind::Attribute => is_attribute_key(name),
             TableKind::Service => is_service_key(name),
         }

@@ -34,7 +34,7 @@ impl TableKind {
                 "object",
             ],
             TableKind::Counter => &["value", "limit", "enabled"],
-            TableKind::Assembly => &["instance", "members", "settable"],
+            TableKind::Assembly => &["instance", "members", "settable", "lists"],
             TableKind::Ledger => &["originators", "life"],
             TableKind::Commands => &["queue"],
             TableKind::Access => &["read", "write", "per_address", "connections_per_address"],
@@ -55,7 +55,7 @@ impl TableKind {
                 "state",
                 "label",
             ],
-            TableKind::Object => &["class", "instance", "name", "attribute", "service"],
+            TableKind::Object => &["class", "instance", "name", "lists", "attribute", "service"],
             TableKind::Attribute => &[
                 "number", "type", "value", "settable", "checked", "min", "max",
             ],

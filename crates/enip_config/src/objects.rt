@@ -78,6 +78,7 @@ fn object_of(alloc: Global, value: &Value) -> Result<ObjectConfig, LoadFault>
         name: name_of(table)?,
         attributes: attributes_of(alloc, table)?,
         services: services_of(alloc, table)?,
+        lists: flag_of(table, "lists", false)?,
     })
 }
 

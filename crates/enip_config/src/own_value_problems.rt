@@ -48,6 +48,9 @@ fn bad_object(place: usize, table: &Table) -> Option<(Location<'static>, Problem
             Problem::Type("name", "a string"),
         )),
     }
+    if let Some(problem) = bad_flag(table, "lists") {
+        return Some((Location::InObject(place, "lists"), problem));
+    }
     if let Some(found) = bad_parts(place, table, TableKind::Attribute, "attribute") {
         return Some(found);
     }

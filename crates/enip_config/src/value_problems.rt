@@ -241,8 +241,10 @@ fn bad_assembly(table: &Table) -> Option<(&'static str, Problem)> {
     if let Some(problem) = bad_number(table, INSTANCE) {
         return Some((INSTANCE.name, problem));
     }
-    if let Some(problem) = bad_flag(table, "settable") {
-        return Some(("settable", problem));
+    for key in ["settable", "lists"] {
+        if let Some(problem) = bad_flag(table, key) {
+            return Some((key, problem));
+        }
     }
     let sizes = match table.get("members") {
         None => return Some(("members", Problem::Missing("members"))),

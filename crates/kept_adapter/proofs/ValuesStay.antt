@@ -23,17 +23,25 @@ use Rattle.cip_message.specs.declared.path.Path.{Path}
 use Rattle.cip_objects.specs.declared.status.Refusal.{Refusal}
 use Rattle.cip_objects.specs.ChangeServices.{Change, is_allowed_limit, set_attribute_single, set_member, add, clear}
 use Rattle.cip_objects.specs.Contents.{Contents, value_at, bytes_at, udint_at, with_value, with_change}
+<<<<<<< ours
 use Rattle.cip_objects.specs.Execution.{Outcome, outcome_of_read, outcome_of_change, perform, outcome, exec}
 use Rattle.cip_objects.specs.Kept.{kept_kind, kept_data_kind, kept_number_kind, kept_object_kind, kind_if_kept, is_kept}
+=======
+use Rattle.cip_objects.specs.Execution.{Outcome, outcome_of_read, outcome_of_change, outcome_of_list, perform, outcome, exec}
+use Rattle.cip_objects.specs.Kept.{kept_kind, kept_data_kind, kept_number_kind, kept_object_kind, kind_of_attribute}
+>>>>>>> theirs
 use Rattle.cip_objects.specs.Members.{AreWhole}
 use Rattle.cip_objects.specs.ReadServices.{Answer, service_at, get_attributes_all, get_attribute_list}
 use Rattle.cip_objects.specs.ReadServices.{get_attribute_single, get_member}
 use Rattle.cip_objects.specs.Service.{service_code, service_in}
 use Rattle.cip_objects.specs.Tables.{Shape, Shapes, AttributeShape, ObjectShape, settable_kind, kind_if_settable, kind_in}
 use Rattle.cip_objects.specs.Tables.{kind_of_settable, is_counter_class, shape_at, object_at, attribute_at}
-use Rattle.cip_objects.specs.Tables.{services_of, object_services, assembly_services}
+use Rattle.cip_objects.specs.Tables.{services_of, object_services, services_of_object, object_list_services}
+use Rattle.cip_objects.specs.Tables.{services_of_assembly, assembly_list_services}
+use Rattle.cip_objects.specs.SetLists.{set_attribute_list, set_all}
 use Rattle.cip_objects.proofs.Effects.{goes, bound, found_some, read_effect, change_effect, set_effect, add_effect, clear_effect, Sets}
 use Rattle.cip_objects.proofs.ReadAfterSet.{value_at-with_value}
+use Rattle.cip_objects.proofs.ListSets.{list_effect, all_keep, at}
 use Rattle.cip_objects.proofs.Refuses.{exec_left}
 use Rattle.cip_objects.proofs.Unsettable.{splices}
 use Rattle.cip_objects.proofs.Whole.{stays_whole}
@@ -275,6 +283,14 @@ set_keeps m path content o same have e =
     let c = change_effect (set_attribute_single m path content) o e in
     set_others m path content c.change o.after have c.after (set_effect m path content c.change c.first)
 
+list_keeps : {shapes : Shapes} (m : Contents) (path : Path) (content : List ℕ) (o : Outcome) → m.shapes ≡ shapes
+    → HasOthers m → outcome_of_list (set_attribute_list m path content) ≡ Ok o → HasOthers o.after
+list_keeps m path content o same have e =
+    let x = list_effect m path content o e in
+    same_others (set_all m path x.settings).after o.after x.after
+    (all_keep HasOthers path m x.settings
+    (λ n attribute value c set kept. set_others n (at path attribute) value c c.after kept refl set) have)
+
 member_keeps : {shapes : Shapes} (m : Contents) (path : Path) (content : List ℕ) (o : Outcome) → m.shapes ≡ shapes
     → HasOthers m → outcome_of_change (set_member m path content) ≡ Ok o → HasOthers o.after
 member_keeps m path content o same have e =
@@ -312,10 +328,16 @@ either : {shapes : Shapes} {x y : Option (List AnyService)} (t : Bool) → (t �
 either true h k = h refl
 either false h k = k
 
-each : {shapes : Shapes} {A : Type 0} (services : List AnyService) (o : Option A) → KeepAll shapes services
-    → AllKeep shapes (option_map (λ _. services) o)
+each : {shapes : Shapes} {A : Type 0} (services : A → List AnyService) (o : Option A)
+    → ((x : A) → KeepAll shapes (services x)) → AllKeep shapes (option_map services o)
 each services None h = record { all = tt }
-each services (Some x) h = record { all = h }
+each services (Some x) h = record { all = h x }
+
+-- those that an object may have
+if_there : {shapes : Shapes} (there : Bool) (services : List AnyService) → KeepAll shapes services
+    → KeepAll shapes (if there then services else [])
+if_there true services h = h
+if_there false services h = tt
 
 abbrev not_there : Option (List AnyService)
 not_there = None
@@ -333,6 +355,7 @@ offered_keep shapes class instance =
     let member = read_keeps {shapes = shapes} get_member in
     let set = set_keeps {shapes = shapes} in
     let splice = member_keeps {shapes = shapes} in
+    let sets = list_keeps {shapes = shapes} in
     let none : AllKeep shapes not_there = record { all = tt } in
     let empty : AllKeep shapes without_services = record { all = tt } in
     let of_class : AllKeep shapes (Some (take 1 (drop 2 object_services))) = record { all = (single, tt) } in
@@ -345,13 +368,29 @@ offered_keep shapes class instance =
     (λ is. either (instance == 0) (λ is. of_class) (either (instance == 1) (λ is. of_identity) none))
     (either (class == ASSEMBLY)
     (λ is. either (instance == 0) (λ is. of_class)
-    (each assembly_services (shape_at instance shapes.assemblies)
-    (list, (single, (set, (member, (splice, tt)))))))
+    (each services_of_assembly (shape_at instance shapes.assemblies)
+    (λ s. (
+      list,
+      (
+        single,
+        (
+          set,
+          (
+            member,
+            (
+              splice,
+              if_there {shapes = shapes} s.lists assembly_list_services (sets, (whole, tt)),
+            ),
+          ),
+        ),
+      ),
+    ))))
     (either (class == CONNECTION_MANAGER) (λ is. either (instance == 1) (λ is. empty) none)
     (either (is_counter_class shapes class)
     (λ is. either (instance == 0) (λ zero. of_class) (either (instance == 1) (λ one. counted is) none))
     (either (instance == 0) (λ is. either (list_any (λ o. o.class == class) shapes.objects) (λ is. of_class) none)
-    (each object_services (object_at class instance shapes.objects) (whole, (list, (single, (set, tt)))))))))
+    (each services_of_object (object_at class instance shapes.objects)
+    (λ s. (whole, (list, (single, (set, if_there {shapes = shapes} s.lists object_list_services (sets, tt)))))))))))
 
 picked : {A : Type 0} (P : A → Type 0) (t : Bool) (x s : A) (rest : Option A) → P x → (rest ≡ Some s → P s)
     → (if t then Some x else rest) ≡ Some s → P s

@@ -20,7 +20,7 @@ use Rattle.cip_objects.specs.declared.status.Refusal.{Refusal}
 use Rattle.cip_objects.specs.ChangeServices.{with_bytes_at, set_attribute_single, set_member, add, clear}
 use Rattle.cip_objects.specs.Contents.{Contents, bytes_at, with_value}
 use Rattle.cip_objects.specs.DeviceWrites.{device_write, object_write, with_data_of, with_attribute_by}
-use Rattle.cip_objects.specs.Execution.{Outcome, outcome_of_read, outcome_of_change, perform, outcome, exec}
+use Rattle.cip_objects.specs.Execution.{Outcome, outcome_of_read, outcome_of_change, outcome_of_list, perform, outcome, exec}
 use Rattle.cip_objects.specs.Service.{service_code, service_in}
 use Rattle.cip_objects.specs.Kept.{kept_names}
 use Rattle.cip_objects.specs.OwnRequests.{Asked, own_request}
@@ -29,9 +29,12 @@ use Rattle.cip_objects.specs.ReadServices.{Answer, service_at, get_attribute_sin
 use Rattle.cip_objects.specs.ReadServices.{get_attribute_list, get_member}
 use Rattle.cip_objects.specs.Router.{REPLY_TOO_LARGE}
 use Rattle.cip_objects.specs.Tables.{Shape, Shapes, AttributeShape, shape_at, object_at, attribute_at}
-use Rattle.cip_objects.specs.Tables.{services_of, object_services, assembly_services, is_counter_class}
+use Rattle.cip_objects.specs.Tables.{services_of, object_services, services_of_object, object_list_services}
+use Rattle.cip_objects.specs.Tables.{services_of_assembly, assembly_list_services, is_counter_class}
+use Rattle.cip_objects.specs.SetLists.{set_attribute_list}
 use Rattle.cip_objects.proofs.Approved.{stored_shapes}
 use Rattle.cip_objects.proofs.Effects.{goes, bound, found_some, read_effect, change_effect, set_effect, add_effect, clear_effect}
+use Rattle.cip_objects.proofs.ListSets.{list_effect, all_keep}
 use Rattle.cip_objects.proofs.Refuses.{exec_left}
 use Rattle.cip_objects.proofs.Unsettable.{splices}
 use Rattle.cip_application.specs.Values.{from_offset}
@@ -90,6 +93,14 @@ set_keeps m path content o e =
     let x = set_effect m path content c.change c.first in
     ap (λ (y : Contents). y.shapes) (c.after ∙ x.leaves)
 
+list_keeps : (m : Contents) (path : Path) (content : List ℕ) (o : Outcome)
+    → outcome_of_list (set_attribute_list m path content) ≡ Ok o → o.after.shapes ≡ m.shapes
+list_keeps m path content o e =
+    let x = list_effect m path content o e in
+    ap (λ (y : Contents). y.shapes) x.after
+    ∙ all_keep (λ (n : Contents). n.shapes ≡ m.shapes) path m x.settings
+    (λ n attribute value c set same. ap (λ (y : Contents). y.shapes) set.leaves ∙ same) refl
+
 member_keeps : (m : Contents) (path : Path) (content : List ℕ) (o : Outcome)
     → outcome_of_change (set_member m path content) ≡ Ok o → o.after.shapes ≡ m.shapes
 member_keeps m path content o e =
@@ -119,9 +130,15 @@ either : {x y : Option (List Service)} (t : Bool) → AllKeep x → AllKeep y �
 either true h k = h
 either false h k = k
 
-each : {A : Type 0} (services : List Service) (o : Option A) → KeepAll services → AllKeep (option_map (λ _. services) o)
+each : {A : Type 0} (services : A → List Service) (o : Option A) → ((x : A) → KeepAll (services x))
+    → AllKeep (option_map services o)
 each services None h = record { all = tt }
-each services (Some x) h = record { all = h }
+each services (Some x) h = record { all = h x }
+
+-- those that an object may have
+if_there : (there : Bool) (services : List Service) → KeepAll services → KeepAll (if there then services else [])
+if_there true services h = h
+if_there false services h = tt
 
 abbrev not_there : Option (List Service)
 not_there = None
@@ -146,13 +163,29 @@ offered_keep shapes class instance =
     either (class == IDENTITY) (either (instance == 0) of_class (either (instance == 1) of_identity none))
     (either (class == ASSEMBLY)
     (either (instance == 0) of_class
-    (each assembly_services (shape_at instance shapes.assemblies)
-    (list, (single, (set_keeps, (member, (member_keeps, tt)))))))
+    (each services_of_assembly (shape_at instance shapes.assemblies)
+    (λ s. (
+      list,
+      (
+        single,
+        (
+          set_keeps,
+          (
+            member,
+            (
+              member_keeps,
+              if_there s.lists assembly_list_services (list_keeps, (whole, tt)),
+            ),
+          ),
+        ),
+      ),
+    ))))
     (either (class == CONNECTION_MANAGER) (either (instance == 1) empty none)
     (either (is_counter_class shapes class)
     (either (instance == 0) of_class (either (instance == 1) of_counter none))
     (either (instance == 0) (either (list_any (λ o. o.class == class) shapes.objects) of_class none)
-    (each object_services (object_at class instance shapes.objects) (whole, (list, (single, (set_keeps, tt)))))))))
+    (each services_of_object (object_at class instance shapes.objects)
+    (λ s. (whole, (list, (single, (set_keeps, if_there s.lists object_list_services (list_keeps, tt)))))))))))
 
 same_some : {A : Type 0} (x y : A) → ◌≡◌ {A = Option A} (Some x) (Some y) → x ≡ y
 same_some x y e = cc
