@@ -23,13 +23,8 @@ use Rattle.cip_message.specs.declared.path.Path.{Path}
 use Rattle.cip_objects.specs.declared.status.Refusal.{Refusal}
 use Rattle.cip_objects.specs.ChangeServices.{Change, is_allowed_limit, set_attribute_single, set_member, add, clear}
 use Rattle.cip_objects.specs.Contents.{Contents, value_at, bytes_at, udint_at, with_value, with_change}
-<<<<<<< ours
-use Rattle.cip_objects.specs.Execution.{Outcome, outcome_of_read, outcome_of_change, perform, outcome, exec}
-use Rattle.cip_objects.specs.Kept.{kept_kind, kept_data_kind, kept_number_kind, kept_object_kind, kind_if_kept, is_kept}
-=======
 use Rattle.cip_objects.specs.Execution.{Outcome, outcome_of_read, outcome_of_change, outcome_of_list, perform, outcome, exec}
-use Rattle.cip_objects.specs.Kept.{kept_kind, kept_data_kind, kept_number_kind, kept_object_kind, kind_of_attribute}
->>>>>>> theirs
+use Rattle.cip_objects.specs.Kept.{kept_kind, kept_data_kind, kept_number_kind, kept_object_kind, kind_if_kept, is_kept}
 use Rattle.cip_objects.specs.Members.{AreWhole}
 use Rattle.cip_objects.specs.ReadServices.{Answer, service_at, get_attributes_all, get_attribute_list}
 use Rattle.cip_objects.specs.ReadServices.{get_attribute_single, get_member}
