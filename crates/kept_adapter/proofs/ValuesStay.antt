@@ -62,6 +62,11 @@ use Rattle.cip_ledger.specs.Turn.{Fate, Passed, Served, fate, turn_by}
 use Rattle.cip_application.specs.declared.config.ServiceKind.{ServiceKind}
 use Rattle.cip_application.specs.declared.config.ServiceKind.TheVariants as kinds
 use Rattle.cip_owner.specs.Owned.{OwnedState, exec_owned, by_owner, given, refused_with, answered, is_fit, of_kind, queued}
+use Rattle.cip_owner.specs.Owned.{by_reset, reset_by}
+use Rattle.cip_owner.specs.declared.reset.ResetType.{ResetType}
+use Rattle.cip_owner.specs.declared.reset.ResetType.TheVariants.{PowerCycle, FirstValues}
+use Rattle.cip_owner.specs.Reset.{ResetState, reset_data, reset_type, with_first_value, with_first_values}
+use Rattle.cip_owner.specs.Reset.{objects_after_reset}
 use Rattle.cip_owner.specs.Owned.{after_reply, stored_at, answer_with, NOT_PREPARED, RESOURCE_UNAVAILABLE}
 use Rattle.cip_owner.specs.Queue.{QueueState, takes, pushed}
 use Rattle.cip_owner.specs.Replies.{Reply}
@@ -596,32 +601,7 @@ owner_values w max_size text (Some (Ok asked)) have = by_kind asked.kind (slice_
     by_kind kinds.Queued service = by_queue w.queue service
     by_kind kinds.Result service = have
 
-owned_values : (w : OwnedState) (max_size : ℕ) (text : List ℕ) → HasValues w.objects
-    → HasValues (exec_owned w max_size text).after.objects
-unfolding exec_owned
-owned_values w max_size text have = owner_values w max_size text (own_request w.objects text) have
-
--- ---- a turn of the ledger
-
-turn_values : (f : Fate) (device : Device) (max_size : ℕ) (text : List ℕ) → HasValues device.router.objects
-    → HasValues (turn_by objects_after objects_answer f device.ledger device.router max_size text).router.objects
-turn_values Passed device max_size text have = owned_values device.router max_size text have
-turn_values (Served service (Replies reply)) device max_size text have = have
-turn_values (Served service (Executes command)) device max_size text have =
-    elim (is_barred command.request) as (λ t. HasValues (if t then device.router
-    else objects_after device.router 480 command.request).objects) [
-      | true ↦ have
-      | false ↦ owned_values device.router 480 command.request have
-    ]
-turn_values (Served service (Queues command ticket)) device max_size text have =
-    elim (is_barred command.request) as (λ t. HasValues (if t then device.router
-    else objects_after device.router 480 command.request).objects) [
-      | true ↦ have
-      | false ↦ owned_values device.router 480 command.request have
-    ]
-turn_values (Served service (Frees originator)) device max_size text have = have
-
--- ---- the device's own writes
+-- ---- a value that is put back
 
 -- the data of assemblies keep their size if a value is set that is none of them, or has that size
 whole_set : (m : Contents) (c i a : ℕ) (v : List ℕ)
@@ -644,6 +624,101 @@ whole_set m c i a v fits whole j s there = by (eqb ASSEMBLY c && (eqb j i && eqb
         ∙ fits s (sym (eqb-true ASSEMBLY c first.0)) (sym (eqb-true 3 a more.1))
         (ap (λ n. shape_at n m.shapes.assemblies) (sym (eqb-true j i more.0)) ∙ there)
     by false e = ap length (read false e) ∙ whole j s there
+
+kept_values : (m : Contents) (name : AttributeName) (content : List ℕ) (kind : Option AttributeKind)
+    → kept_kind m.shapes name.class name.instance name.attribute ≡ kind → HasValues m
+    → HasValues (if_value m name (with_kept m name.class name.instance name.attribute content kind)).after
+kept_values m name content None is have = have
+kept_values m name content (Some kind) is have = by (is_whole kind content) refl
+  where
+    data_kind : (s : Shape) → name.class ≡ ASSEMBLY → name.attribute ≡ 3
+        → shape_at name.instance m.shapes.assemblies ≡ Some s → kind ≡ Fixed (sum s.members) None
+    data_kind s four three there =
+        some_is kind (Fixed (sum s.members) None)
+        (sym is ∙ ap (λ c. kept_kind m.shapes c name.instance name.attribute) four
+        ∙ ap (λ a. kept_kind m.shapes ASSEMBLY name.instance a) three ∙ ap kind_of_data there)
+
+    by : (t : Bool) → is_whole kind content ≡ t → HasValues (if_value m name (if t then
+        Some (with_value m name.class name.instance name.attribute content) else None)).after
+    by true whole = record {
+      data_whole = whole_set m name.class name.instance name.attribute content
+          (λ s four three there. eqb-true (length content) (sum s.members)
+          (subst (λ k. is_whole k content ≡ true) (data_kind s four three there) whole)) have.data_whole;
+      others = value_set m name.class name.instance name.attribute content
+          (λ apart other. if_some (kept_kind m.shapes name.class name.instance name.attribute) kind
+          (λ kind. is_whole kind content ≡ true) is whole) have.others
+          (with_value m name.class name.instance name.attribute content) refl;
+      counter_apart = have.counter_apart;
+    }
+    by false whole = have
+
+restored_values : (m : Contents) (name : AttributeName) (content : List ℕ) → HasValues m
+    → HasValues (value_done m name content).after
+unfolding value_restored
+restored_values m name content have =
+    kept_values m name content (kept_kind m.shapes name.class name.instance name.attribute) refl have
+
+-- ---- a Reset
+
+unwrapped_values : (m : Contents) (name : AttributeName) (o : Option Contents) → HasValues (if_value m name o).after
+    → HasValues (unwrap_or o m)
+unwrapped_values m name None have = have
+unwrapped_values m name (Some n) have = have
+
+first_value : (first : Contents) (name : AttributeName) (m : Contents) → HasValues m
+    → HasValues (with_first_value first name m)
+first_value first name m have =
+    let content = bytes_at first name.class name.instance name.attribute in
+    unwrapped_values m name (value_restored m name content) (restored_values m name content have)
+
+first_values : (first : Contents) (names : List AttributeName) (m : Contents) → HasValues m
+    → HasValues (with_first_values first names m)
+first_values first [] m have = have
+first_values first (name ∷ names) m have =
+    first_values first names (with_first_value first name m) (first_value first name m have)
+
+after_values : (type : ResetType) (r : ResetState) (m : Contents) → HasValues m → HasValues (objects_after_reset type r m)
+after_values PowerCycle r m have = have
+after_values FirstValues r m have = first_values r.first r.names m have
+
+type_values : (w : OwnedState) (service : ℕ) (r : ResetState) (type : Option ResetType) → HasValues w.objects
+    → HasValues (reset_by w service r type).after.objects
+type_values w service r None have = have
+type_values w service r (Some type) have = after_values type r w.objects have
+
+reset_values : (w : OwnedState) (max_size : ℕ) (text : List ℕ) (reset : Option ResetState) (content : Option (List ℕ))
+    → HasValues w.objects → HasValues (by_reset w max_size text reset content).after.objects
+reset_values w max_size text None content have = owner_values w max_size text (own_request w.objects text) have
+reset_values w max_size text (Some r) None have = owner_values w max_size text (own_request w.objects text) have
+reset_values w max_size text (Some r) (Some content) have =
+    type_values w (slice_index text 0) r (reset_type content) have
+
+owned_values : (w : OwnedState) (max_size : ℕ) (text : List ℕ) → HasValues w.objects
+    → HasValues (exec_owned w max_size text).after.objects
+unfolding exec_owned
+owned_values w max_size text have = reset_values w max_size text w.reset (reset_data text) have
+
+-- ---- a turn of the ledger
+
+turn_values : (f : Fate) (device : Device) (max_size : ℕ) (text : List ℕ) → HasValues device.router.objects
+    → HasValues (turn_by objects_after objects_answer f device.ledger device.router max_size text).router.objects
+turn_values Passed device max_size text have = owned_values device.router max_size text have
+turn_values (Served service (Replies reply)) device max_size text have = have
+turn_values (Served service (Executes command)) device max_size text have =
+    elim (is_barred command.request) as (λ t. HasValues (if t then device.router
+    else objects_after device.router 480 command.request).objects) [
+      | true ↦ have
+      | false ↦ owned_values device.router 480 command.request have
+    ]
+turn_values (Served service (Queues command ticket)) device max_size text have =
+    elim (is_barred command.request) as (λ t. HasValues (if t then device.router
+    else objects_after device.router 480 command.request).objects) [
+      | true ↦ have
+      | false ↦ owned_values device.router 480 command.request have
+    ]
+turn_values (Served service (Frees originator)) device max_size text have = have
+
+-- ---- the device's own writes
 
 data_values : (m : Contents) (instance offset : ℕ) (bytes : List ℕ) → HasValues m
     → HasValues (unwrap_or (device_write m instance offset bytes) m)
@@ -808,39 +883,6 @@ calls_values a calls have =
     (steps_values a.state.shared.objects (steps_of_calls a calls) have)
 
 -- ---- a start
-
-kept_values : (m : Contents) (name : AttributeName) (content : List ℕ) (kind : Option AttributeKind)
-    → kept_kind m.shapes name.class name.instance name.attribute ≡ kind → HasValues m
-    → HasValues (if_value m name (with_kept m name.class name.instance name.attribute content kind)).after
-kept_values m name content None is have = have
-kept_values m name content (Some kind) is have = by (is_whole kind content) refl
-  where
-    data_kind : (s : Shape) → name.class ≡ ASSEMBLY → name.attribute ≡ 3
-        → shape_at name.instance m.shapes.assemblies ≡ Some s → kind ≡ Fixed (sum s.members) None
-    data_kind s four three there =
-        some_is kind (Fixed (sum s.members) None)
-        (sym is ∙ ap (λ c. kept_kind m.shapes c name.instance name.attribute) four
-        ∙ ap (λ a. kept_kind m.shapes ASSEMBLY name.instance a) three ∙ ap kind_of_data there)
-
-    by : (t : Bool) → is_whole kind content ≡ t → HasValues (if_value m name (if t then
-        Some (with_value m name.class name.instance name.attribute content) else None)).after
-    by true whole = record {
-      data_whole = whole_set m name.class name.instance name.attribute content
-          (λ s four three there. eqb-true (length content) (sum s.members)
-          (subst (λ k. is_whole k content ≡ true) (data_kind s four three there) whole)) have.data_whole;
-      others = value_set m name.class name.instance name.attribute content
-          (λ apart other. if_some (kept_kind m.shapes name.class name.instance name.attribute) kind
-          (λ kind. is_whole kind content ≡ true) is whole) have.others
-          (with_value m name.class name.instance name.attribute content) refl;
-      counter_apart = have.counter_apart;
-    }
-    by false whole = have
-
-restored_values : (m : Contents) (name : AttributeName) (content : List ℕ) → HasValues m
-    → HasValues (value_done m name content).after
-unfolding value_restored
-restored_values m name content have =
-    kept_values m name content (kept_kind m.shapes name.class name.instance name.attribute) refl have
 
 ledger_values : (m : Contents) (name : AttributeName) (content : List ℕ) (l : Option LedgerState) → HasValues m
     → HasValues (to_ledger m name content l).after.objects

@@ -42,7 +42,11 @@ use Rattle.cip_application.specs.declared.config.ServiceKind.{ServiceKind}
 use Rattle.cip_application.specs.declared.config.ServiceKind.TheVariants as kinds
 use Rattle.cip_bytes.specs.Numbers.{le}
 use Rattle.cip_owner.specs.Owned.{OwnedState, exec_owned, by_owner, given, refused_with, answered, is_fit, of_kind, queued}
-use Rattle.cip_owner.specs.Owned.{after_reply, stored_at, answer_with, NOT_PREPARED, RESOURCE_UNAVAILABLE}
+use Rattle.cip_owner.specs.Owned.{after_reply, stored_at, answer_with, by_reset, reset_by, NOT_PREPARED}
+use Rattle.cip_owner.specs.Owned.{RESOURCE_UNAVAILABLE}
+use Rattle.cip_owner.specs.declared.reset.ResetType.{ResetType}
+use Rattle.cip_owner.specs.Reset.{ResetState, reset_data, reset_type}
+use Rattle.cip_owner.specs.ResetLaws.{reset_keeps}
 use Rattle.cip_owner.specs.Queue.{QueueState, takes, pushed}
 use Rattle.cip_owner.specs.QueueRuns.{after_steps}
 use Rattle.cip_owner.specs.Replies.{Reply}
@@ -279,10 +283,23 @@ owner_shapes w max_size text (Some (Ok asked)) = by_kind asked.kind (slice_index
     by_kind kinds.Queued service = by_queue w.queue service
     by_kind kinds.Result service = refl
 
+-- A Reset leaves the shapes.
+type_shapes : (w : OwnedState) (service : ℕ) (r : ResetState) (type : Option ResetType)
+    → (reset_by w service r type).after.objects.shapes ≡ w.objects.shapes
+type_shapes w service r None = refl
+type_shapes w service r (Some type) = (reset_keeps type r w.objects).shapes
+
+reset_shapes : (w : OwnedState) (max_size : ℕ) (text : List ℕ) (reset : Option ResetState) (content : Option (List ℕ))
+    → (by_reset w max_size text reset content).after.objects.shapes ≡ w.objects.shapes
+reset_shapes w max_size text None content = owner_shapes w max_size text (own_request w.objects text)
+reset_shapes w max_size text (Some r) None = owner_shapes w max_size text (own_request w.objects text)
+reset_shapes w max_size text (Some r) (Some content) =
+    type_shapes w (slice_index text 0) r (reset_type content)
+
 owned_shapes : (w : OwnedState) (max_size : ℕ) (text : List ℕ)
     → (exec_owned w max_size text).after.objects.shapes ≡ w.objects.shapes
 unfolding exec_owned
-owned_shapes w max_size text = owner_shapes w max_size text (own_request w.objects text)
+owned_shapes w max_size text = reset_shapes w max_size text w.reset (reset_data text)
 
 -- ---- the ledger stays, and the queue
 

@@ -1,10 +1,11 @@
 -- The adapter that starts from what was kept.
 use Rattle.std.specs.Prelude.{ℕ, ◌≡◌, ⊤, ◌==◌, nat_lt, Bool, IsTrue, true, false, not, ◌&&◌, ◌||◌, if◌then◌else◌}
 use Rattle.std.specs.Prelude.{List, [], ◌∷◌, ◌++◌, length, filter, Option, Some, None, option_map, is_some}
-use Rattle.cip_ledger.specs.Device.{queued_device}
+use Rattle.cip_ledger.specs.Device.{Device, queued_device, with_reset}
 use Rattle.cip_ledger.specs.Ledger.{SlotState, LedgerState, empty_ledger}
 use Rattle.cip_objects.specs.Configuration.{contents_of_config}
 use Rattle.cip_owner.specs.Queue.{QueueState, empty_queue}
+use Rattle.cip_owner.specs.Reset.{ResetState, resettable}
 use Rattle.device_state.specs.QueueEntries.{queue_put}
 use Rattle.device_state.specs.declared.restoring.Outcome.{Outcome}
 use Rattle.device_state.specs.declared.restoring.Outcome.TheVariants.{Used, Unknown, Unfit, OtherDevice}
@@ -151,10 +152,17 @@ is_trusted start p q =
 abbrev pub trusted_ledger : AdapterStart → Progress → QueueProgress → Option LedgerState
 trusted_ledger start p q = if is_trusted start p q then p.ledger else new_ledger start.ledger
 
+-- What the device needs to be reset, if its configuration lets peers do so. No Reset was executed yet.
+abbrev pub reset_from : AdapterStart → Option ResetState
+reset_from start = if start.reset then Some (resettable start.objects) else None
+
+abbrev pub started_device : AdapterStart → Progress → QueueProgress → Device
+started_device start p q =
+    with_reset (reset_from start)
+    (queued_device (trusted_ledger start p q) p.objects (trusted_queue start q))
+
 abbrev pub started_from : AdapterStart → Progress → QueueProgress → AdapterState
-started_from start p q =
-    shared_adapter (queued_device (trusted_ledger start p q) p.objects (trusted_queue start q)) start.listen start.limits
-    start.shares
+started_from start p q = shared_adapter (started_device start p q) start.listen start.limits start.shares
 
 abbrev pub started : AdapterStart → Kept → AdapterState
 started start kept = started_from start (put_back_in start kept) (queue_back_in start kept)

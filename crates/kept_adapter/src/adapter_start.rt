@@ -16,7 +16,8 @@ pub struct LedgerStart {
     pub life: u64,
 }
 
-/// What an adapter is made from: the configuration of its objects, its ledger, its queue, and its limits. The objects
+/// What an adapter is made from: the configuration of its objects, its ledger, its queue, its limits, and whether it can be
+/// reset. The objects
 /// accept their configuration.
 ///
 /// ```
@@ -25,6 +26,7 @@ pub struct LedgerStart {
 ///     ledger: None,
 ///     queue: None,
 ///     begins_life: false,
+///     reset: false,
 ///     listen,
 ///     limits,
 ///     shares: Shares::NONE,
@@ -42,6 +44,8 @@ pub struct AdapterStart {
     pub queue: Option<u16>,
     /// Whether the ledger starts empty, in its own life, whatever is kept of it.
     pub begins_life: bool,
+    /// Whether peers may reset the device. A Reset of type 1 puts the values back that `objects` gives.
+    pub reset: bool,
     /// The address and the port that ListIdentity reports.
     pub listen: Listen,
     /// The capacity, and the first numbers that are assigned.

@@ -6,7 +6,7 @@ ghost use Rattle.kept_server.specs.Changes.{rise};
 ghost use Rattle.kept_adapter.specs.SameKeys.{keys_stay};
 ghost use Rattle.kept_adapter.specs.Saved.{adapter_keys, saved_adapter};
 ghost use Rattle.kept_adapter.specs.Started.{all_unused_keys, new_ledger, new_queue, put_back_in, started, Refuses, IsStartFault};
-ghost use Rattle.kept_adapter.specs.Started.{is_trusted, queue_back_in, started_from, trusted_ledger, trusted_queue, waiting_keys};
+ghost use Rattle.kept_adapter.specs.Started.{is_trusted, queue_back_in, reset_from, started_from, trusted_ledger, trusted_queue, waiting_keys};
 
 use crate::adapter_start::AdapterStart;
 use crate::comparing::{are_of_queue, behind_ledger, behind_objects};
@@ -18,7 +18,7 @@ use crate::saving::{do_keys_rise, save_ledger_if_any, save_objects, save_queue_i
 use crate::tickets::has_given_all;
 use cip_ledger::Ledger;
 use cip_objects::Objects;
-use cip_owner::Queue;
+use cip_owner::{Queue, Resetting};
 use enip_adapter::Adapter;
 use enip_keep::{Entry, KeepError};
 use kept_server::KeptDevice;
@@ -188,7 +188,7 @@ impl AdapterStart {
         } = progress;
         let ledger = self.trusted_ledger(alloc, is_trusted, ledger)?;
         let queue = self.trusted_queue(alloc, queue)?;
-        Adapter::queued(
+        let mut adapter = Adapter::queued(
             alloc,
             objects,
             ledger,
@@ -196,7 +196,26 @@ impl AdapterStart {
             self.listen,
             self.limits,
             self.shares,
-        )
+        )?;
+        let Some(resetting) = self.resetting(alloc)? else {
+            return Ok(adapter);
+        };
+        adapter.allow_reset(resetting);
+        Ok(adapter)
+    }
+
+    /// What the device needs to be reset, if its configuration lets peers do so.
+    fn resetting(&self, alloc: Global) -> Result<Option<Resetting>, AllocError>
+        ensures { IfOk result (λ resetting. resetting ≡ reset_from self.now) }
+    {
+        if !self.reset {
+            return Ok(None);
+        }
+        match Resetting::new(alloc, &self.objects) {
+            Ok(resetting) => Ok(Some(resetting)),
+            // The configuration has no other fault.
+            Err(_) => Err(AllocError),
+        }
     }
 }
 
