@@ -95,6 +95,7 @@ uint32_t enip_core_adapter_write_attribute(struct kept *, uint16_t, uint32_t, ui
                                            size_t);
 uint32_t enip_core_adapter_changes(struct kept *, uint32_t, uint32_t *);
 uint32_t enip_core_adapter_attribute_changes(struct kept *, uint16_t, uint32_t, uint16_t, uint32_t *);
+uint32_t enip_core_adapter_resets(struct kept *, uint32_t *);
 void enip_core_adapter_set_status(struct kept *, uint16_t);
 void enip_core_adapter_set_state(struct kept *, uint8_t);
 uint32_t enip_core_endings_new(struct kept *);
@@ -451,6 +452,12 @@ int enip_adapter_attribute_changes(const enip_adapter *adapter, uint16_t class_c
         return ENIP_MISUSE;
     return (int)enip_core_adapter_attribute_changes(kept_to_read(&adapter->kept), class_code, instance, attribute,
                                                     changes);
+}
+
+int enip_adapter_resets(const enip_adapter *adapter, uint32_t *resets) {
+    if (!is_adapter(adapter) || resets == NULL)
+        return ENIP_MISUSE;
+    return (int)enip_core_adapter_resets(kept_to_read(&adapter->kept), resets);
 }
 
 int enip_adapter_set_status(enip_adapter *adapter, uint16_t status) {

@@ -226,7 +226,7 @@ typedef struct enip_reply {
  * The reply is {0, 0, {0}} when the owner is called: success without data. owner may be NULL, then nobody is asked, as
  * in enip_adapter_feed; context may be NULL.
  * While the owner is called, it may pass the same adapter to enip_endings_update and to the calls that read and write:
- * _deadline, _read, _discover, _places, _write, _write_attribute, _changes, _attribute_changes, _set_status,
+ * _deadline, _read, _discover, _places, _write, _write_attribute, _changes, _attribute_changes, _resets, _set_status,
  * _set_state, _generation, _save, _asked_command and _in_doubt. Any other call with it returns ENIP_MISUSE and changes
  * nothing.
  * ENIP_OK; ENIP_STATE if the owner returned another value than 0; ENIP_MISUSE, also if the reply cannot be given: its
@@ -306,6 +306,15 @@ ENIP_API int enip_adapter_changes(const enip_adapter *adapter, uint32_t instance
  */
 ENIP_API int enip_adapter_attribute_changes(const enip_adapter *adapter, uint16_t class_code, uint32_t instance,
                                             uint16_t attribute, uint32_t *changes);
+
+/*
+ * Gives the number of resets of the device, from 0 on, modulo 2^32: each Reset of the Identity object that was executed
+ * counts once. A refused Reset and a repeat do not count. After each piece that was fed, compare the number with the
+ * one before. If it has changed, send the answer, then end all peers and close their connections: no session and no
+ * connection outlasts a reset. Keep the state before you send the answer, if you keep it.
+ * ENIP_OK; ENIP_ABSENT if the configuration does not let peers reset the device; ENIP_MISUSE.
+ */
+ENIP_API int enip_adapter_resets(const enip_adapter *adapter, uint32_t *resets);
 
 /* Sets the device's status (Identity, attribute 5). ENIP_OK, ENIP_MISUSE. */
 ENIP_API int enip_adapter_set_status(enip_adapter *adapter, uint16_t status);

@@ -198,6 +198,9 @@ uint32_t enip_core_adapter_attribute_changes(struct kept *k, uint16_t class_code
 uint32_t enip_core_adapter_changes(struct kept *k, uint32_t instance, uint32_t *changes) {
     return NOTE("adapter_changes", WORD(k), instance, WORD(changes));
 }
+uint32_t enip_core_adapter_resets(struct kept *k, uint32_t *resets) {
+    return NOTE("adapter_resets", WORD(k), WORD(resets));
+}
 void enip_core_adapter_set_status(struct kept *k, uint16_t status) {
     NOTE("adapter_set_status", WORD(k), status);
 }
@@ -343,6 +346,7 @@ CALL(adapter_write, 100, 1, a->bytes, a->length)
 CALL(adapter_write_attribute, CLASS, INSTANCE, ATTRIBUTE, 1, a->bytes, a->length)
 CALL(adapter_changes, 100, a->result)
 CALL(adapter_attribute_changes, CLASS, INSTANCE, ATTRIBUTE, a->result)
+CALL(adapter_resets, a->result)
 CALL(adapter_set_status, 0x1234)
 CALL(adapter_set_state, 3)
 CALL(adapter_save, GENERATION, a->buffer, a->size, a->result)
@@ -385,6 +389,7 @@ static struct call calls[] = {
     {"adapter_write_attribute", ADAPTER, adapter_write_attribute, 3, 0, 0, 4, {CLASS, INSTANCE, ATTRIBUTE, 1}},
     {"adapter_changes", ADAPTER, adapter_changes, 0, 0, 4, 1, {100}},
     {"adapter_attribute_changes", ADAPTER, adapter_attribute_changes, 0, 0, 4, 3, {CLASS, INSTANCE, ATTRIBUTE}},
+    {"adapter_resets", ADAPTER, adapter_resets, 0, 0, 4, 0, {0}},
     {"adapter_set_status", ADAPTER, adapter_set_status, 0, 0, 0, 1, {0x1234}},
     {"adapter_set_state", ADAPTER, adapter_set_state, 0, 0, 0, 1, {3}},
     {"adapter_save", ADAPTER, adapter_save, 0, 1000, 8, 2, {GENERATION, 0}},

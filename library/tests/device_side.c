@@ -26,6 +26,9 @@ static const char configuration[] = DEVICE;
 /* The same device. One address has one peer at a time. */
 static const char shared[] = DEVICE "[access]\nper_address = 1\n";
 
+/* The same device, which peers can reset. */
+static const char resettable[] = DEVICE "[identity]\nreset = true\n";
+
 /* Set_Attribute_Single of assembly 100 with 4 bytes and with 3, of assembly 101, and Set_Member 2 of assembly 100. */
 static const unsigned char set_100[] = {0x10, 3, 0x20, 4, 0x24, 100, 0x30, 3, 9, 8, 7, 6};
 static const unsigned char set_101[] = {0x10, 3, 0x20, 4, 0x24, 101, 0x30, 3, 9, 8};
@@ -258,8 +261,38 @@ static void readers(void) {
     is("free", enip_adapter_free(adapter), ENIP_OK);
 }
 
+/* A reset counts, and gives what peers can set its first value. */
+static void resets(void) {
+    static const unsigned char reset[] = {0x05, 2, 0x20, 1, 0x24, 1, 1}, no_type[] = {0x05, 2, 0x20, 1, 0x24, 1, 2};
+    uint32_t count = 5, peer;
+    size_t size = 0;
+    is("new", enip_adapter_new(configuration, sizeof configuration - 1, &adapter, NULL), ENIP_OK);
+    peer = registered();
+    is("without the key", ask(peer, reset, sizeof reset), 0x08);
+    is("there is no number", enip_adapter_resets(adapter, &count), ENIP_ABSENT);
+    is("and none is written", count, 5);
+    is("free", enip_adapter_free(adapter), ENIP_OK);
+    is("new", enip_adapter_new(resettable, sizeof resettable - 1, &adapter, NULL), ENIP_OK);
+    peer = registered();
+    is("resets", enip_adapter_resets(adapter, &count), ENIP_OK);
+    is("none yet", count, 0);
+    is("set", ask(peer, set_100, sizeof set_100), 0);
+    is("no such type", ask(peer, no_type, sizeof no_type), 0x20);
+    is("type 0", ask(peer, reset, sizeof reset - 1), 0);
+    is("the data stay", enip_adapter_read(adapter, 4, 100, 3, buffer, sizeof buffer, &size) == ENIP_OK && buffer[0] == 9, 1);
+    is("type 1", ask(peer, reset, sizeof reset), 0);
+    is("the first data", enip_adapter_read(adapter, 4, 100, 3, buffer, sizeof buffer, &size) == ENIP_OK && buffer[0] == 0, 1);
+    is("resets", enip_adapter_resets(adapter, &count), ENIP_OK);
+    is("two of them", count, 2);
+    is("it is no change", changes_of(100), 1);
+    MISUSE(enip_adapter_resets(NULL, &count));
+    MISUSE(enip_adapter_resets(adapter, NULL));
+    is("free", enip_adapter_free(adapter), ENIP_OK);
+}
+
 int main(void) {
     readers();
+    resets();
     is("new", enip_adapter_new(configuration, sizeof configuration - 1, &adapter, NULL), ENIP_OK);
     is("endings", enip_endings_new(&endings), ENIP_OK);
     writes();

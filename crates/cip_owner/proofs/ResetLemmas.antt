@@ -1,5 +1,5 @@
 -- The laws of a Reset.
-use Rattle.std.proofs.Common.{◌≡◌, ℕ, ◌+◌, Bool, true, false, cond, ◌&&◌, nat_lt, Option, Some, None, Result, Ok, Err, List, [], ◌∷◌, slice_index, ap, ap₂, sym, refl, ◌∙◌}
+use Rattle.std.proofs.Common.{◌≡◌, ℕ, ◌+◌, Bool, true, false, cond, ◌&&◌, nat_lt, Option, Some, None, Result, Ok, Err, List, [], ◌∷◌, slice_index, ap, ap₂, refl, ◌∙◌}
 use Rattle.std.specs.Prelude.{is_some}
 use Rattle.cip_application.specs.declared.config.ServiceKind.{ServiceKind}
 use Rattle.cip_application.specs.declared.config.ServiceKind.TheVariants as kinds
@@ -8,12 +8,12 @@ use Rattle.cip_objects.specs.declared.status.Refusal.{Refusal}
 use Rattle.cip_objects.specs.OwnRequests.{Asked, own_request}
 use Rattle.cip_objects.specs.Router.{REPLY_TOO_LARGE}
 use Rattle.cip_owner.specs.declared.reset.ResetType.{ResetType}
-use Rattle.cip_owner.specs.Owned.{OwnedState, Executed, exec_owned, by_owner, by_reset, reset_by, is_reset, is_fit, given, queued, of_kind, answered, answer_with, refused_with, after_reply, NOT_PREPARED, RESOURCE_UNAVAILABLE}
+use Rattle.cip_owner.specs.Owned.{OwnedState, Executed, exec_owned, by_owner, by_reset, reset_by, is_fit, given, queued, of_kind, answered, answer_with, refused_with, after_reply, NOT_PREPARED, RESOURCE_UNAVAILABLE}
 use Rattle.cip_owner.specs.OwnedLaws.{exec_owned_unreset, reset_is_not_own}
 use Rattle.cip_owner.specs.Queue.{QueueState, takes, pushed}
 use Rattle.cip_owner.specs.Replies.{Reply}
 use Rattle.cip_owner.specs.Reset.{ResetState, reset_data, reset_type}
-use Rattle.cip_owner.specs.ResetLaws.{KeepsTables, reset_keeps, same_tables, unopted_law, unowned_law, answered_law, IsResetBy, IsLeft, left_law, uncounted_law}
+use Rattle.cip_owner.specs.ResetLaws.{reset_keeps, same_tables, unopted_law, unowned_law, answered_law, IsResetBy, IsLeft, left_law, uncounted_law}
 
 no_state : (found : Bool) → (found && false) ≡ false
 no_state true = refl

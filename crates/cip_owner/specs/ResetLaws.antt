@@ -1,7 +1,7 @@
 -- What a Reset leaves, and what peers and the owner may rely on.
-use Rattle.std.specs.Prelude.{◌≡◌, ℕ, Bool, true, false, ◌&&◌, List, [], ◌∷◌, Option, Some, None, is_some, slice_index, unwrap_or}
+use Rattle.std.specs.Prelude.{◌≡◌, ℕ, Bool, true, false, ◌&&◌, List, [], ◌∷◌, Option, Some, None, slice_index, unwrap_or}
 use Rattle.std.specs.Prelude.{refl, cond}
-use Rattle.std.proofs.Common.{ap, sym, ◌∙◌}
+use Rattle.std.proofs.Common.{◌∙◌}
 use Rattle.cip_application.specs.declared.kind.AttributeKind.{AttributeKind}
 use Rattle.cip_application.specs.declared.object.AttributeName.{AttributeName}
 use Rattle.cip_application.specs.Values.{is_whole}
@@ -10,7 +10,7 @@ use Rattle.cip_objects.specs.Kept.{restored, with_kept, kept_kind}
 use Rattle.cip_objects.specs.OwnRequests.{own_request}
 use Rattle.cip_owner.specs.declared.reset.ResetType.{ResetType}
 use Rattle.cip_owner.specs.declared.reset.ResetType.TheVariants.{PowerCycle, FirstValues}
-use Rattle.cip_owner.specs.Owned.{OwnedState, exec_owned, by_owner, by_reset, reset_by, is_reset, refused_with, answered}
+use Rattle.cip_owner.specs.Owned.{OwnedState, exec_owned, by_owner, is_reset, refused_with, answered}
 use Rattle.cip_owner.specs.Owned.{answer_with, INVALID_PARAMETER}
 use Rattle.cip_owner.specs.Reset.{ResetState, reset_data, reset_type, with_first_value, with_first_values, after_one}
 use Rattle.cip_owner.specs.Reset.{objects_after_reset}

@@ -1,9 +1,10 @@
 -- The adapter of a configuration.
-use Rattle.std.specs.Prelude.{◌≡◌, ℕ, List, Option, None, Some, option_map}
-use Rattle.cip_ledger.specs.Device.{Device, queued_device}
+use Rattle.std.specs.Prelude.{◌≡◌, ℕ, List, Option, None, Some, option_map, if◌then◌else◌}
+use Rattle.cip_ledger.specs.Device.{Device, queued_device, with_reset}
 use Rattle.cip_ledger.specs.Ledger.{LedgerState, empty_ledger}
 use Rattle.cip_objects.specs.Configuration.{contents_of_config}
 use Rattle.cip_owner.specs.Queue.{QueueState, empty_queue}
+use Rattle.cip_owner.specs.Reset.{ResetState, resettable}
 use Rattle.enip_adapter.specs.declared.adapter.Limits.{Limits}
 use Rattle.enip_adapter.specs.declared.shared.Listen.{Listen}
 use Rattle.enip_adapter.specs.Adapter.{new_adapter, shared_adapter}
@@ -51,9 +52,15 @@ in_life life ledger = option_map (with_life life) ledger
 abbrev pub queue_from : Option ℕ → Option QueueState
 queue_from limit = option_map empty_queue limit
 
+-- what the device needs to be reset, if clients can do so
+abbrev pub reset_from : Configuration → Option ResetState
+reset_from c = if c.reset then Some (resettable c.objects) else None
+
 -- the device, with this ledger
 abbrev pub device_from : Option LedgerConfig → Configuration → Device
-device_from ledger c = queued_device (ledger_from ledger) (contents_of_config c.objects) (queue_from (queue_limit c))
+device_from ledger c =
+    with_reset (reset_from c)
+    (queued_device (ledger_from ledger) (contents_of_config c.objects) (queue_from (queue_limit c)))
 
 -- a new adapter, as a text describes it
 abbrev pub IsAdapterOf : List ℕ → AdapterState → Type 0

@@ -2,17 +2,17 @@
 //! Text: docs/PROGRAM.md, "The configuration".
 
 ghost use Rattle.std.specs.Prelude.{◌≡◌, ◌≤◌, IfOk, IfErr, IfSome};
-ghost use Rattle.cip_ledger.specs.Device.{queued_device};
+ghost use Rattle.cip_ledger.specs.Device.{queued_device, with_reset};
 ghost use Rattle.enip_adapter.specs.Adapter.{shared_adapter};
 ghost use Rattle.configured_adapter.specs.Configured.{IsAccepted, IsAdapterInLife, IsAdapterOf, IsUnsharedAdapterOf, in_life, ledger_from};
-ghost use Rattle.configured_adapter.specs.Configured.{queue_from, limits_of, listen_of, shares_from};
+ghost use Rattle.configured_adapter.specs.Configured.{queue_from, limits_of, listen_of, reset_from, shares_from};
 ghost use Rattle.enip_config.specs.Commands.{queue_limit};
 ghost use Rattle.enip_config.specs.Access.{HasShares};
 ghost use Rattle.enip_config.specs.Documents.{IsFaultOf, IsInRange, IsQueueInRange, AreSharesInRange};
 
 use cip_ledger::Ledger;
 use cip_objects::Objects;
-use cip_owner::Queue;
+use cip_owner::{Queue, Resetting};
 use enip_access::Access;
 use enip_adapter::{Adapter, Limits, Listen, Shares};
 use enip_config::{Configuration, LedgerConfig, LoadFault};
@@ -86,7 +86,7 @@ fn in_life(life: u64, ledger: Option<LedgerConfig>) -> Option<LedgerConfig>
 }
 
 /// Makes the adapter of a configuration, over its objects, with a ledger before them if there is one, with a queue if a
-/// service is queued, and with these shares.
+/// service is queued, and with these shares. It can be reset if the configuration says so.
 fn adapter_of(
     alloc: Global,
     objects: Objects,
@@ -103,7 +103,8 @@ fn adapter_of(
     requires ledger_from { IfSome ledger (λ l. 1 ≤ l.originators) }
     requires ledger_to { IfSome ledger (λ l. l.originators ≤ 64) }
     ensures { IfOk result (λ adapter. adapter
-        ≡ shared_adapter (queued_device (ledger_from ledger) objects (queue_from (queue_limit configuration.now)))
+        ≡ shared_adapter (with_reset (reset_from configuration.now)
+        (queued_device (ledger_from ledger) objects (queue_from (queue_limit configuration.now))))
         (listen_of configuration.now) (limits_of configuration.now) shares) }
 {
     let listen = Listen {
@@ -118,7 +119,12 @@ fn adapter_of(
     };
     let ledger = ledger_from(alloc, ledger)?;
     let queue = queue_from(alloc, configuration.queue_limit())?;
-    Adapter::queued(alloc, objects, ledger, queue, listen, limits, shares)
+    let mut adapter = Adapter::queued(alloc, objects, ledger, queue, listen, limits, shares)?;
+    let Some(resetting) = reset_from(alloc, configuration)? else {
+        return Ok(adapter);
+    };
+    adapter.allow_reset(resetting);
+    Ok(adapter)
 }
 
 /// How many peers and connections one address may have at a time, by the table `access` of a configuration. Without the
@@ -154,6 +160,20 @@ fn ledger_from(alloc: Global, ledger: Option<LedgerConfig>) -> Result<Option<Led
     match ledger {
         None => Ok(None),
         Some(ledger) => Ok(Some(Ledger::new(alloc, ledger.originators, ledger.life)?)),
+    }
+}
+
+/// What the device needs to be reset, if clients can do so.
+fn reset_from(alloc: Global, configuration: &Configuration) -> Result<Option<Resetting>, AllocError>
+    ensures { IfOk result (λ made. made ≡ reset_from configuration.now) }
+{
+    if !configuration.reset {
+        return Ok(None);
+    }
+    match Resetting::new(alloc, &configuration.objects) {
+        Ok(resetting) => Ok(Some(resetting)),
+        // The objects were made from the same configuration, so it has no other fault.
+        Err(_) => Err(AllocError),
     }
 }
 

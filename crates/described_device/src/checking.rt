@@ -49,7 +49,7 @@ fn print_profile<'a>(
     rt: &HostRuntime,
     configuration: &Configuration,
 ) -> Result<u8, CommandError<'a>> {
-    let text = profile_text(rt.alloc(), &configuration.objects)?;
+    let text = profile_text(rt.alloc(), &configuration.objects, configuration.reset)?;
     print_text(rt, text.as_str())
 }
 

@@ -35,6 +35,9 @@ fn print_lines<W: Write>(
     configuration: &Configuration,
 ) -> io::Result<()> {
     print_identity(output, &configuration.objects)?;
+    if configuration.reset {
+        writeln!(output, "clients can reset the device")?;
+    }
     print_address_and_counter(output, configuration)?;
     for assembly in &configuration.objects.assemblies {
         print_assembly(output, assembly)?;

@@ -103,7 +103,14 @@ impl<W: Wire + Drop> Serving<W> for Peers<W> {
     }
 
     fn round(&mut self, now: u64, _registry: &Registry) -> Result<RoundEnd, KeepError> {
-        Ok(Peers::round(self, now))
+        let before = self.adapter().resets();
+        let end = Peers::round(self, now);
+        let was_reset = self.close_if_reset(now, before);
+        Ok(RoundEnd {
+            ended: end.ended,
+            ready: end.ready || was_reset,
+            next: Peers::next_moment(self),
+        })
     }
 
     fn next_moment(&self) -> Option<u64> {

@@ -3,7 +3,9 @@
 ghost use Rattle.std.specs.Prelude.{◌≡◌, ◌≤◌, IfSome, IsTrue};
 ghost use Rattle.configured_adapter.specs.Configured.{shares_from};
 
+use cip_owner::Resetting;
 use config_file::ConfigFile;
+use config_refusal::LoadFault;
 use configured_adapter::{adapter_from, adapter_in_life};
 use enip_access::Access;
 use enip_adapter::{Adapter, Limits, Listen, Shares};
@@ -13,7 +15,8 @@ use enip_server::NO_IDLE_TIMEOUT;
 use kept_adapter::{AdapterStart, LedgerStart};
 use std::time::UNIX_EPOCH;
 
-/// The adapter of a configuration. A command ledger gets another life with each start, because it is empty then.
+/// The adapter of a configuration. A command ledger gets another life with each start, because it is empty then. A Reset puts
+/// the first values of `configuration` back, which may have other ones than the file because of `--idle`.
 pub fn adapter_of<'a>(
     rt: &HostRuntime,
     config: &ConfigFile<'a>,
@@ -23,9 +26,19 @@ pub fn adapter_of<'a>(
         None => adapter_from(rt.alloc(), config.bytes()),
         Some(_) => adapter_in_life(rt.alloc(), config.bytes(), life_now(rt)?),
     };
-    match loaded {
-        Ok(adapter) => Ok(adapter),
-        Err(fault) => Err(config.refused(rt.alloc(), fault)),
+    let mut adapter = match loaded {
+        Ok(adapter) => adapter,
+        Err(fault) => return Err(config.refused(rt.alloc(), fault)),
+    };
+    if !configuration.reset {
+        return Ok(adapter);
+    }
+    match Resetting::new(rt.alloc(), &configuration.objects) {
+        Ok(resetting) => {
+            adapter.allow_reset(resetting);
+            Ok(adapter)
+        }
+        Err(check) => Err(config.refused(rt.alloc(), LoadFault::from(check))),
     }
 }
 
@@ -79,6 +92,7 @@ fn start_of(
     let queue = configuration.queue_limit();
     let Configuration {
         mut objects,
+        reset,
         address,
         port,
         peers,
@@ -115,6 +129,7 @@ fn start_of(
         ledger,
         queue,
         begins_life,
+        reset,
         listen: Listen { address, port },
         limits,
         shares,

@@ -10,8 +10,8 @@ use Rattle.cip_bytes.specs.Reading.{◌>>=◌}
 use Rattle.cip_ledger.specs.Device.{Device}
 use Rattle.cip_ledger.specs.Device.{exec_device}
 use Rattle.cip_ledger.proofs.Devices.{exec_device-passed, other_class}
-use Rattle.cip_owner.specs.Owned.{OwnedState, exec_owned}
-use Rattle.cip_owner.specs.OwnedLaws.{exec_owned_plain}
+use Rattle.cip_owner.specs.Owned.{OwnedState, exec_owned, is_reset}
+use Rattle.cip_owner.specs.OwnedLaws.{exec_owned_plain, unreset}
 use Rattle.cip_objects.specs.Contents.{Contents}
 use Rattle.cip_objects.specs.Execution.{Outcome, outcome, exec, perform, request_or_refusal, path_or_refusal}
 use Rattle.cip_objects.specs.PacketLaws.{exec_routed_plain}
@@ -73,12 +73,28 @@ refused-map m room text refused = go (exec_left m room text)
         let bad : false ≡ true = sym (ap (λ r. fails r) left.1) ∙ refused in
         absurd (cc)
 
+-- a Reset is to Identity, class 1
+manager-unreset : (w : OwnedState) (text : List ℕ) (q : Request) (path : Path) → request_of text ≡ Ok q →
+    path_of q.path ≡ Ok path → is_manager path ≡ true → is_reset w text ≡ false
+manager-unreset w text q path read found manages =
+    unreset w text
+    (λ other at e f service class instance.
+    let same : other ≡ q = same-ok other q (sym e ∙ read) in
+    let here : at ≡ path = same-ok at path (sym f ∙ (ap (λ (r : Request). path_of r.path) same ∙ found)) in
+    let six : path.class ≡ 6 = eqb-true path.class 6 (both_true (eqb path.class 6) (eqb path.instance 1) manages).0 in
+    let one : path.class ≡ 1 = ap (λ (p : Path). p.class) (sym here) ∙ class in
+    absurd (omega (arith, six, one)))
+  where
+    same-ok : {A E : Type 0} (x y : A) → ◌≡◌ {A = Result A E} (Ok x) (Ok y) → x ≡ y
+    same-ok x y e = cc
+
 -- and so are the owner's prepared reply and the ledger before them
 owned-same : (w : OwnedState) (room : ℕ) (text : List ℕ) (q : Request) (path : Path) → request_of text ≡ Ok q →
     path_of q.path ≡ Ok path → is_manager path ≡ true → (exec_owned w room text).after ≡ w
 owned-same w room text q path read found manages =
     ap (λ done. done.after)
-    (exec_owned_plain w room text (manager_is_not_own w.objects text q path read found manages))
+    (exec_owned_plain w room text (manager-unreset w text q path read found manages)
+    (manager_is_not_own w.objects text q path read found manages))
     ∙ ap (λ m. record w { objects = m })
     (ap (λ done. done.after) (exec_routed_plain w.objects room text (other_path text q path read found
     (ap (λ n. eqb n 2 && eqb path.instance 1)

@@ -5,6 +5,7 @@ use Rattle.cip_ledger.specs.Ledger.{LedgerState}
 use Rattle.cip_objects.specs.Contents.{Contents}
 use Rattle.cip_owner.specs.Queue.{QueueState}
 use Rattle.cip_owner.specs.Replies.{Reply}
+use Rattle.cip_owner.specs.Reset.{ResetState}
 use Rattle.enip_adapter.specs.Calls.{AdapterState, after_call}
 use Rattle.enip_adapter.specs.OwnWrites.{OwnWrite, WritesData, SetsStatus, SetsState, Prepares}
 use Rattle.enip_client.specs.Client.{ClientState}
@@ -184,15 +185,18 @@ abbrev pub NamesAnEvent : {E : Type 0} → List Event → Result (Unit {0}) (ℕ
 NamesAnEvent events (Ok done) = ⊤
 NamesAnEvent events (Err error) = error.0 < length events
 
--- the device with this ledger, these objects, this prepared reply and this queue
-abbrev pub device_with : Option LedgerState → Contents → Option Reply → Option QueueState → Device
-device_with ledger objects prepared queue =
-    record { ledger = ledger; router = record { objects = objects; prepared = prepared; queue = queue } }
+-- the device with this ledger, these objects, this prepared reply, this queue, and what it needs to be reset
+abbrev pub device_with : Option LedgerState → Contents → Option Reply → Option QueueState → Option ResetState → Device
+device_with ledger objects prepared queue reset = record {
+  ledger = ledger;
+  router = record { objects = objects; prepared = prepared; queue = queue; reset = reset };
+}
 
 abbrev pub seen_in : SeenInCode → Seen Device
 seen_in seen = record {
   router = device_with (option_map (λ ledger. ledger.now) seen.ledger) seen.objects.now
-      (option_map (λ reply. reply.now) seen.prepared) (option_map (λ queue. queue.now) seen.queue);
+      (option_map (λ reply. reply.now) seen.prepared) (option_map (λ queue. queue.now) seen.queue)
+      (option_map (λ reset. reset.now) seen.reset);
   back = seen.back.now.frames;
   accepted = acceptances_in seen.accepted.now;
   stage = seen.stage;

@@ -14,7 +14,7 @@ use crate::world::{Accepted, World};
 use cip_class3::Stage;
 use cip_ledger::Ledger;
 use cip_objects::Objects;
-use cip_owner::{OwnerReply, Queue};
+use cip_owner::{OwnerReply, Queue, Resetting};
 use enip_adapter::{Adapter, Peer};
 use enip_client::Client;
 use std::alloc::{AllocError, Global};
@@ -51,6 +51,8 @@ pub struct Seen<'a> {
     pub prepared: Option<&'a OwnerReply>,
     /// The adapter's queue of commands, if it has one.
     pub queue: Option<&'a Queue>,
+    /// What the adapter needs to be reset, if it can be.
+    pub reset: Option<&'a Resetting>,
     /// The adapter's command ledger, if it has one.
     pub ledger: Option<&'a Ledger>,
     /// Every frame from the adapter to the client, by position.
@@ -194,6 +196,7 @@ impl Bench {
             objects: self.world.adapter.objects(),
             prepared: self.world.adapter.prepared(),
             queue: self.world.adapter.queue(),
+            reset: self.world.adapter.resetting(),
             ledger: self.world.adapter.ledger(),
             back: &self.world.back,
             accepted: &self.world.accepted,

@@ -1,5 +1,5 @@
 -- What the device's own calls of its adapter return to C, and the connections that ended.
-use Rattle.std.specs.Prelude.{ℕ, List, ◌≡◌, Bool, if◌then◌else◌, Option, Some, None, is_some, unwrap_or, slice_get}
+use Rattle.std.specs.Prelude.{ℕ, List, ◌≡◌, Bool, if◌then◌else◌, Option, Some, None, is_some, option_map, unwrap_or, slice_get}
 use Rattle.cip_objects.specs.Changes.{changes_of, changes_at}
 use Rattle.cip_objects.specs.Contents.{Contents}
 use Rattle.cip_objects.specs.DeviceWrites.{device_write}
@@ -47,6 +47,11 @@ abbrev pub attribute_changes_kept : Option AdapterState → ℕ → ℕ → ℕ 
 attribute_changes_kept None class instance attribute = None
 attribute_changes_kept (Some a) class instance attribute =
     changes_at (key class instance attribute) a.state.shared.objects.router.objects.changes
+
+-- The number of resets that were executed. None if peers cannot reset the device.
+abbrev pub resets_kept : Option AdapterState → Option ℕ
+resets_kept None = None
+resets_kept (Some a) = option_map (λ reset. reset.executed) a.state.shared.objects.router.reset
 
 -- The number in enip.h of the reason why a connection ended.
 abbrev pub end_reason_number : EndReason → ℕ

@@ -112,6 +112,7 @@ pub record IsStartOf (life : ℕ) (c : Configuration) (start : AdapterStart) : T
   pub ledger : start.ledger ≡ option_map (ledger_start life) c.ledger
   pub no_queue : start.queue ≡ None
   pub goes_on : start.begins_life ≡ false
+  pub reset : start.reset ≡ c.reset
   pub listen : start.listen ≡ listen_of c
   pub limits : start.limits ≡ limits_of c
   pub shares : start.shares ≡ shares_from c.access

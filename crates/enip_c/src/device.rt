@@ -6,7 +6,7 @@ ghost use Rattle.cip_objects.specs.DeviceWrites.{with_device_status, with_device
 ghost use Rattle.enip_adapter.specs.Device.{with_objects};
 ghost use Rattle.enip_adapter.specs.Endings.{no_endings, updated};
 ghost use Rattle.enip_c.specs.DeviceCalls.{IsWrittenKept, data_written, attribute_written, changes_kept};
-ghost use Rattle.enip_c.specs.DeviceCalls.{attribute_changes_kept, end_reason_number, looked_kept, ended_kept};
+ghost use Rattle.enip_c.specs.DeviceCalls.{attribute_changes_kept, end_reason_number, looked_kept, ended_kept, resets_kept};
 ghost use Rattle.enip_c.specs.DeviceCalls.{ReturnsEnding, write_status};
 ghost use Rattle.enip_c.specs.Kept.{IsLive};
 ghost use Rattle.enip_c.specs.Buffer.{status_number, ReturnsNumber, IsMadeStatus};
@@ -14,6 +14,7 @@ ghost use Rattle.enip_c.specs.Buffer.{status_number, ReturnsNumber, IsMadeStatus
 use crate::adapter_pointer::KeptAdapter;
 use crate::kept_endings::KeptEndings;
 use crate::status::Status;
+use cip_owner::Resetting;
 use enip_adapter::{EndReason, Endings};
 use std::alloc::Global;
 
@@ -154,6 +155,33 @@ pub extern "C" fn enip_core_adapter_attribute_changes(
     );
     *kept = KeptAdapter::of(adapter);
     status
+}
+
+/// The number of resets that were executed.
+#[unsafe(no_mangle)]
+pub extern "C" fn enip_core_adapter_resets(
+    alloc: Global,
+    kept: &mut KeptAdapter,
+    resets: &mut u32,
+) -> u32
+    requires { IsLive kept.old.value }
+    ensures kept { kept.new.value ≡ kept.old.value }
+    ensures returned { ReturnsNumber (resets_kept kept.old.value) resets.old resets.new result }
+{
+    let adapter = kept.take(alloc);
+    let status = return_changes(executed(adapter.resetting()), resets);
+    *kept = KeptAdapter::of(adapter);
+    status
+}
+
+/// The number of resets that were executed, if the device can be reset.
+fn executed(resetting: Option<&Resetting>) -> Option<u32>
+    ensures { result ≡ option_map (λ reset. reset.now.executed) resetting.entry }
+{
+    match resetting {
+        Some(resetting) => Some(resetting.executed()),
+        None => None,
+    }
 }
 
 /// Makes endings that have not seen an adapter yet.

@@ -126,6 +126,7 @@ fn start_of(configuration: Configuration, life: u64) -> AdapterStart
         ledger: ledger_if_any(life, configuration.ledger),
         queue: None,
         begins_life: false,
+        reset: configuration.reset,
         listen: Listen {
             address,
             port: configuration.port,

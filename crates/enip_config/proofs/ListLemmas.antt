@@ -56,6 +56,7 @@ with_access described c access values same = record {
   ledger = values.ledger;
   queue = values.queue;
   enabled = values.enabled;
+  reset = values.reset;
   objects = values.objects;
   shares = values.shares ∙ ap Some (sym same);
   types = values.types;

@@ -22,7 +22,7 @@ use Rattle.enip_config.specs.Known.{has_unknown_key}
 use Rattle.enip_config.specs.declared.ledger.LedgerConfig.{LedgerConfig}
 use Rattle.enip_config.specs.Commands.{has_queued}
 use Rattle.enip_config.specs.Keys.{row, originators_row, life_row, queue_row, number_of, name_of, address_of, assemblies_of}
-use Rattle.enip_config.specs.Keys.{ledger_of, queue_of, counter_enabled, AssemblySeen}
+use Rattle.enip_config.specs.Keys.{ledger_of, queue_of, counter_enabled, reset_of, AssemblySeen}
 use Rattle.enip_config.specs.Objects.{object_seen}
 use Rattle.enip_config.specs.StandardObjects.{all_objects_of}
 use Rattle.enip_config.specs.ObjectTypes.{types_of, types_seen}
@@ -64,6 +64,7 @@ pub record HasValues (described : Members) (c : Configuration) : Type 0 where
   pub ledger : ledger_of described ≡ Some (option_map ledger_seen c.ledger)
   pub queue : queue_of described ≡ Some c.queue
   pub enabled : counter_enabled described ≡ Some c.objects.counter.enabled
+  pub reset : reset_of described ≡ Some c.reset
   pub objects : all_objects_of described ≡ Some (map object_seen c.objects.objects.items)
   pub shares : shares_of described ≡ Some (option_map shares_seen c.access)
   pub types : map types_seen c.attribute_types.items ≡ types_of described
@@ -74,7 +75,7 @@ HasBadValue described =
     ((key : NumberKey) × (number_of key described ≡ None))
     ⊎ ((name_of described ≡ None) ⊎ ((address_of described ≡ None) ⊎ ((assemblies_of described ≡ None)
     ⊎ ((ledger_of described ≡ None) ⊎ ((counter_enabled described ≡ None) ⊎ ((all_objects_of described ≡ None)
-    ⊎ ((shares_of described ≡ None) ⊎ (queue_of described ≡ None))))))))
+    ⊎ ((shares_of described ≡ None) ⊎ ((queue_of described ≡ None) ⊎ (reset_of described ≡ None)))))))))
 
 -- why a table whose keys are all known gives no configuration
 abbrev pub IsUnread : Members → LoadFault → Type 0

@@ -132,6 +132,14 @@ flag_of name default described = read_or (Some default) as_bool (get_member name
 abbrev pub counter_enabled : Members → Option Bool
 counter_enabled described = option_and_then (flag_of (codes "enabled") true) (counter_table described)
 
+-- the table `identity`
+abbrev pub identity_table : Members → Option Members
+identity_table described = read_or (Some no_members) as_table (get_member (codes "identity") described)
+
+-- whether clients can reset the device
+abbrev pub reset_of : Members → Option Bool
+reset_of described = option_and_then (flag_of (codes "reset") false) (identity_table described)
+
 -- whether clients can set an assembly's data
 abbrev pub settable_of : Members → Option Bool
 settable_of described = flag_of (codes "settable") false described

@@ -3,7 +3,7 @@ use Rattle.std.specs.Prelude.{ℕ, List, [], ◌∷◌, ◌++◌, map, Bool, tru
 use Rattle.std.specs.List.{list_any}
 use Rattle.enip_config.specs.declared.known.TableKind.{TableKind}
 use Rattle.enip_config.specs.declared.known.TableKind.TheVariants.{Text, Counter, Assembly, Ledger, Object}
-use Rattle.enip_config.specs.declared.known.TableKind.TheVariants.{Attribute, Service, Commands, Access, TcpIp}
+use Rattle.enip_config.specs.declared.known.TableKind.TheVariants.{Attribute, Service, Commands, Access, TcpIp, Identity}
 use Rattle.enip_config.specs.declared.known.TableKind.TheVariants.{EthernetLink}
 use Rattle.enip_config.specs.declared.key.NumberKey.{NumberKey}
 use Rattle.enip_config.specs.declared.key.NumberKey.TheVariants.{Vendor, DeviceType, ProductCode, Major, Minor, Serial}
@@ -61,6 +61,7 @@ text_numbers =
 abbrev pub keys_of : TableKind → List (List ℕ)
 keys_of Text = map (λ key. (row key).name) text_numbers ++ (codes "name" ∷ codes "address" ∷ [])
 keys_of Counter = map (λ key. (row key).name) (CounterValue ∷ CounterLimit ∷ []) ++ (codes "enabled" ∷ [])
+keys_of Identity = codes "reset" ∷ []
 keys_of Assembly = instance_row.name ∷ codes "settable" ∷ codes "members" ∷ codes "lists" ∷ []
 keys_of Ledger = originators_row.name ∷ life_row.name ∷ []
 keys_of Commands = queue_row.name ∷ []
@@ -105,6 +106,7 @@ has_other_keys_in_objects value = object_has_other_keys value
 abbrev pub is_unknown : List ℕ → Data → Bool
 is_unknown key value =
     if bytes_eq key (codes "counter") then has_other_keys_within (keys_of Counter) value
+    else if bytes_eq key (codes "identity") then has_other_keys_within (keys_of Identity) value
     else if bytes_eq key (codes "assembly") then has_other_keys_within (keys_of Assembly) value
     else if bytes_eq key (codes "ledger") then has_other_keys_within (keys_of Ledger) value
     else if bytes_eq key (codes "commands") then has_other_keys_within (keys_of Commands) value

@@ -19,7 +19,7 @@ use crate::known::has_unknown_key;
 use crate::ledger::{LedgerConfig, ledger_of};
 use crate::object_types::types_of;
 use crate::standard::all_objects_of;
-use crate::values::{address_of, counter_enabled, name_of, number};
+use crate::values::{address_of, counter_enabled, name_of, number, reset_of};
 use cip_objects::{Config, CounterConfig};
 use config_refusal::{ConfigurationRefusal, LoadFault};
 use enip_access::Access;
@@ -48,6 +48,8 @@ use toml::Table;
 pub struct Configuration {
     /// The device's identity, its counter and its assemblies.
     pub objects: Config,
+    /// Whether clients can reset the device, by the table `identity`.
+    pub reset: bool,
     /// The IPv4 address that ListIdentity reports.
     pub address: [u8; 4],
     /// The TCP port that ListIdentity reports.
@@ -145,6 +147,7 @@ impl Configuration {
         // What needs no memory comes first: nothing has to be dropped if one of it is refused.
         let identity = identity_of(text)?;
         let counter = counter_of(text)?;
+        let reset = reset_of(text)?;
         let limits = limits_of(text)?;
         let address = address_of(text)?;
         let ledger = ledger_of(text)?;
@@ -169,6 +172,7 @@ impl Configuration {
                 assemblies,
                 objects,
             },
+            reset,
             address,
             port: limits.port,
             peers: limits.peers,

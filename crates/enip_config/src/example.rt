@@ -27,6 +27,9 @@ value = 0                    # its value at the start; default 0
 limit = 100                  # its greatest value; default 4294967295
 enabled = true               # false: the device has no counter; default true
 
+[identity]                   # class 0x01, whose numbers are at the top
+reset = false                # true: clients can reset the device, which ends all sessions; default false
+
 [ledger]                     # class 0x65, executes the commands of `--once` once
 originators = 16             # how many clients it remembers: 1 to 64
 life = 1                     # `enip serve` uses the time of its start instead; default 1

@@ -119,13 +119,14 @@ pub(crate) enum Problem {
     Check(u8),
 }
 
-/// A location in a configuration: a key at the top level, a key of the table `counter`, `ledger`, `commands`, `access`,
-/// `tcp_ip` or `ethernet_link`, one of the tables `assembly` or `object`, from 0, or a key of one. A part of an object
-/// is one of its tables `attribute` or `service`, from 0.
+/// A location in a configuration: a key at the top level, a key of the table `counter`, `identity`, `ledger`, `commands`,
+/// `access`, `tcp_ip` or `ethernet_link`, one of the tables `assembly` or `object`, from 0, or a key of one. A part of an
+/// object is one of its tables `attribute` or `service`, from 0.
 #[derive(Clone, Copy)]
 pub(crate) enum Location<'a> {
     Text(&'a str),
     Counter(&'a str),
+    Identity(&'a str),
     Ledger(&'a str),
     Commands(&'a str),
     Access(&'a str),
@@ -145,6 +146,7 @@ impl Location<'_> {
         match self {
             Location::Text(key) => text.get(key).is_some(),
             Location::Counter(key) => has_member(text.get("counter"), key),
+            Location::Identity(key) => has_member(text.get("identity"), key),
             Location::Ledger(key) => has_member(text.get("ledger"), key),
             Location::Commands(key) => has_member(text.get("commands"), key),
             Location::Access(key) => has_member(text.get("access"), key),

@@ -23,6 +23,8 @@ pub(crate) enum TableKind {
     Text,
     /// The table `counter`.
     Counter,
+    /// The table `identity`.
+    Identity,
     /// A table `assembly`.
     Assembly,
     /// The table `ledger`.
@@ -73,6 +75,7 @@ impl TableKind {
                 is_number(&[NumberKey::CounterValue, NumberKey::CounterLimit], name)
                     || name == "enabled"
             }
+            TableKind::Identity => name == "reset",
             TableKind::Assembly => INSTANCE.is_named(name)
                 || name == "settable"
                 || name == "members"
@@ -178,6 +181,7 @@ fn is_unknown(key: &str, value: &Value) -> bool
 {
     match key {
         "counter" => has_other_keys_within(value, TableKind::Counter),
+        "identity" => has_other_keys_within(value, TableKind::Identity),
         "assembly" => has_other_keys_within(value, TableKind::Assembly),
         "ledger" => has_other_keys_within(value, TableKind::Ledger),
         "commands" => has_other_keys_within(value, TableKind::Commands),

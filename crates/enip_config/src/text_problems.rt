@@ -48,6 +48,7 @@ pub(crate) fn unknown_key(
         let key = key.as_str();
         let found = match key {
             "counter" => unknown_within(alloc, key, value, TableKind::Counter)?,
+            "identity" => unknown_within(alloc, key, value, TableKind::Identity)?,
             "assembly" => unknown_within(alloc, key, value, TableKind::Assembly)?,
             "ledger" => unknown_within(alloc, key, value, TableKind::Ledger)?,
             "commands" => unknown_within(alloc, key, value, TableKind::Commands)?,
@@ -88,6 +89,7 @@ fn unknown_within<'a>(
             let found = unknown_in(alloc, name, value, kind)?;
             Ok(found.map(|(key, problem)| match kind {
                 TableKind::Counter => (Location::Counter(key), problem),
+                TableKind::Identity => (Location::Identity(key), problem),
                 TableKind::Ledger => (Location::Ledger(key), problem),
                 TableKind::Commands => (Location::Commands(key), problem),
                 TableKind::Access => (Location::Access(key), problem),

@@ -22,7 +22,7 @@ const REQUIRED: [&str; 7] = [
 ];
 
 /// The required keys that are missing, if there are any. Otherwise the first bad value, in this order: the numbers, the
-/// name, the address, the counter, the assemblies, the tables `ledger`, `commands`, `access`, `tcp_ip` and
+/// name, the address, the counter, the table `identity`, the assemblies, the tables `ledger`, `commands`, `access`, `tcp_ip` and
 /// `ethernet_link`, the own objects.
 pub(crate) fn bad_value(text: &Table) -> Option<(Location<'static>, Problem)> {
     if let Some((key, problem)) = missing_in(text, &REQUIRED) {
@@ -41,6 +41,9 @@ pub(crate) fn bad_value(text: &Table) -> Option<(Location<'static>, Problem)> {
         return Some((Location::Text("address"), problem));
     }
     if let Some(found) = bad_counter(text) {
+        return Some(found);
+    }
+    if let Some(found) = bad_identity(text) {
         return Some(found);
     }
     if let Some(found) = bad_assemblies(text) {
@@ -165,6 +168,19 @@ fn bad_counter(text: &Table) -> Option<(Location<'static>, Problem)> {
     }
     let problem = bad_flag(table, "enabled")?;
     Some((Location::Counter("enabled"), problem))
+}
+
+fn bad_identity(text: &Table) -> Option<(Location<'static>, Problem)> {
+    let table = match text.get("identity") {
+        None => return None,
+        Some(Value::Table(table)) => table,
+        Some(_) => return Some((
+            Location::Text("identity"),
+            Problem::Type("identity", "a table"),
+        )),
+    };
+    let problem = bad_flag(table, "reset")?;
+    Some((Location::Identity("reset"), problem))
 }
 
 /// What is wrong with a key that is true or false.

@@ -4,7 +4,7 @@ ghost use Rattle.std.specs.Prelude.{◌≡◌, ◌≤◌, IfOk, IfErr, IfSome, S
 ghost use Rattle.toml.specs.Data.{array, as_str, get_member};
 ghost use Rattle.toml.specs.View.{view, items_view, table_view};
 ghost use Rattle.enip_config.specs.Keys.{row, row_seen, number_by, number_of, table_with, counter_table, members_found};
-ghost use Rattle.enip_config.specs.Keys.{flag_of, counter_enabled, name_of};
+ghost use Rattle.enip_config.specs.Keys.{flag_of, counter_enabled, identity_table, reset_of, name_of};
 ghost use Rattle.enip_config.specs.Keys.{number_in, address_in, address_of};
 ghost use Rattle.enip_config.specs.Documents.{IsBad, IsUnread};
 
@@ -118,6 +118,28 @@ pub(crate) fn counter_enabled(text: &Table) -> Result<bool, LoadFault>
     match counter_table(text)? {
         None => Ok(true),
         Some(table) => flag_of(table, "enabled", true),
+    }
+}
+
+/// The table `identity`. `None` if it is left out.
+fn identity_table(text: &Table) -> Result<Option<&Table>, LoadFault>
+    ensures read { IfOk result (λ found. identity_table (table_view text.now) ≡ Some (members_found found)) }
+    ensures refused { IfErr result (IsBad (identity_table (table_view text.now))) }
+{
+    match value_of(text, "identity") {
+        None => Ok(None),
+        Some(value) => Ok(Some(value.as_table().ok_or(BAD_VALUE)?)),
+    }
+}
+
+/// Whether clients can reset the device. False if the table or the key is left out.
+pub(crate) fn reset_of(text: &Table) -> Result<bool, LoadFault>
+    ensures read { IfOk result (λ reset. reset_of (table_view text.now) ≡ Some reset) }
+    ensures refused { IfErr result (IsUnread (table_view text.now)) }
+{
+    match identity_table(text)? {
+        None => Ok(false),
+        Some(table) => flag_of(table, "reset", false),
     }
 }
 

@@ -171,6 +171,7 @@ fn unkept_peers<'a, W: Wire + Drop>(
     options: ServeOptions<'a>,
 ) -> Result<(Peers<W>, Option<Access>, Listen), CommandError<'a>> {
     let mut configuration = config.configuration_to_serve(rt.alloc())?;
+    options.idle.set_in(&mut configuration.objects.objects);
     let adapter = adapter_of(rt, config, &configuration)?;
     let mut peers = Peers::new(rt.alloc(), adapter, options.idle.timeout())?;
     options.idle.write_to(&mut peers);

@@ -97,7 +97,7 @@ fn serve_unkept<'a, O: Observer + Drop>(
     options: ServeOptions<'a>,
     observer: O,
 ) -> Result<u8, CommandError<'a>> {
-    let (parts, adapter, access, listen) = unkept_parts(rt, args, owner, config)?;
+    let (parts, adapter, access, listen) = unkept_parts(rt, args, owner, config, options)?;
     let options = options.with_reported(config.name(), listen);
     serve_peers(rt, owner, parts, adapter, options, access, observer)
 }
@@ -109,8 +109,10 @@ fn unkept_parts<'a>(
     args: &[OsArg],
     owner: OwnerOptions<'a>,
     config: &ConfigFile<'a>,
+    options: ServeOptions<'a>,
 ) -> Result<(PortParts, Adapter, Option<Access>, Listen), CommandError<'a>> {
     let mut configuration = config.configuration(rt.alloc())?;
+    options.idle().set_in(&mut configuration.objects.objects);
     let parts = PortParts::read(rt, args, owner, &configuration)?;
     let adapter = adapter_of(rt, config, &configuration)?;
     let access = configuration.access.take();

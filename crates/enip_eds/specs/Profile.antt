@@ -98,10 +98,16 @@ state_lines (states.State state) = state_line state
 
 -- ---- the other objects
 
--- What no configuration changes, before the assemblies.
-abbrev pub router_lines : List ℕ
-router_lines =
-    codes "Identity object, service 0x05: missing: Reset is required of every device\nMessage Router object (0x02): no attributes (all are optional)\n"
+-- Reset, if clients can reset the device.
+abbrev pub reset_line : Bool → List ℕ
+reset_line allowed =
+    if allowed then codes "Identity object, service 0x05: Reset of type 0 and 1\n"
+    else codes "Identity object, service 0x05: missing: Reset is required of every device\n"
+
+-- What comes before the assemblies.
+abbrev pub router_lines : Bool → List ℕ
+router_lines allowed =
+    reset_line allowed ++ codes "Message Router object (0x02): no attributes (all are optional)\n"
 
 -- Instances 1 to 99 are those of device profiles.
 abbrev pub assembly_line : AssemblyConfig → List ℕ
@@ -150,7 +156,7 @@ network_lines has_interface has_link =
     codes "Connection Manager object (0x06): class 3 connections, no I/O connections\n"
     ++ (interface_line has_interface ++ link_line has_link)
 
--- The whole text.
-abbrev pub profile : Config → List ℕ
-profile c =
-    identity_lines (type_name_of c.device_type) c ++ (router_lines ++ (assembly_lines c.assemblies.items ++ (flat_map object_line c.objects.items ++ network_lines (has_class 0xf5 c.objects.items) (has_class 0xf6 c.objects.items))))
+-- The whole text. The flag says whether clients can reset the device.
+abbrev pub profile : Config → Bool → List ℕ
+profile c allowed =
+    identity_lines (type_name_of c.device_type) c ++ (router_lines allowed ++ (assembly_lines c.assemblies.items ++ (flat_map object_line c.objects.items ++ network_lines (has_class 0xf5 c.objects.items) (has_class 0xf6 c.objects.items))))

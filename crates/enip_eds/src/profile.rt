@@ -2,7 +2,7 @@
 
 ghost use Rattle.std.specs.Prelude.{◌≡◌, IfOk, string_bytes};
 ghost use Rattle.enip_eds.specs.Profile.{has_reserved_bits, is_vendor_specific, name_line, name_note, profile};
-ghost use Rattle.enip_eds.specs.Profile.{serial_line, status_line, has_class, interface_line, link_line};
+ghost use Rattle.enip_eds.specs.Profile.{serial_line, status_line, has_class, interface_line, link_line, reset_line};
 
 use crate::device_types::device_type_name;
 use cip_application::{ETHERNET_LINK, ObjectConfig, TCP_IP_INTERFACE};
@@ -11,10 +11,10 @@ use std::alloc::{AllocError, Global};
 use std::fmt;
 
 /// What a conformance test looks for in these objects, one line for each part. What the standard requires and the device
-/// lacks has `: missing: ` in its line.
+/// lacks has `: missing: ` in its line. `reset` says whether clients can reset the device.
 ///
 /// ```
-/// let text = profile_text(alloc, &configuration.objects)?;
+/// let text = profile_text(alloc, &configuration.objects, configuration.reset)?;
 /// // Identity object, attribute 1: vendor ID 4660 (note: only ODVA assigns vendor IDs)
 /// // ..
 /// ```
@@ -22,8 +22,8 @@ use std::fmt;
 /// # Errors
 ///
 /// `AllocError` if memory is refused.
-pub fn profile_text(alloc: Global, objects: &Config) -> Result<String, AllocError>
-    ensures { IfOk result (λ text. string_bytes text ≡ profile objects.now) }
+pub fn profile_text(alloc: Global, objects: &Config, reset: bool) -> Result<String, AllocError>
+    ensures { IfOk result (λ text. string_bytes text ≡ profile objects.now reset) }
 {
     let name = device_type_name(objects.device_type);
     let network = network_of(&objects.objects);
@@ -32,7 +32,7 @@ pub fn profile_text(alloc: Global, objects: &Config) -> Result<String, AllocErro
         text,
         "{}{}{}{}{}",
         IdentityLines { objects, name },
-        RouterLines,
+        RouterLines { reset },
         AssemblyLines(&objects.assemblies),
         ObjectLines(&objects.objects),
         network
@@ -238,21 +238,33 @@ fn name_line(name: &[u8]) -> &'static str
     }
 }
 
-/// The lines that no configuration changes, before the assemblies.
+/// The lines before the assemblies.
 #[derive(Clone, Copy)]
-struct RouterLines;
+struct RouterLines {
+    /// Whether clients can reset the device.
+    reset: bool,
+}
 
 impl fmt::Display for RouterLines {
     ghost use Rattle.std.specs.Prelude.{Some};
     ghost use Rattle.enip_eds.specs.Profile.{router_lines};
 
-    ghost output = { λ _. Some router_lines };
+    ghost output = { λ l. Some (router_lines l.reset) };
 
     fn fmt<W: fmt::Write>(&self, f: &mut fmt::Formatter<W>) -> fmt::Result {
-        f.write_str(
-            "Identity object, service 0x05: missing: Reset is required of every device\n\
-             Message Router object (0x02): no attributes (all are optional)\n",
-        )
+        f.write_str(reset_line(self.reset))?;
+        f.write_str("Message Router object (0x02): no attributes (all are optional)\n")
+    }
+}
+
+/// The line of Reset.
+fn reset_line(reset: bool) -> &'static str
+    ensures { result.now ≡ reset_line reset }
+{
+    if reset {
+        "Identity object, service 0x05: Reset of type 0 and 1\n"
+    } else {
+        "Identity object, service 0x05: missing: Reset is required of every device\n"
     }
 }
 

@@ -30,6 +30,7 @@ use Rattle.enip_owner.specs.declared.event.AskedEvent.{AskedEvent}
 use Rattle.enip_owner.specs.declared.event.ChangedEvent.{ChangedEvent}
 use Rattle.enip_owner.specs.declared.event.ValueEvent.{ValueEvent}
 use Rattle.enip_owner.specs.declared.event.EndedEvent.{EndedEvent}
+use Rattle.enip_owner.specs.declared.event.ResetEvent.{ResetEvent}
 
 -- ---- lines
 
@@ -158,6 +159,10 @@ abbrev pub ended_json : EndedEvent → Json
 ended_json e =
     named (codes "ended")
     (member (codes "connection") (count e.connection) (member (codes "reason") (json.string e.reason.now) no_members))
+
+abbrev pub reset_json : ResetEvent → Json
+reset_json e =
+    named (codes "reset") (member (codes "type") (count e.reset_type) (with_address (Some e.by) no_members))
 
 abbrev pub ok_json : ℕ → Json
 ok_json line = object (member (codes "ok") (count line) no_members)

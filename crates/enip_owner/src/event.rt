@@ -2,7 +2,7 @@
 
 ghost use Rattle.enip_owner.specs.Parts.{Adds};
 ghost use Rattle.enip_owner.specs.Shown.{asked_front, asked_head, attribute_head, number_of_attribute};
-ghost use Rattle.enip_owner.specs.Events.{IsWritten, IsWrittenOne, command_json, ended_json, ok_json, error_json, IsAsked, IsChanged, IsValue};
+ghost use Rattle.enip_owner.specs.Events.{IsWritten, IsWrittenOne, command_json, ended_json, reset_json, ok_json, error_json, IsAsked, IsChanged, IsValue};
 
 use crate::attribute_ref::AttributeRef;
 use crate::event_fault::EventFault;
@@ -84,6 +84,15 @@ pub struct EndedEvent<'a> {
     pub connection: u32,
     /// Why it ended.
     pub reason: &'a str,
+}
+
+/// A Reset of the device by a peer.
+#[derive(Clone, Copy, Debug)]
+pub struct ResetEvent {
+    /// The type: 0 or 1.
+    pub reset_type: u8,
+    /// The address of the peer.
+    pub by: IpAddr,
 }
 
 /// The line of a command, with its newline.
@@ -260,6 +269,32 @@ pub fn write_ended(alloc: Global, event: &EndedEvent<'_>) -> Result<Vec<u8>, Eve
             Part::OpenAt("ended"),
             Part::Number("connection", u64::from(event.connection)),
             Part::Text("reason", event.reason),
+            Part::Close,
+            Part::Close,
+        ],
+    )
+}
+
+/// The line of a Reset, with its newline.
+///
+/// ```
+/// write_reset(alloc, &ResetEvent { reset_type: 1, by: address })?;
+/// // {"reset":{"type":1,"by":"10.0.0.5"}}
+/// ```
+///
+/// # Errors
+///
+/// `TooLong` if the line has more than 64 KiB, `Memory` if memory is refused.
+pub fn write_reset(alloc: Global, event: &ResetEvent) -> Result<Vec<u8>, EventFault>
+    ensures { IsWritten (reset_json event.now) result }
+{
+    write_line(
+        alloc,
+        &[
+            Part::Open,
+            Part::OpenAt("reset"),
+            Part::Number("type", u64::from(event.reset_type)),
+            Part::MaybeAddress("by", Some(event.by)),
             Part::Close,
             Part::Close,
         ],

@@ -43,8 +43,8 @@ mod written_values;
 
 pub use attribute_ref::AttributeRef;
 pub use event::{
-    AskedEvent, ChangedEvent, CommandEvent, EndedEvent, ValueEvent, write_asked, write_changed,
-    write_command, write_ended, write_error, write_ok, write_value,
+    AskedEvent, ChangedEvent, CommandEvent, EndedEvent, ResetEvent, ValueEvent, write_asked,
+    write_changed, write_command, write_ended, write_error, write_ok, write_reset, write_value,
 };
 pub use event_fault::EventFault;
 pub use hand_over::{HandOver, HandedOver};

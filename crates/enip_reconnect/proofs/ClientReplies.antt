@@ -18,7 +18,9 @@ use Rattle.cip_objects.specs.OwnRequests.{Asked, own_request}
 use Rattle.cip_objects.specs.PacketLaws.{run_by}
 use Rattle.cip_objects.specs.Packets.{LEAST_ROOM, front_size, run_packet, run_within, requests_of, packet_of, has_router, routed_by, exec_routed, any_refused, status_of, packet_content}
 use Rattle.cip_owner.specs.Replies.{Reply as OwnReply}
-use Rattle.cip_owner.specs.Owned.{OwnedState, Executed as Done, exec_owned, by_owner, of_kind, given, is_fit, queued, result_answer, outcome_answer, answer_with}
+use Rattle.cip_owner.specs.declared.reset.ResetType.{ResetType}
+use Rattle.cip_owner.specs.Owned.{OwnedState, Executed as Done, exec_owned, by_owner, by_reset, reset_by, of_kind, given, is_fit, queued, result_answer, outcome_answer, answer_with, INVALID_PARAMETER}
+use Rattle.cip_owner.specs.Reset.{ResetState, reset_data, reset_type}
 use Rattle.cip_owner.specs.Owned.{NOT_PREPARED, RESOURCE_UNAVAILABLE, UNKNOWN_OBJECT}
 use Rattle.cip_owner.specs.Queue.{QueueState, QueueOutcome, takes, result_of}
 use Rattle.cip_owner.specs.Queue as queues
@@ -141,9 +143,21 @@ by-owner-plain w max_size request (Some (Err why)) =
 by-owner-plain w max_size request (Some (Ok asked)) =
     kind-plain asked.kind w max_size (slice_index request 0) asked
 
+type-plain : (w : OwnedState) (service : ℕ) (r : ResetState) (type : Option ResetType) →
+    IsPlain (reset_by w service r type).answer
+type-plain w service r None = plain-with service INVALID_PARAMETER []
+type-plain w service r (Some type) = plain-with service 0 []
+
+reset-plain : (w : OwnedState) (max_size : ℕ) (request : List ℕ) (reset : Option ResetState)
+    (content : Option (List ℕ)) → IsPlain (by_reset w max_size request reset content).answer
+reset-plain w max_size request None content = by-owner-plain w max_size request (own_request w.objects request)
+reset-plain w max_size request (Some r) None = by-owner-plain w max_size request (own_request w.objects request)
+reset-plain w max_size request (Some r) (Some content) =
+    type-plain w (slice_index request 0) r (reset_type content)
+
 owned-plain : (w : OwnedState) (max_size : ℕ) (request : List ℕ) → IsPlain (answer w max_size request)
 unfolding exec_owned
-owned-plain w max_size request = by-owner-plain w max_size request (own_request w.objects request)
+owned-plain w max_size request = reset-plain w max_size request w.reset (reset_data request)
 
 turn-plain : (f : Fate) (device : Device) (max_size : ℕ) (request : List ℕ) →
     IsPlain (turn_by after answer f device.ledger device.router max_size request).answer

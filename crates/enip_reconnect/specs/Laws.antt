@@ -46,7 +46,7 @@ abbrev pub opening_in_messages : Opening → messages.Opening OwnedState
 opening_in_messages opening = record {
   slots = opening.slots;
   life = opening.life;
-  router = record { objects = opening.objects; prepared = None; queue = None };
+  router = record { objects = opening.objects; prepared = None; queue = None; reset = None };
   commander = opening.commander;
 }
 

@@ -66,6 +66,7 @@ keeps_then old between new first last = (last.0 ∙ first.0, last.1 ∙ first.1)
 still_seen : (old new : OwnerPort) → KeepsSeen old new → (device : Device) → HasSeen old device → HasSeen new device
 still_seen old new keeps device seen = record {
   counted = rw keeps.0 seen.counted;
+  resets = ap (λ counts. counts.resets) keeps.0 ∙ seen.resets;
   next = ap (λ senders. senders.next) keeps.1 ∙ seen.next;
 }
 

@@ -9,6 +9,7 @@ use Rattle.enip_owner.specs.declared.attribute_ref.AttributeRef.{AttributeRef}
 use Rattle.enip_owner.specs.declared.line_buffer.LineOutcome.{LineOutcome}
 use Rattle.enip_owner.specs.declared.line_buffer.LineOutcome.TheVariants as outcomes
 use Rattle.enip_adapter.specs.Calls.{AdapterState}
+use Rattle.enip_adapter.specs.Device.{resets_of}
 use Rattle.enip_owner.specs.Streams.{BufferedLine, IsFed}
 use Rattle.enip_owner.specs.Requests as requests
 use Rattle.enip_owner.specs.Requests.{Request, Given}
@@ -32,13 +33,14 @@ use Rattle.owner_port.specs.Sets.{tallies_in, AreCounted}
 use Rattle.owner_port.specs.Tables.{type_at}
 use Rattle.owner_port.proofs.SetLemmas.{own_write}
 
--- The same sets and the same tickets.
+-- The same sets, the same resets and the same tickets.
 pub record IsUnseen {W : Type 0} (before after : ServerState W) : Type 0 where
   pub tallies : tallies_in after.adapter ≡ tallies_in before.adapter
+  pub resets : resets_of after.adapter ≡ resets_of before.adapter
   pub next : next_in (queue_in after.adapter) ≡ next_in (queue_in before.adapter)
 
 pub nothing_new : {W : Type 0} (before : ServerState W) → IsUnseen before before
-nothing_new before = record { tallies = refl; next = refl }
+nothing_new before = record { tallies = refl; resets = refl; next = refl }
 
 same_device : {W : Type 0} (before after : ServerState W) → after ≡ before → IsUnseen before after
 same_device before after is = subst (λ s. IsUnseen before s) (sym is) (nothing_new before)
@@ -70,10 +72,24 @@ own_next (Prepares reply) before = refl
 own_next (Settles originator number reply) before = refl
 own_next (Finishes ticket reply) before = next-of before.adapter.state.shared.objects.router.queue ticket reply
 
+own_resets : {W : Type 0} (write : OwnWrite) (before : ServerState W)
+    → resets_of (written_by write before).adapter ≡ resets_of before.adapter
+own_resets (WritesData instance offset bytes) before = refl
+own_resets (WritesAttribute class instance attribute offset bytes) before = refl
+own_resets (SetsStatus status) before = refl
+own_resets (SetsState state) before = refl
+own_resets (Prepares reply) before = refl
+own_resets (Settles originator number reply) before = refl
+own_resets (Finishes ticket reply) before = refl
+
 written-unseen : {W : Type 0} (write : OwnWrite) (before after : ServerState W) → after ≡ written_by write before
     → IsUnseen before after
 written-unseen write before after is =
-    subst (λ s. IsUnseen before s) (sym is) (record { tallies = own_write before.adapter write; next = own_next write before })
+    subst (λ s. IsUnseen before s) (sym is) (record {
+      tallies = own_write before.adapter write;
+      resets = own_resets write before;
+      next = own_next write before;
+    })
 
 -- ---- lines
 
@@ -138,8 +154,9 @@ end-unseen outcomes.TooLong old before new after (session, senders, same, still)
 still_seen : {W : Type 0} (old new : OwnerPort) (before after : ServerState W) → SameRest old new → IsUnseen before after
     → HasSeen old before.adapter.state.shared.objects → HasSeen new after.adapter.state.shared.objects
 still_seen old new before after same unseen seen = record {
-  counted = subst (λ counts. AreCounted (tallies_in after.adapter) counts.items) (sym same.counts)
-      (subst (λ tallies. AreCounted tallies old.counts.items) (sym unseen.tallies) seen.counted);
+  counted = subst (λ counts. AreCounted (tallies_in after.adapter) counts.sets.items) (sym same.counts)
+      (subst (λ tallies. AreCounted tallies old.counts.sets.items) (sym unseen.tallies) seen.counted);
+  resets = ap (λ counts. counts.resets) same.counts ∙ seen.resets ∙ sym unseen.resets;
   next = same.next ∙ seen.next ∙ sym unseen.next;
 }
 

@@ -6,6 +6,7 @@ use Rattle.cip_ledger.specs.Device.{Device}
 use Rattle.cip_objects.specs.Contents.{Contents}
 use Rattle.cip_owner.specs.Queue.{QueueState}
 use Rattle.enip_adapter.specs.Calls.{AdapterState}
+use Rattle.enip_adapter.specs.Device.{resets_by, resets_of}
 use Rattle.enip_adapter.specs.Endings.{updated}
 use Rattle.enip_owner.specs.declared.hand_over.HandOver.{HandOver}
 use Rattle.enip_owner.specs.declared.line_buffer.LineOutcome.{LineOutcome}
@@ -26,7 +27,7 @@ use Rattle.owner_port.specs.Execution.{IsAnswered}
 use Rattle.owner_port.specs.Handing.{AreHanded}
 use Rattle.owner_port.specs.Questions.{IsNoQuestions, with_list}
 use Rattle.owner_port.specs.Senders.{next_in, without_sender, AreNoted, IsNobody}
-use Rattle.owner_port.specs.Sessions.{no_session, begun, opened, is_open, awaits_token, can_feed, with_end, with_next_line, AreSent, IsSent, IsSetReported, AreEndsReported, IsHelloLine, IsErrorLine, IsLineAnswered}
+use Rattle.owner_port.specs.Sessions.{no_session, begun, opened, is_open, awaits_token, can_feed, with_end, with_next_line, AreSent, IsSent, IsSetReported, IsResetSeen, AreEndsReported, IsHelloLine, IsErrorLine, IsLineAnswered}
 use Rattle.owner_port.specs.Sets.{sets_since, with_reported, new_count, tallies_in, AreCounted}
 
 abbrev pub contents_in : AdapterState → Contents
@@ -56,24 +57,28 @@ abbrev pub IsQueueHanded : Option QueueState → List Sender → HandOver → Se
 IsQueueHanded None known h s last new = (last ≡ h) × (new ≡ s)
 IsQueueHanded (Some queue) known h s last new = AreHanded queue known h s last new
 
--- A frame of the peer at this address was served: the sets are queued, then the commands, and the peer is the sender of
--- those that are new.
+-- A frame of the peer at this address was served: the sets are queued, then a Reset, then the commands, and the peer is the
+-- sender of those that are new.
 pub record IsFrameSeen (by : IpAddr) (a : AdapterState) (old new : OwnerPort) : Type 0 where
   pub between : Session
-  pub reported : AreReported old.table.types.items a by old.counts.items old.session new.counts.items between
+  pub reported : AreReported old.table.types.items a by old.counts.sets.items old.session new.counts.sets.items between
+  pub after_reset : Session
+  pub reset : IsResetSeen a by old.counts.resets between after_reset
+  pub resets : new.counts.resets ≡ resets_of a
   pub next : new.senders.next ≡ next_in (queue_in a)
   pub noted : AreNoted (next_in (queue_in a) - old.senders.next) old.senders.next by old.senders.known.items new.senders.known.items
-  pub handed : IsQueueHanded (queue_in a) new.senders.known.items old.hand_over between new.hand_over new.session
+  pub handed : IsQueueHanded (queue_in a) new.senders.known.items old.hand_over after_reset new.hand_over new.session
   pub types : new.table.types ≡ old.table.types
   pub token : new.token ≡ old.token
   pub endings : new.endings ≡ old.endings
   pub lines : new.lines ≡ old.lines
   pub questions : new.questions ≡ old.questions
 
--- All that happened up to this device was seen: each set was reported, or came while there was no session that could
--- report it, and the sender of each command was noted.
+-- All that happened up to this device was seen: each set and each Reset was reported, or came while there was no session
+-- that could report it, and the sender of each command was noted.
 pub record HasSeen (port : OwnerPort) (device : Device) : Type 0 where
-  pub counted : AreCounted device.router.objects.changes port.counts.items
+  pub counted : AreCounted device.router.objects.changes port.counts.sets.items
+  pub resets : port.counts.resets ≡ resets_by device.router.reset
   pub next : port.senders.next ≡ next_in device.router.queue
 
 -- ---- rounds
@@ -107,7 +112,8 @@ pub record IsHelloSent (table : DeviceTable) (life : Option ℕ) (old new : Sess
 -- All sets up to now count as reported. Commands that wait already may have been handed over before.
 pub record IsNewPort (table : DeviceTable) (timeout : ℕ) (a : AdapterState) (new : OwnerPort) : Type 0 where
   pub table_is : new.table ≡ table
-  pub counts : new.counts.items ≡ map (new_count (tallies_in a)) table.settable.items
+  pub counts : new.counts.sets.items ≡ map (new_count (tallies_in a)) table.settable.items
+  pub resets : new.counts.resets ≡ resets_of a
   pub senders : IsNobody (queue_in a) new.senders
   pub hand_over : new.hand_over ≡ record { earlier = earlier_than (next_in (queue_in a)); handed = 0 }
   pub lines : new.lines ≡ no_line

@@ -5,7 +5,11 @@ use Rattle.std.specs.declared.alloc.Global.{Global}
 use Rattle.std.specs.declared.net.ip_addr.IpAddr.{IpAddr}
 use Rattle.cip_objects.specs.Contents.{Contents, bytes_at}
 use Rattle.cip_objects.specs.OwnRequests.{Asked}
+use Rattle.cip_owner.specs.declared.reset.ResetType.{ResetType}
+use Rattle.cip_owner.specs.Reset.{ResetState, reset_number}
 use Rattle.cip_values.specs.declared.element.ValueType.{ValueType}
+use Rattle.enip_adapter.specs.Calls.{AdapterState}
+use Rattle.enip_adapter.specs.Device.{resets_of}
 use Rattle.enip_adapter.specs.declared.endings.EndedConnection.{EndedConnection}
 use Rattle.enip_adapter.specs.declared.endings.EndReason.{EndReason}
 use Rattle.enip_adapter.specs.declared.endings.EndReason.TheVariants as reasons
@@ -13,11 +17,12 @@ use Rattle.enip_owner.specs.declared.attribute_ref.AttributeRef.{AttributeRef}
 use Rattle.enip_owner.specs.declared.event.AskedEvent.{AskedEvent}
 use Rattle.enip_owner.specs.declared.event.ChangedEvent.{ChangedEvent}
 use Rattle.enip_owner.specs.declared.event.EndedEvent.{EndedEvent}
+use Rattle.enip_owner.specs.declared.event.ResetEvent.{ResetEvent}
 use Rattle.enip_owner.specs.declared.event.ValueEvent.{ValueEvent}
 use Rattle.enip_owner.specs.declared.event_fault.EventFault.{EventFault}
 use Rattle.enip_owner.specs.declared.hello.HelloEvent.{HelloEvent}
 use Rattle.enip_owner.specs.declared.line_buffer.TheConstants.{LINE_LIMIT}
-use Rattle.enip_owner.specs.Events.{IsLineOf, IsWritten, IsWrittenOne, IsAsked, IsChanged, IsValue, ended_json, ok_json, error_json}
+use Rattle.enip_owner.specs.Events.{IsLineOf, IsWritten, IsWrittenOne, IsAsked, IsChanged, IsValue, ended_json, ok_json, error_json, reset_json}
 use Rattle.enip_owner.specs.Hello.{hello_json, hello_detail}
 use Rattle.owner_port.specs.declared.attribute_table.TypedAttribute.{TypedAttribute}
 use Rattle.owner_port.specs.declared.device_table.DeviceTable.{DeviceTable}
@@ -133,6 +138,36 @@ IsSetLine types m by attribute line = (e : ChangedEvent) × IsSet types m by att
 pub record IsSetReported (types : List TypedAttribute) (m : Contents) (by : IpAddr) (attribute : AttributeRef) (old new : Session) : Type 0 where
   pub while_open : is_open old.phase ≡ true → IsSent (IsSetLine types m by attribute) old new
   pub while_closed : is_open old.phase ≡ false → new ≡ old
+
+-- The number of the last Reset's type. 0 if there was none.
+abbrev pub type_or_0 : Option ResetType → ℕ
+type_or_0 None = 0
+type_or_0 (Some type) = reset_number type
+
+abbrev pub last_type_in : Option ResetState → ℕ
+last_type_in None = 0
+last_type_in (Some reset) = type_or_0 reset.last
+
+-- A Reset by the peer at this address.
+pub record IsResetEvent (a : AdapterState) (by : IpAddr) (e : ResetEvent) : Type 0 where
+  pub type_is : e.reset_type ≡ last_type_in a.state.shared.objects.router.reset
+  pub by_is : e.by ≡ by
+
+abbrev pub IsResetLine : AdapterState → IpAddr → Result (Vec ℕ Global) EventFault → Type 0
+IsResetLine a by line = (e : ResetEvent) × IsResetEvent a by e × IsWritten (reset_json e) line
+
+-- It is reported, if the session is open.
+pub record IsResetReported (a : AdapterState) (by : IpAddr) (old new : Session) : Type 0 where
+  pub while_open : is_open old.phase ≡ true → IsSent (IsResetLine a by) old new
+  pub while_closed : is_open old.phase ≡ false → new ≡ old
+
+-- A frame of the peer at this address was served, and so many resets were reported before it.
+abbrev pub IsResetSeenBy : Bool → AdapterState → IpAddr → Session → Session → Type 0
+IsResetSeenBy true a by old new = new ≡ old
+IsResetSeenBy false a by old new = IsResetReported a by old new
+
+abbrev pub IsResetSeen : AdapterState → IpAddr → ℕ → Session → Session → Type 0
+IsResetSeen a by reported old new = IsResetSeenBy (resets_of a == reported) a by old new
 
 -- The type of the value that a request sets, if it sets one (service 0x10) and the type is known.
 abbrev pub type_of_number : List TypedAttribute → Asked → Option ℕ → Option ValueType

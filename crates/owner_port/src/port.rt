@@ -17,9 +17,9 @@ use crate::handing::hand_waiting;
 use crate::prepared_reply::PreparedReply;
 use crate::questions::{Question, QuestionState, Questions};
 use crate::senders::{HasAddress, Senders};
-use crate::sending::{report_sets, send_answer, send_asked, send_ends, send_error};
+use crate::sending::{report_reset, report_sets, send_answer, send_asked, send_ends, send_error};
 use crate::session::{Phase, Session};
-use crate::set_count::{SetCount, new_counts};
+use crate::set_count::{Counts, new_counts};
 use cip_owner::{OwnRequest, QUEUE_LIMIT, Queue};
 use enip_adapter::{Adapter, Endings, Peer};
 use enip_owner::{HandOver, LineBuffer, LineOutcome, is_token};
@@ -43,8 +43,8 @@ pub struct OwnerPort {
     alloc: Global,
     table: DeviceTable,
     token: Option<Vec<u8>>,
-    /// How many sets of each attribute that peers can set were reported.
-    counts: Vec<SetCount>,
+    /// How many sets of each attribute that peers can set were reported, and how many resets.
+    counts: Counts,
     senders: Senders,
     /// The memory for the tickets of the commands that wait.
     tickets: Vec<u32>,
@@ -94,7 +94,10 @@ impl OwnerPort {
         ensures { IfOk result (IsNewPort table owner_timeout adapter.now) }
     {
         let queue = adapter.queue();
-        let counts = new_counts(alloc, table.settable.as_slice(), adapter)?;
+        let counts = Counts {
+            sets: new_counts(alloc, table.settable.as_slice(), adapter)?,
+            resets: adapter.resets(),
+        };
         let senders = Senders::new(alloc, usize::from(QUEUE_LIMIT), queue)?;
         let hand_over = HandOver::restarted(senders.next);
         let lines = LineBuffer::new(alloc)?;
@@ -279,8 +282,8 @@ impl OwnerPort {
         );
     }
 
-    /// Reports what a frame of the peer at this address has changed: each set of an attribute that peers can set, and
-    /// the commands that were put into the queue. As the watcher of a round, the port calls this itself.
+    /// Reports what a frame of the peer at this address has changed: each set of an attribute that peers can set, a Reset of
+    /// the device, and the commands that were put into the queue. As the watcher of a round, the port calls this itself.
     pub fn see_frame(&mut self, by: IpAddr, adapter: &Adapter)
         ensures frame { IsFrameSeen by adapter.now self.old self.new }
         ensures seen { HasSeen self.new adapter.now.state.shared.objects }
@@ -290,7 +293,14 @@ impl OwnerPort {
             self.table.types.as_slice(),
             adapter,
             by,
-            self.counts.as_mut_slice(),
+            self.counts.sets.as_mut_slice(),
+            &mut self.session,
+        );
+        report_reset(
+            self.alloc,
+            adapter,
+            by,
+            &mut self.counts.resets,
             &mut self.session,
         );
         self.senders.note(by, adapter.queue());

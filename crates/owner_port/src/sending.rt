@@ -5,6 +5,8 @@ ghost use Rattle.cip_objects.specs.Contents.{bytes_at};
 ghost use Rattle.cip_objects.specs.OwnRequests.{asked_in};
 ghost use Rattle.owner_port.specs.Sessions.{IsSent, AreSent, IsAnswerSent, IsOkLine, IsErrorLine, IsValueLine, IsSetReported, IsEndReported, AreEndsReported, IsAskedLine, reason_text, type_to_set};
 ghost use Rattle.owner_port.specs.Ports.{AreReported, contents_in};
+ghost use Rattle.enip_adapter.specs.Device.{resets_of};
+ghost use Rattle.owner_port.specs.Sessions.{IsResetReported, IsResetSeen, last_type_in};
 ghost use Rattle.owner_port.specs.Sets.{AreCounted, tallies_in};
 
 use crate::attribute_table::{TypedAttribute, type_at};
@@ -17,8 +19,8 @@ use cip_owner::OwnRequest;
 use cip_values::ValueType;
 use enip_adapter::{Adapter, EndReason, EndedConnection};
 use enip_owner::{
-    AskedEvent, AttributeRef, ChangedEvent, EndedEvent, EventFault, ValueEvent, write_asked,
-    write_changed, write_ended, write_error, write_ok, write_value,
+    AskedEvent, AttributeRef, ChangedEvent, EndedEvent, EventFault, ResetEvent, ValueEvent,
+    write_asked, write_changed, write_ended, write_error, write_ok, write_reset, write_value,
 };
 use std::alloc::Global;
 use std::net::IpAddr;
@@ -135,6 +137,56 @@ fn send_changed(
         },
     );
     session.send(line);
+}
+
+/// Queues the last Reset, by the peer at this address, if it was not reported and the session is open. It counts as
+/// reported from now on.
+pub(crate) fn report_reset(
+    alloc: Global,
+    adapter: &Adapter,
+    by: IpAddr,
+    reported: &mut u32,
+    session: &mut Session,
+)
+    ensures sent { IsResetSeen adapter.now by reported.old session.old session.new }
+    ensures reported { reported.new ≡ resets_of adapter.now }
+{
+    let resets = adapter.resets();
+    if resets == *reported {
+        return;
+    }
+    *reported = resets;
+    send_reset(alloc, adapter, by, session);
+}
+
+/// Queues the last Reset, by the peer at this address, if the session is open.
+fn send_reset(alloc: Global, adapter: &Adapter, by: IpAddr, session: &mut Session)
+    ensures { IsResetReported adapter.now by session.old session.new }
+{
+    if !session.is_open() {
+        return;
+    }
+    let line = write_reset(
+        alloc,
+        &ResetEvent {
+            reset_type: last_type(adapter),
+            by,
+        },
+    );
+    session.send(line);
+}
+
+/// The number of the last Reset's type. 0 if there was none.
+fn last_type(adapter: &Adapter) -> u8
+    ensures { result ≡ last_type_in adapter.now.state.shared.objects.router.reset }
+{
+    match adapter.resetting() {
+        Some(resetting) => match resetting.last() {
+            Some(last) => last.number(),
+            None => 0,
+        },
+        None => 0,
+    }
 }
 
 /// Queues so many sets of an attribute.

@@ -16,6 +16,15 @@ pub(crate) struct SetCount {
     pub(crate) reported: u32,
 }
 
+/// What was reported of what peers have done to the device.
+#[derive(Drop)]
+pub(crate) struct Counts {
+    /// How many sets of each attribute that peers can set.
+    pub(crate) sets: Vec<SetCount>,
+    /// How many resets, modulo 2^32.
+    pub(crate) resets: u32,
+}
+
 impl SetCount {
     /// How many sets of the attribute were not reported. They count as reported from now on.
     pub(crate) fn take(&mut self, adapter: &Adapter) -> u32

@@ -74,15 +74,17 @@ impl<W: Wire + HasAddress + Drop, L: OwnerLog + Drop> Serving<W> for Owned<W, L>
         // What the owner has sent comes before the requests of peers, and what it gets after them.
         self.owner.receive(now, &mut self.peers);
         self.owner.admit(now, registry, self.peers.adapter());
+        let before = self.peers.adapter().resets();
         let mut reply = self.owner.port.take_reply();
         let end = self
             .peers
             .round_watched(now, &mut reply, &mut self.owner.port);
+        let was_reset = self.peers.close_if_reset(now, before);
         let ready = self.owner.ask(now, &mut self.peers);
         let end = RoundEnd {
             ended: end.ended,
-            ready,
-            next: end.next,
+            ready: ready || was_reset,
+            next: self.peers.next_moment(),
         };
         Ok(self.owner.send(now, end, self.peers.adapter()))
     }

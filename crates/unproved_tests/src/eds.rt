@@ -87,7 +87,7 @@ fn texts(rt: HostRuntime) -> Result<(), Fail> {
     ] {
         assert!(rt; text.as_str().contains(part), "{part}");
     }
-    let text = profile_text(rt.alloc(), &configuration.objects)?;
+    let text = profile_text(rt.alloc(), &configuration.objects, configuration.reset)?;
     assert!(rt;
         text.as_str()
             .ends_with("required of every EtherNet/IP device\n")

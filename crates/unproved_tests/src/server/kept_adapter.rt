@@ -44,6 +44,7 @@ fn start_of(objects: Config, queue: Option<u16>, life: u64) -> Result<AdapterSta
         }),
         queue,
         begins_life: false,
+        reset: false,
         listen: LISTEN,
         limits: LIMITS,
         shares: Shares::NONE,

@@ -29,6 +29,7 @@ fn start_in(alloc: Global, life: u64) -> Result<AdapterStart, Fail> {
         }),
         queue: None,
         begins_life: false,
+        reset: false,
         listen: LISTEN,
         limits: LIMITS,
         shares: Shares::NONE,

@@ -1,8 +1,8 @@
 use Rattle.std.proofs.Common.{ap₂, ◌∙◌}
 use Rattle.enip_adapter.specs.Adapter.{shared_adapter}
 use Rattle.enip_config.specs.declared.configuration.Configuration.{Configuration}
-use Rattle.cip_ledger.specs.Device.{queued_device}
-use Rattle.configured_adapter.specs.Configured.{ledger_from, queue_from, listen_of, limits_of}
+use Rattle.cip_ledger.specs.Device.{queued_device, with_reset}
+use Rattle.configured_adapter.specs.Configured.{ledger_from, queue_from, listen_of, limits_of, reset_from}
 use Rattle.enip_config.specs.Commands.{queue_limit}
 use Rattle.configured_adapter.proofs.ObjectLemmas.{objects_fail}
 use Rattle.configured_adapter.proofs.adapter.adapter_from.Goals as goal
@@ -21,6 +21,6 @@ returns-clause-made c =
       c0,
       (
         c.in_ok-configuration.ensures.read,
-        c.in_ok-adapter.ensures ∙ ap₂ (λ objects shares. shared_adapter (queued_device (ledger_from c0.ledger) objects (queue_from (queue_limit c0))) (listen_of c0) (limits_of c0) shares) c.in_ok-objects.ensures.made c.shares_from-shares.ensures.value,
+        c.in_ok-adapter.ensures ∙ ap₂ (λ objects shares. shared_adapter (with_reset (reset_from c0) (queued_device (ledger_from c0.ledger) objects (queue_from (queue_limit c0)))) (listen_of c0) (limits_of c0) shares) c.in_ok-objects.ensures.made c.shares_from-shares.ensures.value,
       ),
     )

@@ -1,9 +1,9 @@
 use Rattle.std.proofs.Common.{ap, ap₂, ◌∙◌}
 use Rattle.enip_adapter.specs.Adapter.{shared_adapter}
 use Rattle.enip_config.specs.declared.configuration.Configuration.{Configuration}
-use Rattle.cip_ledger.specs.Device.{queued_device}
+use Rattle.cip_ledger.specs.Device.{queued_device, with_reset}
 use Rattle.cip_objects.specs.Configuration.{contents_of_config}
-use Rattle.configured_adapter.specs.Configured.{in_life, ledger_from, queue_from, listen_of, limits_of}
+use Rattle.configured_adapter.specs.Configured.{in_life, ledger_from, queue_from, listen_of, limits_of, reset_from}
 use Rattle.enip_config.specs.Commands.{queue_limit}
 use Rattle.configured_adapter.proofs.ObjectLemmas.{objects_fail}
 use Rattle.configured_adapter.proofs.adapter.adapter_in_life.Goals as goal
@@ -23,7 +23,7 @@ returns-clause-made c =
       (
         c.in_ok-configuration.ensures.read,
         c.in_ok-adapter.ensures
-            ∙ ap₂ (λ ledger objects. shared_adapter (queued_device (ledger_from ledger) objects (queue_from (queue_limit c0))) (listen_of c0) (limits_of c0) c.shares_from-shares.result) c.in_life-ledger.ensures c.in_ok-objects.ensures.made
-            ∙ ap (λ shares. shared_adapter (queued_device (ledger_from (in_life c.args.life c0.ledger)) (contents_of_config c0.objects) (queue_from (queue_limit c0))) (listen_of c0) (limits_of c0) shares) c.shares_from-shares.ensures.value,
+            ∙ ap₂ (λ ledger objects. shared_adapter (with_reset (reset_from c0) (queued_device (ledger_from ledger) objects (queue_from (queue_limit c0)))) (listen_of c0) (limits_of c0) c.shares_from-shares.result) c.in_life-ledger.ensures c.in_ok-objects.ensures.made
+            ∙ ap (λ shares. shared_adapter (with_reset (reset_from c0) (queued_device (ledger_from (in_life c.args.life c0.ledger)) (contents_of_config c0.objects) (queue_from (queue_limit c0)))) (listen_of c0) (limits_of c0) shares) c.shares_from-shares.ensures.value,
       ),
     )

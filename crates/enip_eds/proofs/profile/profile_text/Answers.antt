@@ -11,7 +11,7 @@ pub returns : goal.returns
 returns c =
     let o = c.args.objects.now in
     let whole : Option (List ℕ) → List AssemblyConfig → List ObjectConfig → Bool → Bool → List ℕ =
-    λ n a b i l. identity_lines n o ++ (router_lines ++ (assembly_lines a ++ (flat_map object_line b ++ network_lines i l))) in
+    λ n a b i l. identity_lines n o ++ (router_lines c.args.reset ++ (assembly_lines a ++ (flat_map object_line b ++ network_lines i l))) in
     let name = text_in c.device_type_name-name.result in
     let found = c.network_of-network.result in
     c.in_ok-write.ensures.bytes

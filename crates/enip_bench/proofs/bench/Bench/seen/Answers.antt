@@ -13,12 +13,12 @@ pub returns-clause-seen : goal.returns-clause-seen
 returns-clause-seen c =
     same_seen _ (counting_seen (world_in c.self.inside.world))
     (ap (λ l. device_with l c.objects.result.now (option_map (λ r. r.now) c.prepared.result)
-    (option_map (λ q. q.now) c.queue.result)) c.ledger.ensures
+    (option_map (λ q. q.now) c.queue.result) (option_map (λ r. r.now) c.resetting.result)) c.ledger.ensures
     ∙ (ap₂ (λ m p. device_with c.self.inside.world.adapter.state.shared.objects.ledger m p
-    (option_map (λ q. q.now) c.queue.result)) c.objects.ensures c.prepared.ensures
-    ∙ ap (device_with c.self.inside.world.adapter.state.shared.objects.ledger
+    (option_map (λ q. q.now) c.queue.result) (option_map (λ r. r.now) c.resetting.result)) c.objects.ensures c.prepared.ensures
+    ∙ ap₂ (device_with c.self.inside.world.adapter.state.shared.objects.ledger
     c.self.inside.world.adapter.state.shared.objects.router.objects
-    c.self.inside.world.adapter.state.shared.objects.router.prepared) c.queue.ensures)) refl
+    c.self.inside.world.adapter.state.shared.objects.router.prepared) c.queue.ensures c.resetting.ensures)) refl
     (ap acceptances_in c.deref.ensures.value)
     (c.unwrap_or.ensures
     ∙ ap (λ o. unwrap_or o stages.Idle) (c.stage.ensures ∙ stage_there (world_in c.self.inside.world) c.self.invariant.reached))

@@ -10,6 +10,7 @@ returns-clause-read c = record {
   ledger = c.in_ok-ledger.ensures.read;
   queue = c.in_ok-queue.ensures.read;
   enabled = c.in_ok-counter.ensures.read.enabled;
+  reset = c.in_ok-reset.ensures.read;
   objects = c.in_ok-objects.ensures.read;
   shares = c.in_ok-access.ensures.read;
   types = c.in_ok-attribute_types.ensures;
