@@ -2,7 +2,7 @@
 requests go to the owner of the device. Neither `enip answer` nor `enip replay` has an owner."""
 import struct
 
-from reading.networks import NETWORK_REVISION, NETWORK_SERVICES, toml_of_table
+from reading.networks import STANDARD_REVISIONS, STANDARD_SERVICES, toml_of_table
 from reading.protocol import (
     ATTRIBUTE, COUNTER, DEVICE_STATE, GET, GET_ALL, GET_LIST, LONG, NOT_SETTABLE, SET, SET_LIST, SHORT, TOO_LARGE, VALUE,
     check, check_length, number,
@@ -59,7 +59,7 @@ class Applications:
             return [GET] if any(key[0] == kind for key in self.objects) else None
         one = self.objects.get((kind, instance))
         if one and "table" in one:
-            return NETWORK_SERVICES
+            return STANDARD_SERVICES
         own = one and [service["number"] for service in one["services"]] + [SET_LIST] * one["lists"]
         return one and [GET_ALL, GET_LIST, GET, SET] + own
 
@@ -69,7 +69,7 @@ class Applications:
     def attribute(self, kind, instance, attribute):
         if instance == 0:
             instances = [key[1] for key in self.objects if key[0] == kind]
-            revision = NETWORK_REVISION if "table" in self.objects[kind, instances[0]] else 1
+            revision = STANDARD_REVISIONS.get(kind, 1)
             return {1: number(2, revision), 2: number(2, max(instances)), 3: number(2, len(instances))}.get(attribute)
         return self.values.get((kind, instance, attribute))
 

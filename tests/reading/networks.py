@@ -1,12 +1,12 @@
-"""The second reading of the tables `tcp_ip` and `ethernet_link`: the TCP/IP Interface and the Ethernet Link that they make,
-with their defaults."""
-from reading.protocol import GET, GET_LIST, SET, number
+"""The second reading of the tables `tcp_ip` and `ethernet_link` and of the key `message_router`: the TCP/IP Interface, the
+Ethernet Link and the Message Router that they make, with their defaults."""
+from reading.protocol import ASSEMBLY, CONNECTION_MANAGER, COUNTER, GET, GET_LIST, IDENTITY, LEDGER, SET, number
 
-TCP_IP, ETHERNET_LINK = 0xF5, 0xF6
-# What both answer.
-NETWORK_SERVICES = [GET_LIST, GET, SET]
-# The revision of both classes.
-NETWORK_REVISION = 4
+MESSAGE_ROUTER, TCP_IP, ETHERNET_LINK = 2, 0xF5, 0xF6
+# What each of them answers.
+STANDARD_SERVICES = [GET_LIST, GET, SET]
+# The revision of each class.
+STANDARD_REVISIONS = {MESSAGE_ROUTER: 1, TCP_IP: 4, ETHERNET_LINK: 4}
 LONGEST_TIMEOUT = 3_600
 NO_ADDRESS = [0, 0, 0, 0]
 # The path to the physical link object, and its size in words.
@@ -54,8 +54,21 @@ def link(table):
     return [read_only(place, value) for place, value in values.items()]
 
 
+def router(config):
+    """The Message Router of a device: each of its classes, and its connections. `enip answer` opens none."""
+    classes = {IDENTITY, MESSAGE_ROUTER, ASSEMBLY, CONNECTION_MANAGER} | {one["class"] for one in config["objects"]}
+    classes |= {kind for kind, there in ((COUNTER, config["has_counter"]), (LEDGER, config["ledger"])) if there}
+    values = {
+        1: number(2, len(classes)) + b"".join(number(2, kind) for kind in sorted(classes)),
+        2: number(2, config["connections"]), 3: number(2, 0),
+    }
+    return [read_only(place, value) for place, value in values.items()]
+
+
 def toml_of_table(one):
-    """The lines of a table in a configuration."""
+    """The lines of a table in a configuration. The Message Router has none: it is a key."""
+    if one["class"] == MESSAGE_ROUTER:
+        return []
     lines = ["[%s]" % ("tcp_ip" if one["class"] == TCP_IP else "ethernet_link")]
     return lines + ["%s = %s" % (key, '"%s"' % value if isinstance(value, str) else value) for key, value in one["table"].items()]
 
@@ -97,3 +110,11 @@ class Networking:
             table = self.link_table()
             made.append({"class": ETHERNET_LINK, "instance": 1, "attributes": link(table), "services": [], "table": table})
         return made
+
+    def add_router(self, config):
+        """Adds the Message Router to the other objects, or not."""
+        config["message_router"] = self.seldom(0.3)
+        if config["message_router"]:
+            config["objects"].append({
+                "class": MESSAGE_ROUTER, "instance": 1, "attributes": router(config), "services": [], "table": {},
+            })

@@ -68,6 +68,7 @@ class Configurations(Chooser, Describing, Networking):
         omitted += ["value"] if "limit" not in omitted and self.seldom(0.2) else []
         config.update({key: DEFAULTS[key] for key in omitted})
         config["omitted"] = omitted
+        self.add_router(config)
         return config
 
     def first(self):

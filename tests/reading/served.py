@@ -24,6 +24,9 @@ class Served(Conversation):
         """No TCP/IP Interface: if its timeout were set, peers would be ended."""
         return []
 
+    def add_router(self, config):
+        """No Message Router: how many connections it shows depends on the rounds in which requests are read."""
+
     def config(self):
         """A configuration for several peers, without an owner, and with shares. Few have no handle left at once."""
         config = super().config()

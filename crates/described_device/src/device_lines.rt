@@ -3,6 +3,7 @@
 use cip_application::{
     AttributeConfig, AttributeKind, NumberRange, ObjectConfig, ServiceConfig, ServiceKind,
 };
+use cip_bytes::protocol::MESSAGE_ROUTER;
 use cip_names::{ClassText, ServiceText};
 use cip_objects::{AssemblyConfig, Config};
 use cip_values::{ElementaryType, ValueType, ValuesText, read_values};
@@ -56,7 +57,8 @@ fn print_lines<W: Write>(
     }
 }
 
-/// Prints the own objects, and after them those of the tables `tcp_ip` and `ethernet_link`.
+/// Prints the own objects, and after them those of the standard: the TCP/IP Interface, the Ethernet Link and the Message
+/// Router.
 fn print_objects<W: Write>(
     alloc: Global,
     output: &mut W,
@@ -68,7 +70,7 @@ fn print_objects<W: Write>(
         print_object(alloc, output, object, types.as_slice())?;
     }
     for object in objects.iter().skip(types.len()) {
-        print_network_object(alloc, output, object)?;
+        print_standard_object(alloc, output, object)?;
     }
     Ok(())
 }
@@ -235,8 +237,8 @@ fn print_head<W: Write>(output: &mut W, object: &ObjectConfig) -> io::Result<()>
     writeln!(output)
 }
 
-/// Prints the TCP/IP Interface or the Ethernet Link: its class and its instance, then a line for each attribute.
-fn print_network_object<W: Write>(
+/// Prints an object of the standard: its class and its instance, then a line for each attribute.
+fn print_standard_object<W: Write>(
     alloc: Global,
     output: &mut W,
     object: &ObjectConfig,

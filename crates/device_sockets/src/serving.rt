@@ -103,6 +103,7 @@ impl<W: Wire + Drop> Serving<W> for Peers<W> {
     }
 
     fn round(&mut self, now: u64, _registry: &Registry) -> Result<RoundEnd, KeepError> {
+        self.show_connections();
         let before = self.adapter().resets();
         let end = Peers::round(self, now);
         let was_reset = self.close_if_reset(now, before);

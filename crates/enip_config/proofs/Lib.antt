@@ -9,3 +9,4 @@ pub mod ReadLemmas
 pub mod ShareLemmas
 pub mod NumberLemmas
 pub mod StandardLemmas
+pub mod RouterLemmas

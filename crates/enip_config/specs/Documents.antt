@@ -23,7 +23,8 @@ use Rattle.enip_config.specs.declared.ledger.LedgerConfig.{LedgerConfig}
 use Rattle.enip_config.specs.Commands.{has_queued}
 use Rattle.enip_config.specs.Keys.{row, originators_row, life_row, queue_row, number_of, name_of, address_of, assemblies_of}
 use Rattle.enip_config.specs.Keys.{ledger_of, queue_of, counter_enabled, reset_of, AssemblySeen}
-use Rattle.enip_config.specs.Objects.{object_seen}
+use Rattle.cip_application.specs.declared.message_router.MessageRouter.{MessageRouter}
+use Rattle.enip_config.specs.RouterObject.{router_wanted, HasAllObjects}
 use Rattle.enip_config.specs.StandardObjects.{all_objects_of}
 use Rattle.enip_config.specs.ObjectTypes.{types_of, types_seen}
 use Rattle.config_refusal.specs.Refusals.{fault_of_objects}
@@ -55,6 +56,14 @@ assembly_seen assembly = (assembly.instance, (assembly.settable, (assembly.membe
 abbrev pub ledger_seen : LedgerConfig → ℕ × ℕ
 ledger_seen ledger = (ledger.originators, ledger.life)
 
+-- what the Message Router shows of the device besides its application objects
+abbrev pub router_in : Configuration → MessageRouter
+router_in c = record {
+  counter = c.objects.counter.enabled;
+  ledger = is_some c.ledger;
+  connections = c.connections;
+}
+
 -- the configuration has the value of each key, without the lists of the table `access`
 pub record HasValues (described : Members) (c : Configuration) : Type 0 where
   pub numbers : (key : NumberKey) → number_of key described ≡ Some (number_in c key)
@@ -65,7 +74,7 @@ pub record HasValues (described : Members) (c : Configuration) : Type 0 where
   pub queue : queue_of described ≡ Some c.queue
   pub enabled : counter_enabled described ≡ Some c.objects.counter.enabled
   pub reset : reset_of described ≡ Some c.reset
-  pub objects : all_objects_of described ≡ Some (map object_seen c.objects.objects.items)
+  pub objects : HasAllObjects described (router_in c) c.objects.objects.items
   pub shares : shares_of described ≡ Some (option_map shares_seen c.access)
   pub types : map types_seen c.attribute_types.items ≡ types_of described
 
@@ -75,7 +84,8 @@ HasBadValue described =
     ((key : NumberKey) × (number_of key described ≡ None))
     ⊎ ((name_of described ≡ None) ⊎ ((address_of described ≡ None) ⊎ ((assemblies_of described ≡ None)
     ⊎ ((ledger_of described ≡ None) ⊎ ((counter_enabled described ≡ None) ⊎ ((all_objects_of described ≡ None)
-    ⊎ ((shares_of described ≡ None) ⊎ ((queue_of described ≡ None) ⊎ (reset_of described ≡ None)))))))))
+    ⊎ ((shares_of described ≡ None) ⊎ ((queue_of described ≡ None) ⊎ ((reset_of described ≡ None)
+    ⊎ (router_wanted described ≡ None))))))))))
 
 -- why a table whose keys are all known gives no configuration
 abbrev pub IsUnread : Members → LoadFault → Type 0

@@ -59,7 +59,8 @@ text_numbers =
 
 -- the names of the known keys of a table, except tables within it
 abbrev pub keys_of : TableKind → List (List ℕ)
-keys_of Text = map (λ key. (row key).name) text_numbers ++ (codes "name" ∷ codes "address" ∷ [])
+keys_of Text =
+    map (λ key. (row key).name) text_numbers ++ (codes "name" ∷ codes "address" ∷ codes "message_router" ∷ [])
 keys_of Counter = map (λ key. (row key).name) (CounterValue ∷ CounterLimit ∷ []) ++ (codes "enabled" ∷ [])
 keys_of Identity = codes "reset" ∷ []
 keys_of Assembly = instance_row.name ∷ codes "settable" ∷ codes "members" ∷ codes "lists" ∷ []

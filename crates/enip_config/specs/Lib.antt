@@ -5,6 +5,7 @@ pub mod Objects
 pub mod ObjectTypes
 pub mod StandardObjects
 pub mod StandardTypes
+pub mod RouterObject
 pub mod Known
 pub mod Access
 pub mod Documents

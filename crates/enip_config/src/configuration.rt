@@ -1,7 +1,7 @@
 //! The values of a configuration.
 //! Text: docs/PROGRAM.md, "The configuration".
 
-ghost use Rattle.std.specs.Prelude.{◌≡◌, ◌≤◌, IfOk, IfErr, IfSome, None, Some, option_map};
+ghost use Rattle.std.specs.Prelude.{◌≡◌, ◌≤◌, IfOk, IfErr, IfSome, None, Some, is_some, option_map};
 ghost use Rattle.toml.specs.View.{table_view};
 ghost use Rattle.cip_objects.specs.Configuration.{fault_of};
 ghost use Rattle.enip_config.specs.Access.{lists_of, lists_seen, IsBadList};
@@ -17,9 +17,10 @@ use crate::commands::{has_queued, queue_of};
 use crate::key::{DEFAULT_QUEUE, NumberKey};
 use crate::known::has_unknown_key;
 use crate::ledger::{LedgerConfig, ledger_of};
+use crate::message_router::objects_with_router;
 use crate::object_types::types_of;
-use crate::standard::all_objects_of;
 use crate::values::{address_of, counter_enabled, name_of, number, reset_of};
+use cip_application::MessageRouter;
 use cip_objects::{Config, CounterConfig};
 use config_refusal::{ConfigurationRefusal, LoadFault};
 use enip_access::Access;
@@ -155,7 +156,7 @@ impl Configuration {
         let access = shares_of(text)?;
         let name = name_of(text)?;
         let assemblies = assemblies_of(alloc, text)?;
-        let objects = all_objects_of(alloc, text)?;
+        let objects = objects_with_router(alloc, text, router_of(counter, ledger, limits))?;
         let attribute_types = types_of(alloc, text)?;
         Ok(Configuration {
             objects: Config {
@@ -227,6 +228,21 @@ fn counter_of(text: &Table) -> Result<CounterConfig, LoadFault>
         value: number(text, NumberKey::CounterValue)?,
         limit: number(text, NumberKey::CounterLimit)?,
     })
+}
+
+/// What the Message Router shows of a device besides its application objects.
+fn router_of(counter: CounterConfig, ledger: Option<LedgerConfig>, limits: Limits) -> MessageRouter
+    ensures { result ≡ record {
+      counter = counter.enabled;
+      ledger = is_some ledger;
+      connections = limits.connections;
+    } }
+{
+    MessageRouter {
+        counter: counter.enabled,
+        ledger: ledger.is_some(),
+        connections: limits.connections,
+    }
 }
 
 /// The port that the device reports, and the numbers of its peers and connections.

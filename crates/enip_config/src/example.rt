@@ -21,6 +21,7 @@ peers = 4                    # how many clients are served at once: 1 to 16; def
 connections = 16             # how many class 3 connections are open at once: 1 to 64; default 16
 first_handle = 1             # the first session handle; default 1
 first_id = 1                 # the first connection ID; default 1
+message_router = true        # class 2, the Message Router, lists the classes of the device; default false
 
 [counter]                    # class 0x64, a counter that clients add to
 value = 0                    # its value at the start; default 0

@@ -70,7 +70,8 @@ impl TableKind {
         match self {
             TableKind::Text => is_number(&TEXT_NUMBERS, name)
                 || name == "name"
-                || name == "address",
+                || name == "address"
+                || name == "message_router",
             TableKind::Counter => {
                 is_number(&[NumberKey::CounterValue, NumberKey::CounterLimit], name)
                     || name == "enabled"

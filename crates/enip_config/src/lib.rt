@@ -7,7 +7,8 @@
 //! - An own object has attributes and services (`specs/Objects.antt`). An [`AttributeType`] has a name, as `UINT[4]`,
 //!   and says how a value is read and which bytes it has (`specs/Types.antt`). A service can be queued. Then its object
 //!   has Get_Result too, and the device a queue of commands (`specs/Commands.antt`).
-//! - The tables `tcp_ip` and `ethernet_link` make objects of the standard (`specs/StandardObjects.antt`).
+//! - The tables `tcp_ip` and `ethernet_link` make objects of the standard (`specs/StandardObjects.antt`), and the key
+//!   `message_router` makes another one (`specs/RouterObject.antt`).
 //! - The table `access` has the rules of `enip_access`: who may connect, and who may change something
 //!   (`specs/Access.antt`).
 //! - [`explain`] says what is wrong with a refused configuration, and in which line.
@@ -42,6 +43,7 @@ mod explanation;
 mod key;
 mod known;
 mod ledger;
+mod message_router;
 mod missing_keys;
 mod nearest_key;
 mod object_problems;

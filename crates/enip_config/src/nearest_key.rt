@@ -24,6 +24,7 @@ impl TableKind {
                 "connections",
                 "first_handle",
                 "first_id",
+                "message_router",
                 "counter",
                 "identity",
                 "assembly",

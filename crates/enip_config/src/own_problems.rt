@@ -4,7 +4,7 @@ use crate::attribute_problems::{AttributeProblem, attribute_problem};
 use crate::commands::{has_queued_service, is_queued};
 use crate::explanation::{Location, Problem};
 use cip_application::{
-    GET_RESULT, ObjectConfig, QUEUED_REPLY_LIMIT, ServiceConfig, TCP_IP_INTERFACE,
+    ETHERNET_LINK, GET_RESULT, ObjectConfig, QUEUED_REPLY_LIMIT, ServiceConfig, TCP_IP_INTERFACE,
 };
 use cip_objects::{Config, ConfigFault};
 use std::alloc::{AllocError, Global};
@@ -77,19 +77,19 @@ pub(crate) fn own_problem(
     Ok(None)
 }
 
-/// What is wrong with the object of a table `tcp_ip` or `ethernet_link`: with it, there are too many objects, or their
-/// values are too large.
+/// What is wrong with the object of a table `tcp_ip` or `ethernet_link`, or of the key `message_router`: with it, there
+/// are too many objects, or their values are too large.
 fn standard_problem(class: u16, check: ConfigFault, count: usize) -> (Location<'static>, Problem) {
-    let table = if class == TCP_IP_INTERFACE {
-        "tcp_ip"
-    } else {
-        "ethernet_link"
+    let key = match class {
+        TCP_IP_INTERFACE => "tcp_ip",
+        ETHERNET_LINK => "ethernet_link",
+        _ => "message_router",
     };
     let problem = match check {
         ConfigFault::Object => Problem::Object(ObjectProblem::Count(count)),
         _ => Problem::Attribute(AttributeProblem::Total),
     };
-    (Location::Text(table), problem)
+    (Location::Text(key), problem)
 }
 
 /// What is wrong with an object that is not allowed after those before it.

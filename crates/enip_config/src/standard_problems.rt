@@ -1,9 +1,10 @@
-//! What is wrong with a value in the tables `tcp_ip` and `ethernet_link` of a configuration.
+//! What is wrong with a value in the tables `tcp_ip` and `ethernet_link` of a configuration, or with that of
+//! `message_router`.
 
 use crate::explanation::{Location, Problem};
 use crate::key::{FLAGS, INACTIVITY_TIMEOUT, INTERFACE_STATE, INTERFACE_TYPE, SPEED};
 use crate::standard::is_text;
-use crate::value_problems::{address_problem, bad_number, missing_in, out_of_range};
+use crate::value_problems::{address_problem, bad_flag, bad_number, missing_in, out_of_range};
 use cip_application::{DOMAIN_LIMIT, HOST_LIMIT, LABEL_LIMIT};
 use toml::{Table, Value};
 
@@ -94,6 +95,12 @@ fn link_problem(table: &Table) -> Option<(&'static str, Problem)> {
     }
     let problem = text_problem(table, "label", LABEL_LIMIT)?;
     Some(("label", problem))
+}
+
+/// What is wrong with the value of the key `message_router`.
+pub(crate) fn bad_router(text: &Table) -> Option<(Location<'static>, Problem)> {
+    let problem = bad_flag(text, "message_router")?;
+    Some((Location::Text("message_router"), problem))
 }
 
 /// What is wrong with a MAC address.

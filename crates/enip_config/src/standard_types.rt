@@ -1,16 +1,17 @@
-//! The types of the attributes of the TCP/IP Interface and the Ethernet Link, for those who print their values.
+//! The types of the attributes of the objects of the standard, for those who print their values.
 
 ghost use Rattle.std.specs.Prelude.{◌≡◌};
-ghost use Rattle.enip_config.specs.StandardTypes.{type_of_standard, type_of_interface, type_of_link};
+ghost use Rattle.enip_config.specs.StandardTypes.{type_of_standard, type_of_router, type_of_interface, type_of_link};
 
 use crate::attribute_type::AttributeType;
 use cip_application::{ETHERNET_LINK, LABEL_LIMIT, TCP_IP_INTERFACE};
+use cip_bytes::protocol::MESSAGE_ROUTER;
 use cip_values::ElementaryType;
 
 impl AttributeType {
-    /// The type of an attribute of the TCP/IP Interface (class 0xf5) or of the Ethernet Link (class 0xf6), whose value
-    /// has this many bytes. An attribute of several parts has those bytes, and so has a text that is padded. (Volume 2,
-    /// TCP/IP Interface and Ethernet Link objects.)
+    /// The type of an attribute of the Message Router (class 2), the TCP/IP Interface (class 0xf5) or the Ethernet Link
+    /// (class 0xf6), whose value has this many bytes. An attribute of several parts has those bytes, and so has a text
+    /// that is padded. (Volume 1, Message Router object; Volume 2, TCP/IP Interface and Ethernet Link objects.)
     ///
     /// ```
     /// let of_type = AttributeType::of_standard(0xf5, 13, 2);
@@ -20,10 +21,21 @@ impl AttributeType {
         ensures { result ≡ type_of_standard class attribute size }
     {
         match class {
+            MESSAGE_ROUTER => type_of_router(attribute, size),
             TCP_IP_INTERFACE => type_of_interface(attribute, size),
             ETHERNET_LINK => type_of_link(attribute, size),
             _ => AttributeType::Bytes(size),
         }
+    }
+}
+
+/// The type of an attribute of the Message Router.
+fn type_of_router(attribute: u16, size: u16) -> AttributeType
+    ensures { result ≡ type_of_router attribute size }
+{
+    match attribute {
+        2 | 3 => AttributeType::One(ElementaryType::Uint),
+        _ => AttributeType::Bytes(size),
     }
 }
 

@@ -6,7 +6,7 @@ use crate::key::{INSTANCE, LIFE, NumberKey, ORIGINATORS, QUEUE, Row};
 use crate::known::TEXT_NUMBERS;
 use crate::missing_keys::MissingKeys;
 use crate::own_value_problems::bad_objects;
-use crate::standard_problems::{bad_interface, bad_link};
+use crate::standard_problems::{bad_interface, bad_link, bad_router};
 use crate::values::number_in;
 use toml::{Table, Value};
 
@@ -23,7 +23,7 @@ const REQUIRED: [&str; 7] = [
 
 /// The required keys that are missing, if there are any. Otherwise the first bad value, in this order: the numbers, the
 /// name, the address, the counter, the table `identity`, the assemblies, the tables `ledger`, `commands`, `access`, `tcp_ip` and
-/// `ethernet_link`, the own objects.
+/// `ethernet_link`, the key `message_router`, the own objects.
 pub(crate) fn bad_value(text: &Table) -> Option<(Location<'static>, Problem)> {
     if let Some((key, problem)) = missing_in(text, &REQUIRED) {
         return Some((Location::Text(key), problem));
@@ -62,6 +62,9 @@ pub(crate) fn bad_value(text: &Table) -> Option<(Location<'static>, Problem)> {
         return Some(found);
     }
     if let Some(found) = bad_link(text) {
+        return Some(found);
+    }
+    if let Some(found) = bad_router(text) {
         return Some(found);
     }
     bad_objects(text)

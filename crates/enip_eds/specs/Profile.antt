@@ -104,10 +104,14 @@ reset_line allowed =
     if allowed then codes "Identity object, service 0x05: Reset of type 0 and 1\n"
     else codes "Identity object, service 0x05: missing: Reset is required of every device\n"
 
+abbrev pub router_line : Bool → List ℕ
+router_line present =
+    if present then codes "Message Router object (0x02): instance 1\n"
+    else codes "Message Router object (0x02): no attributes (all are optional)\n"
+
 -- What comes before the assemblies.
-abbrev pub router_lines : Bool → List ℕ
-router_lines allowed =
-    reset_line allowed ++ codes "Message Router object (0x02): no attributes (all are optional)\n"
+abbrev pub before_assemblies : Bool → Bool → List ℕ
+before_assemblies reset has_router = reset_line reset ++ router_line has_router
 
 -- Instances 1 to 99 are those of device profiles.
 abbrev pub assembly_line : AssemblyConfig → List ℕ
@@ -158,5 +162,5 @@ network_lines has_interface has_link =
 
 -- The whole text. The flag says whether clients can reset the device.
 abbrev pub profile : Config → Bool → List ℕ
-profile c allowed =
-    identity_lines (type_name_of c.device_type) c ++ (router_lines allowed ++ (assembly_lines c.assemblies.items ++ (flat_map object_line c.objects.items ++ network_lines (has_class 0xf5 c.objects.items) (has_class 0xf6 c.objects.items))))
+profile c reset =
+    identity_lines (type_name_of c.device_type) c ++ (before_assemblies reset (has_class 2 c.objects.items) ++ (assembly_lines c.assemblies.items ++ (flat_map object_line c.objects.items ++ network_lines (has_class 0xf5 c.objects.items) (has_class 0xf6 c.objects.items))))

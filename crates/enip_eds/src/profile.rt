@@ -2,10 +2,12 @@
 
 ghost use Rattle.std.specs.Prelude.{◌≡◌, IfOk, string_bytes};
 ghost use Rattle.enip_eds.specs.Profile.{has_reserved_bits, is_vendor_specific, name_line, name_note, profile};
-ghost use Rattle.enip_eds.specs.Profile.{serial_line, status_line, has_class, interface_line, link_line, reset_line};
+ghost use Rattle.enip_eds.specs.Profile.{serial_line, status_line, has_class, router_line, interface_line, link_line};
+ghost use Rattle.enip_eds.specs.Profile.{reset_line};
 
 use crate::device_types::device_type_name;
 use cip_application::{ETHERNET_LINK, ObjectConfig, TCP_IP_INTERFACE};
+use cip_bytes::protocol::MESSAGE_ROUTER;
 use cip_objects::{AssemblyConfig, Config};
 use std::alloc::{AllocError, Global};
 use std::fmt;
@@ -26,13 +28,14 @@ pub fn profile_text(alloc: Global, objects: &Config, reset: bool) -> Result<Stri
     ensures { IfOk result (λ text. string_bytes text ≡ profile objects.now reset) }
 {
     let name = device_type_name(objects.device_type);
+    let has_router = has_class(MESSAGE_ROUTER, &objects.objects);
     let network = network_of(&objects.objects);
     let mut text = String::new(alloc);
     write!(
         text,
         "{}{}{}{}{}",
         IdentityLines { objects, name },
-        RouterLines { reset },
+        RouterLines { reset, has_router },
         AssemblyLines(&objects.assemblies),
         ObjectLines(&objects.objects),
         network
@@ -243,17 +246,19 @@ fn name_line(name: &[u8]) -> &'static str
 struct RouterLines {
     /// Whether clients can reset the device.
     reset: bool,
+    /// Whether it has a Message Router.
+    has_router: bool,
 }
 
 impl fmt::Display for RouterLines {
     ghost use Rattle.std.specs.Prelude.{Some};
-    ghost use Rattle.enip_eds.specs.Profile.{router_lines};
+    ghost use Rattle.enip_eds.specs.Profile.{before_assemblies};
 
-    ghost output = { λ l. Some (router_lines l.reset) };
+    ghost output = { λ l. Some (before_assemblies l.reset l.has_router) };
 
     fn fmt<W: fmt::Write>(&self, f: &mut fmt::Formatter<W>) -> fmt::Result {
         f.write_str(reset_line(self.reset))?;
-        f.write_str("Message Router object (0x02): no attributes (all are optional)\n")
+        f.write_str(router_line(self.has_router))
     }
 }
 
@@ -265,6 +270,17 @@ fn reset_line(reset: bool) -> &'static str
         "Identity object, service 0x05: Reset of type 0 and 1\n"
     } else {
         "Identity object, service 0x05: missing: Reset is required of every device\n"
+    }
+}
+
+/// The line of the Message Router.
+fn router_line(present: bool) -> &'static str
+    ensures { result.now ≡ router_line present }
+{
+    if present {
+        "Message Router object (0x02): instance 1\n"
+    } else {
+        "Message Router object (0x02): no attributes (all are optional)\n"
     }
 }
 

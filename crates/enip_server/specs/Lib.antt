@@ -2,6 +2,7 @@
 pub mod PeerStates
 pub mod Transfers
 pub mod Rounds
+pub mod ShownConnections
 pub mod Evictions
 pub mod Resets
 pub mod Held

@@ -20,6 +20,7 @@
 //! - `admit_frames` admits the frames of a round that wait, if each wire is a `GatedWire`: a `FrameWire`, alone or inside a
 //!   `HeldWire`. A `Gate` decides about each request to the owner. So one peer can wait for the owner's answer while others
 //!   are served.
+//! - `show_connections` writes the number of open connections to the Message Router, if the device has this object.
 //! - Between rounds, `adapter` reads the objects, connections and queued commands, `write_data`, `write_attribute`,
 //!   `set_device_status` and `set_device_state` write on behalf of the device itself, and `finish` finishes a queued
 //!   command.
@@ -120,6 +121,7 @@ mod io_buffer;
 pub mod laws;
 mod peer_io;
 mod peers;
+mod shown_connections;
 mod watcher;
 mod wire;
 mod wire_counts;

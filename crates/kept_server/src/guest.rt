@@ -3,7 +3,8 @@
 ghost use Rattle.std.specs.Prelude.{ℕ, ◌≡◌};
 ghost use Rattle.cip_ledger.specs.Device.{Device};
 ghost use Rattle.enip_server.specs.declared.held_wire.HeldWire.{HeldWire};
-ghost use Rattle.enip_server.specs.Rounds.{IsWritten, ServerState, state_of};
+ghost use Rattle.enip_server.specs.Rounds.{IsWritten, ServerState, state_of, written_all};
+ghost use Rattle.enip_server.specs.ShownConnections.{shown_connections};
 ghost use Rattle.kept_server.specs.Rounds.{IsAdmission};
 
 use cip_owner::{NoOwner, Owner};
@@ -62,15 +63,16 @@ pub trait RoundGuest<W: Wire + Drop>: Watcher<HeldWire<W>> {
         ensures seen { (device : Device) → Self.has_seen self.old device → Self.has_seen self.new device };
 }
 
-/// Nobody takes part: nobody is asked, and no frame is admitted.
+/// Nobody takes part: nobody is asked, and no frame is admitted. The device shows how many connections are open.
 impl<W: Wire + Drop> RoundGuest<W> for NoWatcher {
     type RoundOwner = NoOwner;
 
-    ghost begins = { λ now guest before next after owner. after ≡ before };
+    ghost begins = { λ now guest before next after owner. after ≡ written_all (shown_connections before) before };
 
     ghost admits = { λ now guest before next after. after ≡ before };
 
-    fn begin_round(&mut self, _now: u64, _peers: &mut Peers<HeldWire<W>>) -> NoOwner {
+    fn begin_round(&mut self, _now: u64, peers: &mut Peers<HeldWire<W>>) -> NoOwner {
+        peers.show_connections();
         NoOwner
     }
 

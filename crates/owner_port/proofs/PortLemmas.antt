@@ -1,5 +1,5 @@
 -- What a line of the owner does is not a set, and gives no ticket.
-use Rattle.std.proofs.Common.{◌≡◌, ℕ, Bool, true, false, List, Option, Some, None, unwrap_or, Result, Ok, Err, refl, sym, ap, subst, ◌∙◌, ◌⊎◌, inl, inr}
+use Rattle.std.proofs.Common.{◌≡◌, ℕ, Bool, true, false, List, [], ◌∷◌, Option, Some, None, unwrap_or, Result, Ok, Err, refl, sym, ap, subst, ◌∙◌, ◌⊎◌, inl, inr}
 use Rattle.std.specs.Prelude.{option_map}
 use Rattle.cip_owner.specs.Queue.{QueueState, QueuedCommand, command_of, can_be_reply, with_finished, finished_by}
 use Rattle.cip_owner.specs.Replies.{Reply}
@@ -13,7 +13,7 @@ use Rattle.enip_adapter.specs.Device.{resets_of}
 use Rattle.enip_owner.specs.Streams.{BufferedLine, IsFed}
 use Rattle.enip_owner.specs.Requests as requests
 use Rattle.enip_owner.specs.Requests.{Request, Given}
-use Rattle.enip_server.specs.Rounds.{ServerState, written_by}
+use Rattle.enip_server.specs.Rounds.{ServerState, written_by, written_all}
 use Rattle.owner_port.specs.declared.attribute_table.TypedAttribute.{TypedAttribute}
 use Rattle.owner_port.specs.declared.execution.Answer.{Answer}
 use Rattle.owner_port.specs.declared.execution.Answer.TheVariants as answers
@@ -90,6 +90,24 @@ written-unseen write before after is =
       resets = own_resets write before;
       next = own_next write before;
     })
+
+all-unseen : {W : Type 0} (writes : List OwnWrite) (before : ServerState W) → IsUnseen before (written_all writes before)
+all-unseen [] before = nothing_new before
+all-unseen (write ∷ writes) before =
+    let first = written-unseen write before (written_by write before) refl in
+    let rest = all-unseen writes (written_by write before) in
+    record { tallies = rest.tallies ∙ first.tallies; next = rest.next ∙ first.next }
+
+-- What was seen stays seen after own writes that the port has no part in.
+pub still_seen_after : {W : Type 0} (port : OwnerPort) (writes : List OwnWrite) (before after : ServerState W)
+    → after ≡ written_all writes before
+    → HasSeen port before.adapter.state.shared.objects → HasSeen port after.adapter.state.shared.objects
+still_seen_after port writes before after is seen =
+    let unseen = subst (λ s. IsUnseen before s) (sym is) (all-unseen writes before) in
+    record {
+      counted = subst (λ tallies. AreCounted tallies port.counts.items) (sym unseen.tallies) seen.counted;
+      next = seen.next ∙ sym unseen.next;
+    }
 
 -- ---- lines
 

@@ -55,13 +55,14 @@ impl<L: OwnerLog + Drop> OwnerLink<L> {
         true
     }
 
-    /// Receives lines of the owner at the time `now`, after which it is too late for the answers that are due. Writes
-    /// nothing to it.
+    /// Begins a round: shows how many connections are open, and receives lines of the owner at the time `now`, after which
+    /// it is too late for the answers that are due. Writes nothing to it.
     pub(crate) fn receive<W: Wire + Drop>(&mut self, now: u64, peers: &mut Peers<W>)
         ensures writes { IsWritten (state_of peers.old) (state_of peers.new) }
         ensures seen { HasSeen self.old.port (state_of peers.old).adapter.state.shared.objects →
             HasSeen self.new.port (state_of peers.new).adapter.state.shared.objects }
     {
+        peers.show_connections();
         self.port.expire(now);
         self.sockets.receive(&mut self.port, peers);
     }
