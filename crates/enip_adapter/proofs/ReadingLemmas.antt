@@ -29,7 +29,7 @@ use Rattle.cip_objects.specs.OwnRequests.{Asked, own_request, is_own_service}
 use Rattle.cip_objects.proofs.Approved.{taken_not_asked}
 use Rattle.cip_objects.specs.ReadServices.{service_at}
 use Rattle.cip_objects.specs.Service.{service_code, service_in}
-use Rattle.cip_objects.specs.Tables.{Shapes, is_counter_class, class_or_first, object_services, assembly_services, services_of, shape_at, object_at}
+use Rattle.cip_objects.specs.Tables.{Shapes, is_counter_class, class_or_first, object_list_services, services_of_object, assembly_list_services, services_of_assembly, services_of, shape_at, object_at}
 use Rattle.cip_objects.proofs.Effects.{bound, found_some, goes, chosen_code, read_effect}
 use Rattle.cip_objects.proofs.OwnRequests.{unread_request, unread_path, other_request}
 use Rattle.cip_owner.specs.Owned.{OwnedState, asks, asked_within, by_owner, exec_owned}
@@ -121,7 +121,7 @@ Service = Taken service_code
 
 -- The services of the objects that change something.
 abbrev changes : ℕ → Bool
-changes n = eqb n 0x10 || eqb n 0x19 || eqb n 0x32 || eqb n 0x33
+changes n = eqb n 0x04 || eqb n 0x10 || eqb n 0x19 || eqb n 0x32 || eqb n 0x33
 
 -- The service leaves the objects as they are, unless it is one of these.
 abbrev Stays : Service → Type 0
@@ -139,10 +139,16 @@ first-stays instance services all =
     both AllStay (eqb instance 0) _ _ ((λ h m path content o e. read_effect m _ o e), tt)
     (both AllStay (eqb instance 1) _ _ all tt)
 
-mapped-stay : {X : Type 0} (o : Option X) (services : List Service) → AllByRecursion Stays services
-    → AllStay (option_map (λ _. services) o)
+mapped-stay : {X : Type 0} (o : Option X) (services : X → List Service) → ((x : X) → AllByRecursion Stays (services x))
+    → AllStay (option_map services o)
 mapped-stay None services all = tt
-mapped-stay (Some x) services all = all
+mapped-stay (Some x) services all = all x
+
+-- those that an object may have
+optional-stay : (there : Bool) (services : List Service) → AllByRecursion Stays services
+    → AllByRecursion Stays (cond there services [])
+optional-stay true services all = all
+optional-stay false services all = tt
 
 none_changes : {X : Type 0} → true ≡ false → X
 none_changes e = absurd (cc)
@@ -156,8 +162,23 @@ offered-stay shapes class instance =
     ((λ h m path content o e. read_effect m _ o e), ((λ h m path content o e. read_effect m _ o e), ((λ h m path content o e. read_effect m _ o e), tt))))
     (both AllStay (eqb class ASSEMBLY) _ _
     (both AllStay (eqb instance 0) _ _ ((λ h m path content o e. read_effect m _ o e), tt)
-    (mapped-stay (shape_at instance shapes.assemblies) assembly_services
-    ((λ h m path content o e. read_effect m _ o e), ((λ h m path content o e. read_effect m _ o e), ((λ h. none_changes h), ((λ h m path content o e. read_effect m _ o e), ((λ h. none_changes h), tt)))))))
+    (mapped-stay (shape_at instance shapes.assemblies) services_of_assembly
+    (λ s. (
+      (λ h m path content o e. read_effect m _ o e),
+      (
+        (λ h m path content o e. read_effect m _ o e),
+        (
+          (λ h. none_changes h),
+          (
+            (λ h m path content o e. read_effect m _ o e),
+            (
+              (λ h. none_changes h),
+              optional-stay s.lists assembly_list_services ((λ h. none_changes h), ((λ h m path content o e. read_effect m _ o e), tt)),
+            ),
+          ),
+        ),
+      ),
+    ))))
     (both AllStay (eqb class CONNECTION_MANAGER) _ _ (both AllStay (eqb instance 1) _ _ tt tt)
     (both AllStay (is_counter_class shapes class) _ _
     (first-stays instance _
@@ -165,8 +186,20 @@ offered-stay shapes class instance =
     (both AllStay (eqb instance 0) _ _
     (both AllStay (list_any (λ o. eqb o.class class) shapes.objects) _ _
     ((λ h m path content o e. read_effect m _ o e), tt) tt)
-    (mapped-stay (object_at class instance shapes.objects) object_services
-    ((λ h m path content o e. read_effect m _ o e), ((λ h m path content o e. read_effect m _ o e), ((λ h m path content o e. read_effect m _ o e), ((λ h. none_changes h), tt)))))))))
+    (mapped-stay (object_at class instance shapes.objects) services_of_object
+    (λ s. (
+      (λ h m path content o e. read_effect m _ o e),
+      (
+        (λ h m path content o e. read_effect m _ o e),
+        (
+          (λ h m path content o e. read_effect m _ o e),
+          (
+            (λ h. none_changes h),
+            optional-stay s.lists object_list_services ((λ h. none_changes h), tt),
+          ),
+        ),
+      ),
+    )))))))
 
 same_service : (x y : Service) → ◌≡◌ {A = Option Service} (Some x) (Some y) → x ≡ y
 same_service x y e = cc
@@ -192,19 +225,20 @@ chosen-stays shapes class instance code s e =
     (offered-stay shapes class instance))
     (found_some (service_in code offered.value) _ s offered.rest)
 
--- A service that is none of these four.
-none-of : (service : ℕ) (a b c d : Bool) → eqb service 0x10 ≡ a → eqb service 0x19 ≡ b → eqb service 0x32 ≡ c
-    → eqb service 0x33 ≡ d → ((n : ℕ) → is_change_service n ≡ true → eqb n 0x4c ≡ false → service ≡ n → ⊥)
-    → a || b || c || d ≡ false
-none-of service true b c d e f g h not = absurd (not 0x10 refl refl (eqb-true service 0x10 e))
-none-of service false true c d e f g h not = absurd (not 0x19 refl refl (eqb-true service 0x19 f))
-none-of service false false true d e f g h not = absurd (not 0x32 refl refl (eqb-true service 0x32 g))
-none-of service false false false true e f g h not = absurd (not 0x33 refl refl (eqb-true service 0x33 h))
-none-of service false false false false e f g h not = refl
+-- A service that is none of these five.
+none-of : (service : ℕ) (l a b c d : Bool) → eqb service 0x04 ≡ l → eqb service 0x10 ≡ a → eqb service 0x19 ≡ b
+    → eqb service 0x32 ≡ c → eqb service 0x33 ≡ d
+    → ((n : ℕ) → is_change_service n ≡ true → eqb n 0x4c ≡ false → service ≡ n → ⊥) → l || a || b || c || d ≡ false
+none-of service true a b c d k e f g h not = absurd (not 0x04 refl refl (eqb-true service 0x04 k))
+none-of service false true b c d k e f g h not = absurd (not 0x10 refl refl (eqb-true service 0x10 e))
+none-of service false false true c d k e f g h not = absurd (not 0x19 refl refl (eqb-true service 0x19 f))
+none-of service false false false true d k e f g h not = absurd (not 0x32 refl refl (eqb-true service 0x32 g))
+none-of service false false false false true k e f g h not = absurd (not 0x33 refl refl (eqb-true service 0x33 h))
+none-of service false false false false false k e f g h not = refl
 
 reads-stay : (text : List ℕ) (code : ℕ) → Reads text → code ≡ service_of text → changes code ≡ false
 reads-stay text code r same =
-    none-of code (eqb code 0x10) (eqb code 0x19) (eqb code 0x32) (eqb code 0x33) refl refl refl refl
+    none-of code (eqb code 0x04) (eqb code 0x10) (eqb code 0x19) (eqb code 0x32) (eqb code 0x33) refl refl refl refl refl
     (λ n is other e. not-service text n r is other (sym same ∙ e))
 
 exec-unchanged : (m : Contents) (max_size : ℕ) (text : List ℕ) → Reads text → (exec m max_size text).after ≡ m
