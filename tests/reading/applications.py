@@ -156,7 +156,7 @@ class Describing:
         keys = list(dict.fromkeys(self.random.sample(sorted(keys), self.pick(1, 2, 3, 5))))
         numbers = [1, 2, 3, 4, 5, 255, 256, 300, 65535]
         return [{
-            "class": kind, "instance": instance, "lists": self.seldom(0.5),
+            "class": kind, "instance": instance, "lists": self.seldom(0.7),
             "attributes": [self.own_attribute(one) for one in self.random.sample(numbers, self.pick(0, 1, 2, 3, 5))],
             "services": [self.own_service_shape(one) for one in self.random.sample(SERVICES, self.pick(0, 1, 2, 3))],
         } for kind, instance in keys]
@@ -188,7 +188,7 @@ class Describing:
         if self.seldom(0.1):
             return GET, self.right_path(one["class"], 0) + self.segment("attribute", self.pick(1, 2, 3)), b""
         path = self.right_path(one["class"], one["instance"])
-        kinds = ["all", "list"] + ["get", "set", "set", "set", "sets"] * bool(one["attributes"])
+        kinds = ["all", "list"] + ["get", "set", "set", "set", "sets", "sets"] * bool(one["attributes"])
         kind = self.pick(*kinds, *["service"] * 2 * bool(one["services"]))
         if kind == "service":
             shape = self.random.choice(one["services"])
@@ -206,7 +206,11 @@ class Describing:
             shapes = self.random.choices(one["attributes"], k=self.random.randrange(5))
             short = [shape for shape in one["attributes"] if shape["size"] == 1]
             # one whose reply is too large
+<<<<<<< HEAD
             shapes = [self.random.choice(short)] * 130 if short and self.seldom(0.3) else shapes
+=======
+            shapes = [self.random.choice(short)] * 130 if short and self.seldom(0.6) else shapes
+>>>>>>> 57909bf2d3db86689a311d4be40703cbce0dc8e5
             text = number(2, len(shapes))
             text += b"".join(number(2, shape["number"]) + self.new_value(shape) for shape in shapes)
             return SET_LIST, path, self.pick(text[:-1], text + b"\0", text + number(2, 6)) if self.seldom(0.1) else text

@@ -8,7 +8,7 @@ use Rattle.cip_bytes.specs.declared.protocol.TheConstants.{IDENTITY, MESSAGE_ROU
 use Rattle.cip_objects.specs.declared.service.Service.{Service}
 use Rattle.cip_objects.specs.declared.service.Service.TheVariants.{GetAttributesAll, GetAttributeList, GetAttributeSingle, SetAttributeSingle, Add, Clear}
 use Rattle.cip_objects.specs.ObjectList.{answers}
-use Rattle.cip_objects.specs.Tables.{ObjectShape, Shapes, services_of, class_or_first, assembly_services, object_services, application_services, shape_at, object_at, is_counter_class}
+use Rattle.cip_objects.specs.Tables.{ObjectShape, Shapes, services_of, services_of_assembly, services_of_object, class_or_first, application_services, shape_at, object_at, is_counter_class}
 
 turned : (a b : ℕ) → eqb a b ≡ eqb b a
 turned a b = grind (arith, nat_tests)
@@ -43,12 +43,12 @@ with_last class last (c ∷ others) =
 
 -- an object with services has its class
 by_object : (t u : Bool) (o : ObjectShape) (found : Option ObjectShape) (rest : Bool)
-    → (is_some (option_map (λ (x : ObjectShape). object_services) found) ≡ true → rest ≡ true)
-    → is_some (option_map (λ (x : ObjectShape). object_services) (cond (t && u) (Some o) found)) ≡ true → t || rest ≡ true
+    → (is_some (option_map services_of_object found) ≡ true → rest ≡ true)
+    → is_some (option_map services_of_object (cond (t && u) (Some o) found)) ≡ true → t || rest ≡ true
 by_object true u o found rest later e = refl
 by_object false u o found rest later e = later e
 
-object_class : (class instance : ℕ) (objects : List ObjectShape) → is_some (option_map (λ (x : ObjectShape). object_services) (object_at class instance objects)) ≡ true → is_class class objects ≡ true
+object_class : (class instance : ℕ) (objects : List ObjectShape) → is_some (option_map services_of_object (object_at class instance objects)) ≡ true → is_class class objects ≡ true
 object_class class instance [] e = absurd (cc)
 object_class class instance (o ∷ objects) e =
     by_object (eqb o.class class) (eqb o.instance instance) o (object_at class instance objects) (is_class class objects) (object_class class instance objects) e
@@ -111,7 +111,7 @@ module _ (shapes : Shapes) (ledger : Bool) (class : ℕ) where
   abbrev by_tests : (i a m c : Bool) → ℕ → Option (List Service)
   by_tests i a m c instance =
       cond i (class_or_first instance first_services)
-      (cond a (cond (eqb instance 0) (Some (GetAttributeSingle ∷ [])) (option_map (λ _. assembly_services) (shape_at instance shapes.assemblies)))
+      (cond a (cond (eqb instance 0) (Some (GetAttributeSingle ∷ [])) (option_map services_of_assembly (shape_at instance shapes.assemblies)))
       (cond m (cond (eqb instance 1) (Some []) None)
       (cond c (class_or_first instance counter_services) (application_services class instance shapes.objects))))
 
@@ -119,7 +119,7 @@ module _ (shapes : Shapes) (ledger : Bool) (class : ℕ) where
   abbrev only_own : Bool
   only_own = is_class class shapes.objects
 
-  first_found : is_some (option_map (λ (x : ObjectShape). object_services) (object_at class 1 shapes.objects)) ≡ true → only_own ≡ true
+  first_found : is_some (option_map services_of_object (object_at class 1 shapes.objects)) ≡ true → only_own ≡ true
   first_found = object_class class 1 shapes.objects
 
   same_tests : (i a m c r o l : Bool) → only_own ≡ o || r
@@ -131,11 +131,11 @@ module _ (shapes : Shapes) (ledger : Bool) (class : ℕ) where
   same_tests false false false false r o l e =
       around r l o
       ∙ ap (λ t. t || l) (sym e)
-      ∙ implied only_own (is_some (option_map (λ (x : ObjectShape). object_services) (object_at class 1 shapes.objects))) l first_found
-      ∙ ap (λ t. (t || is_some (option_map (λ (x : ObjectShape). object_services) (object_at class 1 shapes.objects))) || l) (sym (some_if only_own (GetAttributeSingle ∷ [])))
+      ∙ implied only_own (is_some (option_map services_of_object (object_at class 1 shapes.objects))) l first_found
+      ∙ ap (λ t. (t || is_some (option_map services_of_object (object_at class 1 shapes.objects))) || l) (sym (some_if only_own (GetAttributeSingle ∷ [])))
 
   own_found : (zeroth : Bool) (instance : ℕ) → eqb instance 0 ≡ zeroth
-      → is_some (cond zeroth (cond only_own (Some (GetAttributeSingle ∷ [])) None) (option_map (λ (x : ObjectShape). object_services) (object_at class instance shapes.objects))) ≡ true → only_own ≡ true
+      → is_some (cond zeroth (cond only_own (Some (GetAttributeSingle ∷ [])) None) (option_map services_of_object (object_at class instance shapes.objects))) ≡ true → only_own ≡ true
   own_found true instance is e = sym (some_if only_own (GetAttributeSingle ∷ [])) ∙ e
   own_found false instance is e = object_class class instance shapes.objects e
 
@@ -146,7 +146,7 @@ module _ (shapes : Shapes) (ledger : Bool) (class : ℕ) where
   found false false true c l instance e = refl
   found false false false true l instance e = refl
   found false false false false l instance e =
-      ap (λ t. (t || is_some (option_map (λ (x : ObjectShape). object_services) (object_at class 1 shapes.objects))) || l)
+      ap (λ t. (t || is_some (option_map services_of_object (object_at class 1 shapes.objects))) || l)
       (some_if only_own (GetAttributeSingle ∷ []) ∙ own_found (eqb instance 0) instance refl e)
 
   pub listed_classes : (others : List ℕ) → map (λ o. o.class) shapes.objects ≡ others ++ (MESSAGE_ROUTER ∷ [])

@@ -40,8 +40,8 @@ returned : (m n : Contents) (max_size : ℕ) (text content answer : List ℕ) (r
 returned m n max_size text content answer r e router is =
     routed m max_size text content e router ∙ ap (or_refusal m text) (sym is)
 
-router : (m : Contents) (o : Option _) → option_map services_at o ≡ services_of m.shapes 2 1 → is_some o ≡ true → has_router m.shapes ≡ true
-router m o services there = ap is_some (sym services) ∙ is_some_map services_at o ∙ there
+router : (m : Contents) (o : Option _) → option_map (services_at m.shapes) o ≡ services_of m.shapes 2 1 → is_some o ≡ true → has_router m.shapes ≡ true
+router m o services there = ap is_some (sym services) ∙ is_some_map (services_at m.shapes) o ∙ there
 
 pub returns-in_default-run_packet : goal.returns-in_default-run_packet
 returns-in_default-run_packet c =
