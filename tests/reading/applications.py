@@ -206,11 +206,7 @@ class Describing:
             shapes = self.random.choices(one["attributes"], k=self.random.randrange(5))
             short = [shape for shape in one["attributes"] if shape["size"] == 1]
             # one whose reply is too large
-<<<<<<< HEAD
-            shapes = [self.random.choice(short)] * 130 if short and self.seldom(0.3) else shapes
-=======
             shapes = [self.random.choice(short)] * 130 if short and self.seldom(0.6) else shapes
->>>>>>> 57909bf2d3db86689a311d4be40703cbce0dc8e5
             text = number(2, len(shapes))
             text += b"".join(number(2, shape["number"]) + self.new_value(shape) for shape in shapes)
             return SET_LIST, path, self.pick(text[:-1], text + b"\0", text + number(2, 6)) if self.seldom(0.1) else text
