@@ -5,10 +5,11 @@ from dataclasses import dataclass
 
 from reading.protocol import (
     ATTRIBUTE, CONNECTION_MANAGER, DESTINATION, DO_ONCE, FORGET, GET, GET_LAST, GET_LIST, LEDGER, LIST, LONG,
-    NOT_NEW, NO_SLOT, OTHER_LIFE, PRIVILEGE_VIOLATION, SERVICE, SHORT, TOO_LARGE, UNKNOWN_ORIGINATOR, class_of,
+    NOT_NEW, NO_SLOT, OTHER_LIFE, PRIVILEGE_VIOLATION, SERVICE, SHORT, TOO_LARGE, UNKNOWN_ORIGINATOR, Refusal, class_of,
     is_change, number, request_of,
 )
 from reading.objects import Objects, listed
+from reading.packets import is_packet, requests_in
 
 # The general status 0, and the state of a command that is done.
 SUCCESS, DONE = 0, b"\0"
@@ -143,6 +144,14 @@ class Device:
         return (self.ledger or self.objects).execute(request, room)
 
 
+def is_changing_packet(request):
+    """Whether a request is a packet that can be read, and one of its requests could change something."""
+    try:
+        return is_packet(request) and any(is_change(one) for one in requests_in(request_of(request)[2]))
+    except Refusal:
+        return False
+
+
 class Readable:
     """A device as a reader sees it: what could change something is refused before anything else of it is looked at."""
 
@@ -150,6 +159,6 @@ class Readable:
         self.device = device
 
     def execute(self, request, room):
-        if is_change(request):
+        if is_change(request) or is_changing_packet(request):
             return bytes([request[0] | 0x80, 0, PRIVILEGE_VIOLATION, 0])
         return self.device.execute(request, room)

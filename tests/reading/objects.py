@@ -2,11 +2,12 @@
 import struct
 
 from reading.protocol import (
-    ADD, ASSEMBLY, ATTRIBUTE, CLEAR, CONNECTION_MANAGER, COUNTER, DESTINATION, GET, GET_ALL, GET_LIST, GET_MEMBER,
+    ADD, ASSEMBLY, ATTRIBUTE, CLEAR, CONNECTION_MANAGER, COUNTER, DESTINATION, DEVICE_STATE, GET, GET_ALL, GET_LIST, GET_MEMBER,
     IDENTITY, LIST, MEMBER, NOT_SETTABLE, PARAMETER, SERVICE, SET, SET_LIST, SET_MEMBER, SHORT, TOO_LARGE, VALUE, check,
     check_length, number, Refusal, request_of,
 )
 from reading.applications import Applications
+from reading.packets import executed, is_packet
 
 
 def listed(value_of, data):
@@ -41,6 +42,9 @@ def settings_in(size_of, data):
 
 class Objects:
     """Identity, Assembly, the counter and the application objects of a configuration."""
+
+    # whether a request within a packet is executed: there is no owner for it
+    within = False
 
     def __init__(self, config):
         self.config, self.applications = config, Applications(config)
@@ -86,7 +90,16 @@ class Objects:
         return {1: number(4, self.value), 2: number(4, self.limit), 3: number(4, self.additions)}.get(attribute)
 
     def execute(self, request, room):
-        """The reply to a request. Its changes are kept only if the reply fits into `room` bytes."""
+        """The reply to a request, or to a packet of several requests."""
+        if self.config.get("message_router") and is_packet(request):
+            self.within = True
+            reply = executed(self.execute_one, request, room)
+            self.within = False
+            return reply
+        return self.execute_one(request, room)
+
+    def execute_one(self, request, room):
+        """The reply to one request. Its changes are kept only if the reply fits into `room` bytes."""
         before = (self.value, self.limit, self.additions, dict(self.contents), dict(self.applications.values))
         try:
             status, data = self.served(request, room)
@@ -105,6 +118,7 @@ class Objects:
         check(service in services, SERVICE)
         own = self.applications.has(kind, instance) and self.is_application(kind, instance)
         if own and service not in (GET_ALL, GET_LIST, SET_LIST, GET, SET):
+            check(not self.within, SERVICE)
             self.applications.own_service(kind, instance, service, data, room)
         if service == GET_ALL:
             check_length(data, 0)
@@ -130,7 +144,7 @@ class Objects:
             check_length(data, 0)
             return 0, value
         if own:
-            self.applications.set(kind, instance, path["attribute"], data)
+            self.applications.set(kind, instance, path["attribute"], data, NOT_SETTABLE if self.within else DEVICE_STATE)
             return 0, b""
         return 0, self.set(kind, instance, path["attribute"], len(value), data)
 

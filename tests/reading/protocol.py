@@ -3,6 +3,7 @@
 IDENTITY, ASSEMBLY, CONNECTION_MANAGER, COUNTER, LEDGER = 0x01, 0x04, 0x06, 0x64, 0x65
 GET_ALL, GET_LIST, SET_LIST, GET, SET, GET_MEMBER, SET_MEMBER = 0x01, 0x03, 0x04, 0x0E, 0x10, 0x18, 0x19
 ADD, CLEAR = 0x32, 0x33
+PACKET = 0x0A
 DO_ONCE, GET_LAST, FORGET = 0x4B, 0x4C, 0x4D
 FORWARD_CLOSE, FORWARD_OPEN, LARGE_FORWARD_OPEN = 0x4E, 0x54, 0x5B
 PATH_SEGMENT, DESTINATION, SERVICE, VALUE, LIST, NOT_SETTABLE = 0x04, 0x05, 0x08, 0x09, 0x0A, 0x0E
@@ -96,7 +97,8 @@ def class_of(request):
 
 
 def is_change(request):
-    """Whether a request could change something, by its service. The last command of the ledger is only read."""
+    """Whether a request could change something, by its service. The last command of the ledger is only read. A packet of
+    requests is looked at in `Readable`."""
     if request[0] == GET_LAST and class_of(request) == LEDGER:
         return False
     return request[0] in CHANGES or FIRST_OWN <= request[0] <= LAST_OWN

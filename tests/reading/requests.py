@@ -8,6 +8,7 @@ from reading.protocol import (
 )
 from reading.applications import Describing
 from reading.networks import Networking
+from reading.packets import Packing
 
 
 class Chooser:
@@ -76,7 +77,7 @@ class Configurations(Chooser, Describing, Networking):
         return self.pick(1, 1, 1 + self.random.randrange(LAST), LAST - self.random.randrange(24))
 
 
-class Requests(Configurations):
+class Requests(Configurations, Packing):
     """Makes message router requests, with and without faults."""
 
     # whether the counter was cleared, and its additions have not been read since
@@ -165,8 +166,13 @@ class Requests(Configurations):
         text = number(2, len(listed))
         return text + b"".join(number(2, one) + self.random.randbytes(sizes[one]) for one in listed)
 
-    def request(self, config):
+    def single_request(self, config):
         return self.right_request(config) if self.seldom(0.6) else self.any_request(config)
+
+    def request(self, config):
+        if self.seldom(0.15 if config.get("message_router") else 0.01):
+            return self.packet(config, self.single_request)
+        return self.single_request(config)
 
     def listing(self, size):
         """A request for a list of unknown attributes and attributes of one byte, whose reply has this size."""
