@@ -5,6 +5,7 @@ pub mod Styles
 pub mod ListObjects
 pub mod Discovering
 pub mod Interfaces
+pub mod Networks
 pub mod Readings
 pub mod Json
 pub mod CommandFiles

@@ -10,7 +10,8 @@
 //! - [`list_over`] and [`objects_over`] ask a device for its identity or its services. [`print_devices`] and
 //!   [`print_device_objects`] print the answers to a broadcast, [`print_answer`] and [`print_answer_object`] with the
 //!   address that each came from. A [`DiscoveryAnswer`] is compared with others.
-//! - An [`InterfaceConfiguration`] is printed as lines or, by [`interface_object`], as JSON.
+//! - An [`InterfaceConfiguration`] is printed as lines or, by [`interface_object`], as JSON. A [`PhysicalLink`], a name
+//!   with padding and the numbers of an Ethernet Link have texts, too ([`padded_name`], [`InterfaceFlags`]).
 //!
 //! A command over lines is built from what `enip_lines` has for them.
 //!
@@ -29,6 +30,7 @@ mod interface;
 mod json_text;
 mod list_objects;
 mod listing;
+mod network;
 mod once;
 mod reading;
 mod session;
@@ -49,6 +51,10 @@ pub use enip_faults::{
 pub use interface::{InterfaceConfiguration, interface_object};
 pub use list_objects::{objects_over, print_device_objects};
 pub use listing::{list_over, print_devices};
+pub use network::{
+    InterfaceFlags, PhysicalLink, interface_state_name, interface_type_name, link_object,
+    name_object, padded_name,
+};
 pub use once::{LIFE_REQUEST, LifeFault, PendingChoice, begin_once, check_once, read_life};
 pub use reading::{Readings, print_reading};
 pub use session::{DeviceSession, LONG_LIVED};

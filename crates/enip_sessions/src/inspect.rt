@@ -1,13 +1,15 @@
 //! `enip inspect`: reads what a device says of itself.
 
-use crate::inspected::{Form, INSPECTED, InspectedObject};
+use crate::inspected::{Form, INSPECTED, InspectedObject, Meaning};
 use cip_layouts::ValueShape;
 use cip_message::{Path, ReplyView};
+use cip_values::{ElementaryType, Value, ValueType, ValuesText};
 use clap::ArgMatches;
 use enip_client::ClientFault;
 use enip_commands::{
-    DIGITS, DeviceRequest, DeviceSession, InterfaceConfiguration, LONG_LIVED, RequestFailure,
-    Style, interface_object, show_refusal, show_reply,
+    DIGITS, DeviceRequest, DeviceSession, InterfaceConfiguration, InterfaceFlags, LONG_LIVED,
+    PhysicalLink, RequestFailure, Style, interface_object, interface_state_name,
+    interface_type_name, link_object, name_object, padded_name, show_refusal, show_reply,
 };
 use enip_common::{
     ArgumentError, CLOCK, CommandError, ErrorKeeping, HostPort, NamedReason, OUTPUT, Reason,
@@ -242,10 +244,8 @@ impl<'a> Inspection<'a, '_> {
     fn reply_text(&self, form: Form) -> Result<String, CommandError<'a>> {
         let alloc = self.rt.alloc();
         let (reply, is_json) = (self.session.reply(), self.device.style.is_json);
-        if let Form::InterfaceConfiguration = form {
-            if let Some(text) = interface_text(alloc, reply, is_json)? {
-                return Ok(text);
-            }
+        if let Some(text) = network_text(alloc, form, reply, is_json)? {
+            return Ok(text);
         }
         let style = Style {
             shape: form.value_type().map(ValueShape::Type),
@@ -304,27 +304,95 @@ impl<'a> Inspection<'a, '_> {
     }
 }
 
-/// What is printed of a reply with an interface configuration. `None` for another reply.
-fn interface_text(
+/// What is printed of a reply in a form of the network's objects. `None` for another form, and for another reply.
+fn network_text(
     alloc: Global,
+    form: Form,
     reply: &[u8],
     is_json: bool,
 ) -> Result<Option<String>, AllocError> {
-    let Ok(view) = ReplyView::read(reply) else {
-        return Ok(None);
+    let data = match ReplyView::read(reply) {
+        Ok(view) if view.status == 0 => view.data,
+        _ => return Ok(None),
     };
-    if view.status != 0 {
-        return Ok(None);
+    match form {
+        Form::PhysicalLink => link_text(alloc, data, is_json),
+        Form::InterfaceConfiguration => interface_text(alloc, data, is_json),
+        Form::PaddedString => padded_text(alloc, data, is_json),
+        Form::Meant(_, meaning) if !is_json => meant_text(alloc, meaning, data),
+        Form::Meant(..) | Form::One(_) | Form::List(_) | Form::Bytes => Ok(None),
     }
-    let Some(configuration) = InterfaceConfiguration::read(view.data) else {
+}
+
+/// What is printed of a physical link. `None` for other data.
+fn link_text(alloc: Global, data: &[u8], is_json: bool) -> Result<Option<String>, AllocError> {
+    let Some(link) = PhysicalLink::read(data) else {
         return Ok(None);
     };
     let text = if is_json {
-        interface_object(alloc, view.data, &configuration)?
+        link_object(alloc, data, &link)?
+    } else {
+        format!(in alloc; "{link}")?
+    };
+    Ok(Some(text))
+}
+
+/// What is printed of an interface configuration. `None` for other data.
+fn interface_text(alloc: Global, data: &[u8], is_json: bool) -> Result<Option<String>, AllocError> {
+    let Some(configuration) = InterfaceConfiguration::read(data) else {
+        return Ok(None);
+    };
+    let text = if is_json {
+        interface_object(alloc, data, &configuration)?
     } else {
         format!(in alloc; "{configuration}")?
     };
     Ok(Some(text))
+}
+
+/// What is printed of a STRING with a byte of padding. `None` for other data.
+fn padded_text(alloc: Global, data: &[u8], is_json: bool) -> Result<Option<String>, AllocError> {
+    let Some(name) = padded_name(data) else {
+        return Ok(None);
+    };
+    let text = if is_json {
+        name_object(alloc, data, name)?
+    } else {
+        let value_type = ValueType {
+            element: ElementaryType::String,
+            is_list: false,
+        };
+        let values = &[Value::Text(name)];
+        format!(in alloc; "{}", ValuesText { value_type, values })?
+    };
+    Ok(Some(text))
+}
+
+/// What is printed of a number of Ethernet Link: its value, and what it means. `None` for other data.
+fn meant_text(alloc: Global, meaning: Meaning, data: &[u8]) -> Result<Option<String>, AllocError> {
+    let text = match (meaning, data) {
+        (Meaning::Speed, [first, second, third, last]) => {
+            let speed = u32::from_le_bytes([*first, *second, *third, *last]);
+            format!(in alloc; "{speed} Mbit/s")?
+        }
+        (Meaning::Flags, [first, second, third, last]) => {
+            let flags = u32::from_le_bytes([*first, *second, *third, *last]);
+            let named = InterfaceFlags(flags);
+            format!(in alloc; "{flags:#010x} ({named})")?
+        }
+        (Meaning::Type, [number]) => named_text(alloc, *number, interface_type_name(*number))?,
+        (Meaning::State, [number]) => named_text(alloc, *number, interface_state_name(*number))?,
+        _ => return Ok(None),
+    };
+    Ok(Some(text))
+}
+
+/// A number, and its name if it has one.
+fn named_text(alloc: Global, number: u8, name: Option<&str>) -> Result<String, AllocError> {
+    match name {
+        Some(name) => format!(in alloc; "{number} ({name})"),
+        None => format!(in alloc; "{number}"),
+    }
 }
 
 /// The request that reads an attribute.

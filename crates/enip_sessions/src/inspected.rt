@@ -10,21 +10,37 @@ use cip_values::{ElementaryType, ValueType};
 pub(crate) enum Form {
     /// One value of a type.
     One(ElementaryType),
+    /// One value of a type, and what it means.
+    Meant(ElementaryType, Meaning),
     /// Values of a type, one after the other.
     List(ElementaryType),
+    /// The physical link of TCP/IP Interface.
+    PhysicalLink,
     /// The interface configuration of TCP/IP Interface.
     InterfaceConfiguration,
+    /// A STRING, which is padded to an even size.
+    PaddedString,
     /// Bytes, which are printed in hexadecimal.
     Bytes,
+}
+
+/// What a number of Ethernet Link means.
+#[derive(Clone, Copy)]
+pub(crate) enum Meaning {
+    Speed,
+    Flags,
+    Type,
+    State,
 }
 
 impl Form {
     /// The type of the value. `None` if it has none.
     pub(crate) fn value_type(self) -> Option<ValueType> {
         let (element, is_list) = match self {
-            Form::One(element) => (element, false),
+            Form::One(element) | Form::Meant(element, _) => (element, false),
             Form::List(element) => (element, true),
-            Form::InterfaceConfiguration | Form::Bytes => return None,
+            Form::PaddedString => (ElementaryType::String, false),
+            Form::PhysicalLink | Form::InterfaceConfiguration | Form::Bytes => return None,
         };
         Some(ValueType { element, is_list })
     }
@@ -91,8 +107,9 @@ pub(crate) static INSPECTED: [InspectedObject; 7] = [
                 Form::One(ElementaryType::Dword),
             ),
             (3, "configuration-control", Form::One(ElementaryType::Dword)),
+            (4, "physical-link", Form::PhysicalLink),
             (5, "interface-configuration", Form::InterfaceConfiguration),
-            (6, "host-name", Form::One(ElementaryType::String)),
+            (6, "host-name", Form::PaddedString),
             (13, "inactivity-timeout", Form::One(ElementaryType::Uint)),
         ],
     },
@@ -100,11 +117,27 @@ pub(crate) static INSPECTED: [InspectedObject; 7] = [
         name: "ethernet-link",
         class: 0xf6,
         attributes: &[
-            (1, "interface-speed", Form::One(ElementaryType::Udint)),
-            (2, "interface-flags", Form::One(ElementaryType::Dword)),
+            (
+                1,
+                "interface-speed",
+                Form::Meant(ElementaryType::Udint, Meaning::Speed),
+            ),
+            (
+                2,
+                "interface-flags",
+                Form::Meant(ElementaryType::Dword, Meaning::Flags),
+            ),
             (3, "physical-address", Form::List(ElementaryType::Byte)),
-            (7, "interface-type", Form::One(ElementaryType::Usint)),
-            (8, "interface-state", Form::One(ElementaryType::Usint)),
+            (
+                7,
+                "interface-type",
+                Form::Meant(ElementaryType::Usint, Meaning::Type),
+            ),
+            (
+                8,
+                "interface-state",
+                Form::Meant(ElementaryType::Usint, Meaning::State),
+            ),
             (
                 10,
                 "interface-label",
