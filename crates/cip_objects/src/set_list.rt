@@ -32,6 +32,7 @@ pub(crate) struct ListedSetting<'a> {
 
 impl Objects {
     /// Set_Attribute_List: sets each attribute. The list is read to its end before the first of them is set.
+    #[inline(always)]
     #[tactic(auto, unfolding(crate::specs::SetLists::set_attribute_list))]
     pub(crate) fn set_attribute_list(
         &mut self,
