@@ -288,13 +288,14 @@ pub fn write_ended(alloc: Global, event: &EndedEvent<'_>) -> Result<Vec<u8>, Eve
 pub fn write_reset(alloc: Global, event: &ResetEvent) -> Result<Vec<u8>, EventFault>
     ensures { IsWritten (reset_json event.now) result }
 {
+    let by = Part::MaybeAddress("by", Some(event.by));
     write_line(
         alloc,
         &[
             Part::Open,
             Part::OpenAt("reset"),
             Part::Number("type", u64::from(event.reset_type)),
-            Part::MaybeAddress("by", Some(event.by)),
+            by,
             Part::Close,
             Part::Close,
         ],
