@@ -14,7 +14,7 @@ use Rattle.enip_config.specs.StandardObjects.{standard_object}
 use Rattle.enip_config.proofs.StandardLemmas.{map_last, standard_seen}
 
 pub unread_router : (described : Members) (fault : LoadFault) → IsBad (router_wanted described) fault → IsUnread described fault
-unread_router described fault bad = rw bad.0 (refl, inr (inr (inr (inr (inr (inr (inr (inr (inr bad.1)))))))))
+unread_router described fault bad = rw bad.0 (refl, inr (inr (inr (inr (inr (inr (inr (inr (inr (inr bad.1))))))))))
 
 same_classes : (objects : List ObjectConfig) → map (λ o. o.class) objects ≡ classes_seen (map object_seen objects)
 same_classes [] = refl

@@ -45,11 +45,11 @@ seen_values : (attributes : List AttributeConfig) → map attribute_seen attribu
 seen_values [] = refl
 seen_values (a ∷ attributes) = ap (λ rest. attribute_seen a ∷ rest) (seen_values attributes)
 
-standard_seen : (class : ℕ) (attributes : List AttributeValues) (o : ObjectConfig) → IsStandard class attributes o → object_seen o ≡ standard_object class attributes
+pub standard_seen : (class : ℕ) (attributes : List AttributeValues) (o : ObjectConfig) → IsStandard class attributes o → object_seen o ≡ standard_object class attributes
 standard_seen class attributes o is =
     rw (is.standard, is.of_class, is.first, is.unnamed, is.without_services, is.without_lists, seen_values o.attributes.items, is.with_attributes) refl
 
-map_last : (objects : List ObjectConfig) (o : ObjectConfig) → map object_seen (objects ++ (o ∷ [])) ≡ map object_seen objects ++ (object_seen o ∷ [])
+pub map_last : (objects : List ObjectConfig) (o : ObjectConfig) → map object_seen (objects ++ (o ∷ [])) ≡ map object_seen objects ++ (object_seen o ∷ [])
 map_last [] o = refl
 map_last (x ∷ objects) o = ap (λ rest. object_seen x ∷ rest) (map_last objects o)
 

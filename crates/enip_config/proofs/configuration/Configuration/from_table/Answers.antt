@@ -1,3 +1,7 @@
+use Rattle.std.proofs.Common.{subst}
+use Rattle.toml.specs.View.{table_view}
+use Rattle.cip_application.specs.declared.message_router.MessageRouter.{MessageRouter}
+use Rattle.enip_config.specs.RouterObject.{HasAllObjects}
 use Rattle.enip_config.proofs.NumberLemmas.{each_key}
 use Rattle.enip_config.proofs.configuration.Configuration.from_table.Goals as goal
 
@@ -11,7 +15,7 @@ returns-clause-read c = record {
   queue = c.in_ok-queue.ensures.read;
   enabled = c.in_ok-counter.ensures.read.enabled;
   reset = c.in_ok-reset.ensures.read;
-  objects = c.in_ok-objects.ensures.read;
+  objects = subst (λ (router : MessageRouter). HasAllObjects (table_view c.args.text.now) router c.in_ok-objects.objects.items) c.router_of.ensures c.in_ok-objects.ensures.read;
   shares = c.in_ok-access.ensures.read;
   types = c.in_ok-attribute_types.ensures;
 }
