@@ -334,10 +334,10 @@ each services None h = record { all = tt }
 each services (Some x) h = record { all = h x }
 
 -- those that an object may have
-if_there : {shapes : Shapes} (there : Bool) (services : List AnyService) → KeepAll shapes services
+if_there : (shapes : Shapes) (there : Bool) (services : List AnyService) → KeepAll shapes services
     → KeepAll shapes (if there then services else [])
-if_there true services h = h
-if_there false services h = tt
+if_there shapes true services h = h
+if_there shapes false services h = tt
 
 abbrev not_there : Option (List AnyService)
 not_there = None
@@ -379,7 +379,7 @@ offered_keep shapes class instance =
             member,
             (
               splice,
-              if_there {shapes = shapes} s.lists assembly_list_services (sets, (whole, tt)),
+              if_there shapes s.lists assembly_list_services (sets, (whole, tt)),
             ),
           ),
         ),
@@ -390,7 +390,7 @@ offered_keep shapes class instance =
     (λ is. either (instance == 0) (λ zero. of_class) (either (instance == 1) (λ one. counted is) none))
     (either (instance == 0) (λ is. either (list_any (λ o. o.class == class) shapes.objects) (λ is. of_class) none)
     (each services_of_object (object_at class instance shapes.objects)
-    (λ s. (whole, (list, (single, (set, if_there {shapes = shapes} s.lists object_list_services (sets, tt)))))))))))
+    (λ s. (whole, (list, (single, (set, if_there shapes s.lists object_list_services (sets, tt)))))))))))
 
 picked : {A : Type 0} (P : A → Type 0) (t : Bool) (x s : A) (rest : Option A) → P x → (rest ≡ Some s → P s)
     → (if t then Some x else rest) ≡ Some s → P s
