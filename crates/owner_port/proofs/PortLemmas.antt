@@ -96,7 +96,7 @@ all-unseen [] before = nothing_new before
 all-unseen (write ∷ writes) before =
     let first = written-unseen write before (written_by write before) refl in
     let rest = all-unseen writes (written_by write before) in
-    record { tallies = rest.tallies ∙ first.tallies; next = rest.next ∙ first.next }
+    record { tallies = rest.tallies ∙ first.tallies; resets = rest.resets ∙ first.resets; next = rest.next ∙ first.next }
 
 -- What was seen stays seen after own writes that the port has no part in.
 pub still_seen_after : {W : Type 0} (port : OwnerPort) (writes : List OwnWrite) (before after : ServerState W)
@@ -105,7 +105,8 @@ pub still_seen_after : {W : Type 0} (port : OwnerPort) (writes : List OwnWrite) 
 still_seen_after port writes before after is seen =
     let unseen = subst (λ s. IsUnseen before s) (sym is) (all-unseen writes before) in
     record {
-      counted = subst (λ tallies. AreCounted tallies port.counts.items) (sym unseen.tallies) seen.counted;
+      counted = subst (λ tallies. AreCounted tallies port.counts.sets.items) (sym unseen.tallies) seen.counted;
+      resets = seen.resets ∙ sym unseen.resets;
       next = seen.next ∙ sym unseen.next;
     }
 
