@@ -7,7 +7,7 @@
  */
 #define _POSIX_C_SOURCE 200809L
 #include <arpa/inet.h>
-#include <enip.h>
+#include <enip_types.h>
 #include <errno.h>
 #include <stdio.h>
 #include <stdlib.h>
@@ -18,8 +18,8 @@
 
 enum { SECONDS = 1, RESENDS = 4 };
 
-/* Get_Attributes_All of the Identity object: service, path size in words, class 1, instance 1. */
-static const unsigned char get_identity[] = {0x01, 0x02, 0x20, 0x01, 0x24, 0x01};
+/* The Identity object, and the class of the assemblies, whose attribute 3 are their data. */
+enum { IDENTITY = 1, ASSEMBLY = 4, DATA = 3 };
 
 static enip_client *client;
 static int stream;
@@ -104,24 +104,29 @@ static int submit(const char *what, const unsigned char *request, size_t size) {
     return 1;
 }
 
+/* Prints the reply to Get_Attributes_All of Identity. */
 static void print_identity(void) {
-    int vendor = reply[4] + 256 * reply[5];
-    int product = reply[8] + 256 * reply[9];
-    size_t length = reply[18];
-    if (heard.reply < 19 + length)
+    uint16_t vendor = 0, device_type, product = 0, revision, status;
+    uint32_t serial;
+    uint8_t service, general;
+    const char *name = "";
+    size_t at = 0, length = 0;
+    if (enip_get_reply(reply, heard.reply, &at, &service, &general) || enip_get_uint(reply, heard.reply, &at, &vendor)
+        || enip_get_uint(reply, heard.reply, &at, &device_type) || enip_get_uint(reply, heard.reply, &at, &product)
+        || enip_get_uint(reply, heard.reply, &at, &revision) || enip_get_word(reply, heard.reply, &at, &status)
+        || enip_get_udint(reply, heard.reply, &at, &serial)
+        || enip_get_short_string(reply, heard.reply, &at, &name, &length))
         fail("identity", "the reply is too short");
-    printf("vendor %d, product code %d, name %.*s\n", vendor, product, (int)length, (const char *)reply + 19);
+    printf("vendor %d, product code %d, name %.*s\n", vendor, product, (int)length, name);
 }
 
-/* Writes Set_Attribute_Single of the data of an assembly to request, and returns its size. */
-static size_t set_request(unsigned char *request, int assembly, const char *hex) {
-    const unsigned char start[] = {0x10, 0x03, 0x20, 0x04, 0x24, (unsigned char)assembly, 0x30, 0x03};
-    size_t size = sizeof start;
-    memcpy(request, start, sizeof start);
+/* Writes the request that sets the data of an assembly, and returns its size. */
+static size_t set_request(unsigned char *request, size_t room, uint32_t assembly, const char *hex) {
+    size_t size = 0;
+    enip_request_set(request, room, &size, ASSEMBLY, assembly, DATA);
     for (; hex[0] != '\0' && hex[1] != '\0'; hex += 2) {
         const char byte[] = {hex[0], hex[1], '\0'};
-        request[size] = (unsigned char)strtoul(byte, NULL, 16);
-        size++;
+        enip_set_usint(request, room, &size, (uint8_t)strtoul(byte, NULL, 16));
     }
     return size;
 }
@@ -138,19 +143,9 @@ static void connect_to(const char *address, const char *port) {
 }
 
 int main(int argument_count, char **arguments) {
-    const enip_wants wants = {
-        .originator_vendor = 0x1234,
-        .originator_serial = 0x01020304,
-        .connection_serial = 1,
-        .t_to_o_id = 0x00010001,
-        .rpi = 1000000,
-        .timeout_multiplier = 3,
-        .o_to_t_size = 500,
-        .t_to_o_size = 500,
-        .first_count = 1,
-    };
+    const enip_wants wants = ENIP_WANTS_DEFAULT;
     unsigned char request[512];
-    size_t size;
+    size_t size = 0;
     int status, is_set;
     if (argument_count != 5 || strlen(arguments[4]) > 800) {
         fprintf(stderr, "usage: read ADDRESS PORT ASSEMBLY HEX\n");
@@ -162,12 +157,12 @@ int main(int argument_count, char **arguments) {
         fail_with("new", ENIP_OF_CALL, (uint32_t)status);
 
     exchange("register", enip_client_register(client, frame, sizeof frame, &count));
-    exchange("identity",
-             enip_client_ask(client, get_identity, sizeof get_identity, frame, sizeof frame, &count));
+    enip_request_service(request, sizeof request, &size, ENIP_GET_ATTRIBUTES_ALL, IDENTITY, 1);
+    exchange("identity", enip_client_ask(client, request, size, frame, sizeof frame, &count));
     print_identity();
 
     exchange("open", enip_client_open(client, frame, sizeof frame, &count));
-    size = set_request(request, atoi(arguments[3]), arguments[4]);
+    size = set_request(request, sizeof request, (uint32_t)atoi(arguments[3]), arguments[4]);
     is_set = submit("set", request, size);
     exchange("close", enip_client_close(client, frame, sizeof frame, &count));
     send_frame("unregister", enip_client_unregister(client, frame, sizeof frame, &count));

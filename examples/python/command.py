@@ -1,6 +1,7 @@
 """Gives a command to a device with a command ledger, and repeats it until the device answers. The device executes it
-once. If this program is killed, the same line continues. Copy it with enip.py, which says what FILE holds.
+once. If this program is killed, the same line continues. `Commander` of the module `enip` says what FILE holds.
 
+    pip install ./library/python
     python3 command.py 127.0.0.1 44818 FILE                         adds 1 to the counter
     python3 command.py 127.0.0.1 44818 FILE 32022064240105000000    any request: this one adds 5
 """

@@ -300,8 +300,8 @@ ENIP_API int enip_adapter_write_attribute(enip_adapter *adapter, uint16_t class_
 ENIP_API int enip_adapter_changes(const enip_adapter *adapter, uint32_t instance, uint32_t *changes);
 
 /*
- * Does the same for an attribute of an application object, or the data of an assembly (class 4, attribute 3). The set
- * of a checked attribute counts if the owner accepted it.
+ * Gives the number of times that peers have set an attribute of an application object, or written the data of an
+ * assembly (class 4, attribute 3), in the same way. The set of a checked attribute counts if the owner accepted it.
  * ENIP_OK; ENIP_ABSENT if there is no such attribute; ENIP_MISUSE.
  */
 ENIP_API int enip_adapter_attribute_changes(const enip_adapter *adapter, uint16_t class_code, uint32_t instance,
@@ -421,7 +421,7 @@ typedef struct enip_ended {
  */
 ENIP_API int enip_endings_new(enip_endings **endings);
 
-/* Frees it. If endings is NULL, does nothing. ENIP_OK, ENIP_MISUSE. */
+/* Frees the object. If endings is NULL, does nothing. ENIP_OK, ENIP_MISUSE. */
 ENIP_API int enip_endings_free(enip_endings *endings);
 
 /*
@@ -581,14 +581,14 @@ typedef struct enip_outcome {
 ENIP_API int enip_once_new(uint64_t life, uint64_t originator, uint32_t last_number, enip_once **once);
 
 /*
- * The same from values that you stored while a command was pending: last_number is its number, and request, of length
- * bytes, what enip_once_request gave. The command is pending again, with the same message.
+ * Makes the originator's end from values that you stored while a command was pending: last_number is its number, and
+ * request, of length bytes, what enip_once_request gave. The command is pending again, with the same message.
  * ENIP_OK; ENIP_REQUEST, ENIP_LONG_REQUEST if no command can have this request; ENIP_MEMORY; ENIP_MISUSE.
  */
 ENIP_API int enip_once_resume(uint64_t life, uint64_t originator, uint32_t last_number, const void *request,
                               size_t length, enip_once **once);
 
-/* Frees it. If once is NULL, does nothing. ENIP_OK, ENIP_MISUSE. */
+/* Frees the object. If once is NULL, does nothing. ENIP_OK, ENIP_MISUSE. */
 ENIP_API int enip_once_free(enip_once *once);
 
 /*

@@ -95,6 +95,12 @@ class Applications:
         check(not shape["checked"], DEVICE_STATE)
         self.values[kind, instance, attribute] = data
 
+    def reset(self):
+        """Each settable attribute gets its first value, checked or not."""
+        for key, one in self.objects.items():
+            first = {(*key, shape["number"]): shape["value"] for shape in one["attributes"] if shape["settable"]}
+            self.values.update(first)
+
     def own_service(self, kind, instance, service, data, room):
         """A service of the object's own. The owner executes it, and there is none."""
         shape = next(one for one in self.objects[kind, instance]["services"] if one["number"] == service)

@@ -29,9 +29,10 @@ def read_only(place, value):
 
 
 def interface(table):
-    """The TCP/IP Interface of a table."""
+    """The TCP/IP Interface of a table. One that names an interface of the system has zeros until `enip serve` reads them."""
     servers = table.get("name_servers", [])
-    addresses = [table["address"], table["mask"], table.get("gateway", NO_ADDRESS), *servers, *[NO_ADDRESS] * (2 - len(servers))]
+    own = [table.get(key, NO_ADDRESS) for key in ("address", "mask", "gateway")]
+    addresses = [*own, *servers, *[NO_ADDRESS] * (2 - len(servers))]
     timeout = {
         "number": 13, "settable": True, "checked": False, "type": "UINT", "count": 1, "size": 2, "max": LONGEST_TIMEOUT,
         "value": number(2, table.get("inactivity_timeout", 120)),
@@ -86,8 +87,14 @@ class Networking:
         """The table without some of its keys."""
         return {key: value for key, value in table.items() if self.seldom(0.7)}
 
+    def interface_name(self):
+        return "".join(self.random.choices("!abz.09;~", k=self.pick(3, 4, 15)))
+
     def interface_table(self):
-        return {"address": self.bytes_of(4), "mask": self.bytes_of(4)} | self.some_keys({
+        own = {"address": self.bytes_of(4), "mask": self.bytes_of(4)}
+        if self.seldom(0.3):
+            own = {"interface": self.interface_name()}
+        return own | self.some_keys({
             "gateway": self.bytes_of(4), "name_servers": [self.bytes_of(4) for _ in range(self.random.randrange(3))],
             "domain": self.some_text(48), "host": self.some_text(64),
             "inactivity_timeout": self.pick(0, 1, 119, 121, LONGEST_TIMEOUT, self.random.randint(0, LONGEST_TIMEOUT)),
@@ -95,10 +102,13 @@ class Networking:
 
     def link_table(self):
         below = self.random.randrange
-        return self.some_keys({
+        own = self.some_keys({
             "speed": self.pick(0, 10, 1000, below(2**32), 2**32 - 1), "flags": below(2**32), "physical_address": self.bytes_of(6),
-            "type": below(256), "state": below(256), "label": self.some_text(64),
+            "state": below(256),
         })
+        if self.seldom(0.3):
+            own = {"interface": self.interface_name()}
+        return own | self.some_keys({"type": below(256), "label": self.some_text(64)})
 
     def networks(self):
         """The objects of the tables, or of one of them, or none."""

@@ -3,7 +3,7 @@ import struct
 
 from reading.protocol import (
     ADD, ASSEMBLY, ATTRIBUTE, CLEAR, CONNECTION_MANAGER, COUNTER, DESTINATION, DEVICE_STATE, GET, GET_ALL, GET_LIST, GET_MEMBER,
-    IDENTITY, LIST, MEMBER, NOT_SETTABLE, PARAMETER, SERVICE, SET, SET_LIST, SET_MEMBER, SHORT, TOO_LARGE, VALUE, check,
+    IDENTITY, LIST, MEMBER, NOT_SETTABLE, PARAMETER, RESET, SERVICE, SET, SET_LIST, SET_MEMBER, SHORT, TOO_LARGE, VALUE, check,
     check_length, number, Refusal, request_of,
 )
 from reading.applications import Applications
@@ -60,7 +60,7 @@ class Objects:
             return self.applications.services(kind, instance)
         services = {
             (IDENTITY, 0): [GET], (ASSEMBLY, 0): [GET], (COUNTER, 0): [GET], (CONNECTION_MANAGER, 1): [],
-            (IDENTITY, 1): [GET_ALL, GET_LIST, GET], (COUNTER, 1): [GET_LIST, GET, SET, ADD, CLEAR],
+            (IDENTITY, 1): [GET_ALL, GET_LIST, GET] + [RESET] * self.config.get("reset", False), (COUNTER, 1): [GET_LIST, GET, SET, ADD, CLEAR],
         }.get((kind, instance))
         return services if services is not None else self.applications.services(kind, instance)
 
@@ -120,6 +120,8 @@ class Objects:
         if own and service not in (GET_ALL, GET_LIST, SET_LIST, GET, SET):
             check(not self.within, SERVICE)
             self.applications.own_service(kind, instance, service, data, room)
+        if service == RESET:
+            return 0, self.reset(data)
         if service == GET_ALL:
             check_length(data, 0)
             if own:
@@ -147,6 +149,17 @@ class Objects:
             self.applications.set(kind, instance, path["attribute"], data, NOT_SETTABLE if self.within else DEVICE_STATE)
             return 0, b""
         return 0, self.set(kind, instance, path["attribute"], len(value), data)
+
+    def reset(self, data):
+        """What peers can change gets its first value, by type 1. Type 0 changes nothing. Neither is within a packet."""
+        check(not self.within, SERVICE)
+        check(data in (b"", b"\0", b"\1"), PARAMETER)
+        if data == b"\1":
+            self.value, self.limit, self.additions = self.config["value"], self.config["limit"], 0
+            settable = {place: one for place, one in self.assemblies.items() if one["settable"]}
+            self.contents.update((place, bytes(sum(one["members"]))) for place, one in settable.items())
+            self.applications.reset()
+        return b""
 
     def set_all(self, kind, instance, data):
         """Sets one attribute after another. A refused one changes nothing, and the next is set."""

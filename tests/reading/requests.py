@@ -3,7 +3,7 @@ import random
 
 from reading.protocol import (
     ADD, ASSEMBLY, CLEAR, CONNECTION_MANAGER, COUNTER, DEFAULTS, FORWARD_CLOSE, FORWARD_OPEN, GET, GET_ALL, GET_LIST,
-    GET_MEMBER, IDENTITY, LARGE_FORWARD_OPEN, LARGEST_ASSEMBLY, LAST, LEDGER, ORDER, SEGMENTS, SET, SET_LIST, SET_MEMBER,
+    GET_MEMBER, IDENTITY, LARGE_FORWARD_OPEN, LARGEST_ASSEMBLY, LAST, LEDGER, ORDER, RESET, SEGMENTS, SET, SET_LIST, SET_MEMBER,
     number,
 )
 from reading.applications import Describing
@@ -63,7 +63,7 @@ class Configurations(Chooser, Describing, Networking):
             "first_handle": self.first(), "first_id": self.first(), "limit": limit, "value": below(limit + 1),
             "assemblies": [self.assembly(instance) for instance in instances], "ledger": self.ledger(),
         }
-        config["has_counter"] = not self.seldom(0.1)
+        config["has_counter"], config["reset"] = not self.seldom(0.1), self.seldom(0.3)
         config["objects"] = self.own_objects(config["has_counter"]) + self.networks()
         omitted = [key for key in DEFAULTS if self.seldom(0.15)]
         omitted += ["value"] if "limit" not in omitted and self.seldom(0.2) else []
@@ -144,6 +144,9 @@ class Requests(Configurations, Packing):
             segments = {GET: 3, SET: 3, GET_ALL: 2, SET_LIST: 2}.get(service, 4)
             path, data = self.right_path(*values[:segments]), self.random.randbytes(size)
             data = self.settings(one) if service == SET_LIST else data
+        elif config.get("reset") and self.seldom(0.15):
+            service, path = RESET, self.right_path(IDENTITY, 1, *[1] * self.seldom())
+            data = self.pick(b"", b"\0", b"\1", b"\1", b"\1", b"\2", b"\1\0", b"\0\0")
         elif self.seldom(0.2):
             service, path, data = GET_ALL, self.right_path(IDENTITY, 1), b""
         elif self.cleared and self.seldom(0.5):

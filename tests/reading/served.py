@@ -30,6 +30,8 @@ class Served(Conversation):
     def config(self):
         """A configuration for several peers, without an owner, and with shares. Few have no handle left at once."""
         config = super().config()
+        # a Reset would end all peers
+        config["reset"] = False
         config["peers"] = self.pick(2, 3, 4, 6, 9)
         config["first_handle"] = self.pick(1, 1, 2**16, config["first_handle"])
         config["omitted"] = [key for key in config["omitted"] if key not in ("peers", "first_handle")]

@@ -3,12 +3,13 @@
 ghost use Rattle.std.specs.Prelude.{◌≡◌};
 
 use clap::ArgMatches;
+use config_explained::explain;
 use config_refusal::{ConfigurationRefusal, LoadFault};
 use enip_cli::OsArg;
 use enip_common::{
     CommandError, ConfigurationReason, Fault, NamedFile, NamedReason, Reason, owner_need,
 };
-use enip_config::{Configuration, explain};
+use enip_config::Configuration;
 use enip_faults::ProgramFault;
 use std::alloc::Global;
 

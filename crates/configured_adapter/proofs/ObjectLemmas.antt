@@ -6,7 +6,9 @@ use Rattle.cip_objects.specs.Configuration.{fault_of}
 use Rattle.enip_config.specs.declared.configuration.Configuration.{Configuration}
 use Rattle.config_refusal.specs.declared.fault.LoadFault.{LoadFault}
 use Rattle.config_refusal.specs.Refusals.{fault_of_objects}
-use Rattle.enip_config.specs.Documents.{IsDescribed, IsFaultOf}
+use Rattle.enip_config.specs.declared.key.NumberKey.TheVariants.{Peers, Connections, FirstHandle, FirstId}
+use Rattle.enip_config.specs.Documents.{IsDescribed, IsFaultOf, IsInRange}
+use Rattle.configured_adapter.specs.Configured.{AreLimits, limits_of}
 
 -- The objects accept what was read: only memory can fail.
 pub objects_fail : {T U : Type 0} (text : List ℕ) (described : Configuration) (r : Result T ConfigFault) (check : ConfigFault) (returned : Result U LoadFault)
@@ -16,3 +18,14 @@ objects_fail text described r check (Ok x) read allowed is gives = tt
 objects_fail text described r check (Err fault) read allowed is gives =
     let none : check ≡ Memory = subst (λ s. IfErr s (λ f. f ≡ Memory)) is (allowed read.listed.taken) in
     rw (gives.1, none) tt
+
+-- The limits of a configuration that was read.
+pub limits_by : (c : Configuration) → IsInRange c → AreLimits (limits_of c)
+limits_by c in_range = record {
+  peers_from = (in_range Peers).0;
+  peers_to = (in_range Peers).1;
+  connections_from = (in_range Connections).0;
+  connections_to = (in_range Connections).1;
+  handle = (in_range FirstHandle).0;
+  id = (in_range FirstId).0;
+}

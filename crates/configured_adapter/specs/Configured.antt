@@ -1,5 +1,5 @@
 -- The adapter of a configuration.
-use Rattle.std.specs.Prelude.{◌≡◌, ℕ, List, Option, None, Some, option_map, if◌then◌else◌}
+use Rattle.std.specs.Prelude.{◌≡◌, ◌≤◌, ℕ, List, Option, None, Some, option_map, if◌then◌else◌}
 use Rattle.cip_ledger.specs.Device.{Device, queued_device, with_reset}
 use Rattle.cip_ledger.specs.Ledger.{LedgerState, empty_ledger}
 use Rattle.cip_objects.specs.Configuration.{contents_of_config}
@@ -30,6 +30,15 @@ limits_of c = record {
   first_handle = c.first_handle;
   first_id = c.first_id;
 }
+
+-- so many peers and connections an adapter can have, and numbers begin at 1
+pub record AreLimits (l : Limits) : Type 0 where
+  pub peers_from : 1 ≤ l.peers
+  pub peers_to : l.peers ≤ 16
+  pub connections_from : 1 ≤ l.connections
+  pub connections_to : l.connections ≤ 64
+  pub handle : 1 ≤ l.first_handle
+  pub id : 1 ≤ l.first_id
 
 -- how much one address may hold: without the table `access`, as much as there is
 abbrev pub shares_from : Option Access → Shares

@@ -4,7 +4,7 @@
 ghost use Rattle.std.specs.Prelude.{◌≡◌, ◌≤◌, IfOk, IfErr, IfSome};
 ghost use Rattle.cip_ledger.specs.Device.{queued_device, with_reset};
 ghost use Rattle.enip_adapter.specs.Adapter.{shared_adapter};
-ghost use Rattle.configured_adapter.specs.Configured.{IsAccepted, IsAdapterInLife, IsAdapterOf, IsUnsharedAdapterOf, in_life, ledger_from};
+ghost use Rattle.configured_adapter.specs.Configured.{IsAccepted, IsAdapterInLife, IsAdapterOf, IsUnsharedAdapterOf, AreLimits, in_life, ledger_from};
 ghost use Rattle.configured_adapter.specs.Configured.{queue_from, limits_of, listen_of, reset_from, shares_from};
 ghost use Rattle.enip_config.specs.Commands.{queue_limit};
 ghost use Rattle.enip_config.specs.Access.{HasShares};
@@ -24,6 +24,7 @@ use std::alloc::{AllocError, Global};
 ///
 /// `LoadFault::Refused` if `Configuration::from_bytes` refuses the configuration, with the first check that fails.
 /// `LoadFault::Memory` if memory is refused.
+#[tactic(auto, using(crate::proofs::ObjectLemmas::limits_by))]
 pub fn adapter_from(alloc: Global, config: &[u8]) -> Result<Adapter, LoadFault>
     ensures made { IfOk result (IsAdapterOf config.now) }
     ensures accepted { IfOk result (λ _. IsAccepted config.now) }
@@ -41,6 +42,7 @@ pub fn adapter_from(alloc: Global, config: &[u8]) -> Result<Adapter, LoadFault>
 /// # Errors
 ///
 /// As `adapter_from`.
+#[tactic(auto, using(crate::proofs::ObjectLemmas::limits_by))]
 pub fn unshared_adapter_from(alloc: Global, config: &[u8]) -> Result<Adapter, LoadFault>
     ensures made { IfOk result (IsUnsharedAdapterOf config.now) }
     ensures accepted { IfOk result (λ _. IsAccepted config.now) }
@@ -59,6 +61,7 @@ pub fn unshared_adapter_from(alloc: Global, config: &[u8]) -> Result<Adapter, Lo
 /// # Errors
 ///
 /// As `adapter_from`.
+#[tactic(auto, using(crate::proofs::ObjectLemmas::limits_by))]
 pub fn adapter_in_life(alloc: Global, config: &[u8], life: u64) -> Result<Adapter, LoadFault>
     ensures made { IfOk result (IsAdapterInLife life config.now) }
     ensures accepted { IfOk result (λ _. IsAccepted config.now) }
@@ -85,17 +88,31 @@ fn in_life(life: u64, ledger: Option<LedgerConfig>) -> Option<LedgerConfig>
     }
 }
 
-/// Makes the adapter of a configuration, over its objects, with a ledger before them if there is one, with a queue if a
-/// service is queued, and with these shares. It can be reset if the configuration says so.
-fn adapter_of(
+/// Makes the adapter of a configuration over objects, which are those of the configuration. It has a ledger before them if
+/// there is one, a queue if a service is queued, and these shares. It can be reset if the configuration says so.
+///
+/// The configuration may have changed since it was read, as far as its numbers are still in range.
+///
+/// # Errors
+///
+/// `AllocError` if memory is refused.
+///
+/// ```
+/// let mut configuration = Configuration::from_bytes(alloc, text)?;
+/// configuration.objects.serial = serial_of_this_device;
+/// let objects = Objects::new(alloc, &configuration.objects)?;
+/// let shares = shares_from(&configuration.access);
+/// let adapter = adapter_of(alloc, objects, &configuration, configuration.ledger, shares)?;
+/// ```
+pub fn adapter_of(
     alloc: Global,
     objects: Objects,
     configuration: &Configuration,
     ledger: Option<LedgerConfig>,
     shares: Shares,
 ) -> Result<Adapter, AllocError>
-    requires numbers { IsInRange configuration.now }
-    requires queue { IsQueueInRange configuration.now }
+    requires limits { AreLimits (limits_of configuration.now) }
+    requires queue { IfSome (queue_limit configuration.now) (λ n. (1 ≤ n) × (n ≤ 256)) }
     requires peers_from { 1 ≤ shares.peers }
     requires peers_to { shares.peers ≤ 16 }
     requires connections_from { 1 ≤ shares.connections }

@@ -8,7 +8,7 @@ use cip_names::{ClassText, ServiceText};
 use cip_objects::{AssemblyConfig, Config};
 use cip_values::{ElementaryType, ValueType, ValuesText, read_values};
 use enip_access::{Access, Permission, PrefixList, address_number};
-use enip_config::{AttributeType, Configuration, LedgerConfig};
+use enip_config::{AttributeType, Configuration, LedgerConfig, NamedInterfaces};
 use std::alloc::Global;
 use std::io::{self, BufWriter, Write};
 use std::net::IpAddr;
@@ -44,6 +44,7 @@ fn print_lines<W: Write>(
         print_assembly(output, assembly)?;
     }
     print_objects(alloc, output, configuration)?;
+    print_interfaces(output, &configuration.interfaces)?;
     if let Some(ledger) = configuration.ledger {
         print_ledger(output, ledger)?;
     }
@@ -71,6 +72,23 @@ fn print_objects<W: Write>(
     }
     for object in objects.iter().skip(types.len()) {
         print_standard_object(alloc, output, object)?;
+    }
+    Ok(())
+}
+
+/// Prints which values are read from interfaces of the computer.
+fn print_interfaces<W: Write>(output: &mut W, interfaces: &NamedInterfaces) -> io::Result<()> {
+    if let Some(name) = &interfaces.tcp_ip {
+        writeln!(
+            output,
+            "TCP/IP Interface: the address of {name} when the device starts"
+        )?;
+    }
+    if let Some(name) = &interfaces.ethernet_link {
+        writeln!(
+            output,
+            "Ethernet Link: the state of {name} when the device starts"
+        )?;
     }
     Ok(())
 }

@@ -77,7 +77,7 @@ impl KeptValues {
     }
 }
 
-/// A value in the file of this name is not used, because the configuration does not describe it.
+/// A value in the file of this name is not used, because the configuration does not describe it, or peers can only read it.
 #[derive(Clone, Copy)]
 struct NotUsed<'a>(&'a str, EntryName);
 
@@ -86,7 +86,7 @@ impl fmt::Display for NotUsed<'_> {
         let (file, value) = (self.0, self.1);
         write!(
             f,
-            "{file}: {value} is not used: the configuration has none, or one of another size"
+            "{file}: {value} is not used: the configuration has none that is kept, or one of another size"
         )
     }
 }

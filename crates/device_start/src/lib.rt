@@ -1,7 +1,8 @@
 //! What a served device starts from: its configuration, and FILE of `--keep`.
 //!
-//! - [`adapter_of`] is the adapter of a configuration that keeps nothing, and [`adapter_start`] what the adapter of one that
+//! - [`first_adapter`] is the adapter of a configuration that keeps nothing, and [`adapter_start`] what the adapter of one that
 //!   keeps its state starts from.
+//! - [`fill_from_system`] puts in the values that the configuration leaves to network interfaces of this computer.
 //! - A [`KeptFile`] is FILE: how it is opened, and why it is refused. [`start_kept`] starts a device from it, and
 //!   [`print_kept_values`] prints what it has.
 //! - A [`ReportedAddress`] is where discovery reports the device, compared with where it listens.
@@ -13,9 +14,11 @@ mod kept_start;
 mod kept_values;
 mod reported_address;
 mod start;
+mod system;
 
 pub use kept_file::{FileNote, FileRows, KeptFile, OpenFile};
 pub use kept_start::{print_kept_values, start_kept};
 pub use kept_values::KeptValues;
 pub use reported_address::{Elsewhere, ReportedAddress, listen_of, warn_of_address};
-pub use start::{adapter_of, adapter_start};
+pub use start::{adapter_start, first_adapter};
+pub use system::fill_from_system;

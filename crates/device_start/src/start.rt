@@ -1,44 +1,75 @@
 //! What a device starts from: the adapter of its configuration.
 
 ghost use Rattle.std.specs.Prelude.{◌≡◌, ◌≤◌, IfSome, IsTrue};
-ghost use Rattle.configured_adapter.specs.Configured.{shares_from};
+ghost use Rattle.configured_adapter.specs.Configured.{AreLimits, limits_of, shares_from};
+ghost use Rattle.enip_config.specs.Commands.{queue_limit};
 
-use cip_owner::Resetting;
+use cip_objects::Objects;
 use config_file::ConfigFile;
 use config_refusal::LoadFault;
-use configured_adapter::{adapter_from, adapter_in_life};
+use configured_adapter::adapter_of;
 use enip_access::Access;
 use enip_adapter::{Adapter, Limits, Listen, Shares};
 use enip_common::{CLOCK, CommandError, NamedReason, Reason};
-use enip_config::Configuration;
+use enip_config::{Configuration, LedgerConfig};
 use enip_server::NO_IDLE_TIMEOUT;
 use kept_adapter::{AdapterStart, LedgerStart};
 use std::time::UNIX_EPOCH;
 
-/// The adapter of a configuration. A command ledger gets another life with each start, because it is empty then. A Reset puts
-/// the first values of `configuration` back, which may have other ones than the file because of `--idle`.
-pub fn adapter_of<'a>(
+/// The adapter of a configuration, whose objects may have other values than the file: those of `--idle` and of interfaces.
+/// A command ledger gets another life with each start, because it is empty then.
+pub fn first_adapter<'a>(
     rt: &HostRuntime,
     config: &ConfigFile<'a>,
     configuration: &Configuration,
 ) -> Result<Adapter, CommandError<'a>> {
-    let loaded = match configuration.ledger {
-        None => adapter_from(rt.alloc(), config.bytes()),
-        Some(_) => adapter_in_life(rt.alloc(), config.bytes(), life_now(rt)?),
+    let ledger = match configuration.ledger {
+        None => None,
+        Some(ledger) => Some(LedgerConfig {
+            originators: ledger.originators,
+            life: life_now(rt)?,
+        }),
     };
-    let mut adapter = match loaded {
-        Ok(adapter) => adapter,
-        Err(fault) => return Err(config.refused(rt.alloc(), fault)),
+    let objects = match Objects::new(rt.alloc(), &configuration.objects) {
+        Ok(objects) => objects,
+        Err(check) => return Err(config.refused(rt.alloc(), LoadFault::from(check))),
     };
-    if !configuration.reset {
-        return Ok(adapter);
+    let shares = shares_from(&configuration.access);
+    if !can_be_made(configuration, ledger, shares) {
+        return Err(CommandError::of_reason(Reason::Named(config.name(), NamedReason::Failed)));
     }
-    match Resetting::new(rt.alloc(), &configuration.objects) {
-        Ok(resetting) => {
-            adapter.allow_reset(resetting);
-            Ok(adapter)
-        }
-        Err(check) => Err(config.refused(rt.alloc(), LoadFault::from(check))),
+    let adapter = adapter_of(rt.alloc(), objects, configuration, ledger, shares)?;
+    Ok(adapter)
+}
+
+/// Whether an adapter can have the limits of a configuration, so many waiting commands, such a ledger and such shares. A
+/// configuration that was accepted has no others.
+fn can_be_made(configuration: &Configuration, ledger: Option<LedgerConfig>, shares: Shares) -> bool
+    ensures limits { IsTrue result → AreLimits (limits_of configuration.now) }
+    ensures queue { IsTrue result → IfSome (queue_limit configuration.now) (λ n. (1 ≤ n) × (n ≤ 256)) }
+    ensures ledger { IsTrue result → IfSome ledger (λ l. (1 ≤ l.originators) × (l.originators ≤ 64)) }
+    ensures peers { IsTrue result → (1 ≤ shares.peers) × (shares.peers ≤ 16) }
+    ensures connections { IsTrue result → (1 ≤ shares.connections) × (shares.connections ≤ 64) }
+{
+    let has_slots = match ledger {
+        Some(ledger) => 1 <= ledger.originators && ledger.originators <= 64,
+        None => true,
+    };
+    has_slots
+        && are_in_range(limits_of(configuration), None)
+        && is_queue(configuration.queue_limit())
+        && are_shares(shares)
+}
+
+/// How many peers and connections the adapter of a configuration has, and its first numbers.
+fn limits_of(configuration: &Configuration) -> Limits
+    ensures { result ≡ limits_of configuration.now }
+{
+    Limits {
+        peers: configuration.peers,
+        connections: configuration.connections,
+        first_handle: configuration.first_handle,
+        first_id: configuration.first_id,
     }
 }
 
@@ -90,18 +121,20 @@ fn start_of(
     idle_timeout: u64,
 ) -> Option<AdapterStart> {
     let queue = configuration.queue_limit();
+    let limits = limits_of(&configuration);
     let Configuration {
         mut objects,
         reset,
         address,
         port,
-        peers,
-        connections,
-        first_handle,
-        first_id,
+        peers: _,
+        connections: _,
+        first_handle: _,
+        first_id: _,
         ledger,
         queue: _,
         access: _,
+        interfaces: _,
         attribute_types: _,
     } = configuration;
     objects
@@ -114,12 +147,6 @@ fn start_of(
         originators: ledger.originators,
         life,
     });
-    let limits = Limits {
-        peers,
-        connections,
-        first_handle,
-        first_id,
-    };
     let is_accepted = objects.fault().is_none() && is_queue(queue);
     if !is_accepted || !are_in_range(limits, ledger) || !are_shares(shares) {
         return None;

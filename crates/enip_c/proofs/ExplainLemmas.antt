@@ -1,9 +1,9 @@
 -- What is printed for C, and why.
 use Rattle.std.proofs.Common.{◌≡◌, ℕ, List, Some, inl, inr}
 use Rattle.enip_config.specs.Documents.{IsDescribed}
-use Rattle.enip_config.specs.Explained.{IsExplained}
+use Rattle.config_explained.specs.Explained.{IsExplained}
 use Rattle.enip_config.specs.declared.configuration.Configuration.{Configuration}
-use Rattle.enip_config.specs.declared.explanation.Explanation.{Explanation}
+use Rattle.config_explained.specs.declared.explanation.Explanation.{Explanation}
 use Rattle.enip_c.specs.ExplainCalls.{IsExplainOutcome, IsPrinted, IsReason, first_queued}
 use Rattle.enip_c.specs.declared.explained.ExplainOutcome.{ExplainOutcome}
 use Rattle.enip_c.specs.declared.explained.ExplainOutcome.TheVariants.{Accepted, Written, Room, Memory}

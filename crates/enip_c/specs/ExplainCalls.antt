@@ -4,9 +4,9 @@ use Rattle.cip_application.specs.declared.config.ObjectConfig.{ObjectConfig}
 use Rattle.cip_application.specs.declared.config.ServiceConfig.{ServiceConfig}
 use Rattle.enip_config.specs.Commands.{is_queued}
 use Rattle.enip_config.specs.Documents.{IsDescribed}
-use Rattle.enip_config.specs.Explained.{IsExplained}
+use Rattle.config_explained.specs.Explained.{IsExplained}
 use Rattle.enip_config.specs.declared.configuration.Configuration.{Configuration}
-use Rattle.enip_config.specs.declared.explanation.Explanation.{Explanation}
+use Rattle.config_explained.specs.declared.explanation.Explanation.{Explanation}
 use Rattle.enip_c.specs.Buffer.{in_buffer}
 use Rattle.enip_c.specs.declared.explained.ExplainOutcome.{ExplainOutcome}
 use Rattle.enip_c.specs.declared.explained.ExplainOutcome.TheVariants.{Accepted, Written, Room, Memory}

@@ -5,7 +5,8 @@ ghost use Rattle.enip_c.specs.ExplainCalls.{explained_count, IsPrinted, IsExplai
 
 use crate::buffer::copy_front;
 use crate::queued_service::first_queued;
-use enip_config::{Configuration, explain};
+use config_explained::explain;
+use enip_config::Configuration;
 use std::alloc::Global;
 use std::fmt::Display;
 

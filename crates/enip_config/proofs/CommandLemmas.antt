@@ -6,7 +6,8 @@ use Rattle.cip_application.specs.declared.config.ServiceConfig.{ServiceConfig}
 use Rattle.enip_config.specs.declared.configuration.Configuration.{Configuration}
 use Rattle.config_refusal.specs.declared.fault.LoadFault.{LoadFault}
 use Rattle.enip_config.specs.Commands.{is_queued, is_queued_kind, has_queued, queue_limit}
-use Rattle.enip_config.specs.Documents.{IsBadOrMemory, IsQueueInRange}
+use Rattle.attribute_types.specs.Values.{IsBadOrMemory}
+use Rattle.enip_config.specs.Documents.{IsQueueInRange}
 use Rattle.enip_config.specs.Objects.{ServiceSeen, service_seen, get_result, with_result}
 
 -- a service is seen as queued if it is

@@ -1,21 +1,11 @@
 use Rattle.std.proofs.Common.{◌≡◌, ℕ, List, [], ◌∷◌, Bool, true, false, not, ◌||◌, ◌↔◌, IsTrue, length, String, Vec, BTreeMap, Global, refl, ap, ◌∙◌, arith}
-use Rattle.std.specs.Str.{bytes_eq}
 use Rattle.std.specs.List.{list_any}
-use Rattle.std.proofs.lemmas.Slice.Eq.{bytes_eq-Decides}
 use Rattle.std.proofs.lemmas.Bool.{false≢true}
 use Rattle.toml.specs.Data.{table}
 use Rattle.toml.specs.View.{view, items_view, members_view}
 use Rattle.toml.proofs.Views.{Entry, view-Array, view-Table}
 use Rattle.toml.specs.declared.value.Value.{Value, Array, Table}
 use Rattle.enip_config.specs.Known.{has_key, any_has_key, has_other_keys, any_has_other_keys, has_other_keys_within, object_has_other_keys, any_object_has_other_keys, has_other_keys_in_objects}
-
-not_true : (b : Bool) → (b ≡ true → ⊥) → b ≡ false
-not_true true never = absurd (never refl)
-not_true false never = refl
-
--- Different texts compare as different.
-pub not_same : (k l : List ℕ) → (k ≡ l → ⊥) → bytes_eq k l ≡ false
-not_same k l differ = not_true (bytes_eq k l) (λ same. differ ((bytes_eq-Decides k l).0 same))
 
 -- The values of an array, seen as data.
 pub any_key : (vs : List Value) → list_any (λ v. has_key (view v)) vs ≡ any_has_key (items_view vs)

@@ -1,7 +1,6 @@
 pub mod KeyLemmas
 pub mod ListLemmas
 pub mod ValueLemmas
-pub mod TypeLemmas
 pub mod CommandLemmas
 pub mod Rows
 pub mod Refused
@@ -10,3 +9,4 @@ pub mod ShareLemmas
 pub mod NumberLemmas
 pub mod StandardLemmas
 pub mod RouterLemmas
+pub mod InterfaceLemmas

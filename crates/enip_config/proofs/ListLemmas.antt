@@ -13,7 +13,8 @@ use Rattle.enip_config.specs.declared.configuration.Configuration.{Configuration
 use Rattle.config_refusal.specs.declared.fault.LoadFault.{LoadFault}
 use Rattle.enip_config.specs.declared.key.NumberKey.{NumberKey}
 use Rattle.enip_config.specs.declared.key.NumberKey.TheVariants.{Vendor, DeviceType, ProductCode, Major, Minor, Serial, Status, State, Port, Peers, Connections, FirstHandle, FirstId, CounterValue, CounterLimit}
-use Rattle.enip_config.specs.Keys.{each, read_or}
+use Rattle.attribute_types.specs.Values.{read_or}
+use Rattle.enip_config.specs.Keys.{each}
 use Rattle.enip_config.specs.Access.{few, rule_in, shares_in, shares_seen, lists_of, IsBadList}
 use Rattle.enip_config.specs.Documents.{number_in, HasValues, IsKnown, IsFaultOf}
 
@@ -59,6 +60,7 @@ with_access described c access values same = record {
   reset = values.reset;
   objects = values.objects;
   shares = values.shares ∙ ap Some (sym same);
+  interfaces = values.interfaces;
   types = values.types;
 }
 

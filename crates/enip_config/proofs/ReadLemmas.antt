@@ -11,7 +11,8 @@ use Rattle.config_refusal.specs.declared.fault.LoadFault.{LoadFault}
 use Rattle.enip_config.specs.declared.ledger.LedgerConfig.{LedgerConfig}
 use Rattle.config_refusal.specs.declared.fault.ConfigurationRefusal.TheVariants.{Commands}
 use Rattle.config_refusal.specs.declared.fault.LoadFault.TheVariants.{Refused}
-use Rattle.enip_config.specs.Keys.{originators_row, life_row, number_by, read_or, ledger_in, queue_in}
+use Rattle.attribute_types.specs.Values.{read_or}
+use Rattle.enip_config.specs.Keys.{originators_row, life_row, number_by, ledger_in, queue_in}
 use Rattle.enip_config.specs.Access.{lists_of, lists_seen, IsBadList}
 use Rattle.enip_config.specs.Documents.{HasValues, IsKnown, IsDescribed, IsFaultOf, IsInRange, IsLedgerInRange, IsQueueInRange, AreSharesInRange, HasRanges}
 use Rattle.enip_config.specs.Documents.{ledger_seen, has_unused_queue}

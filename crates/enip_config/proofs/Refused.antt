@@ -4,10 +4,11 @@ use Rattle.cip_objects.specs.declared.config.ConfigFault.{ConfigFault}
 use Rattle.cip_objects.specs.declared.config.ConfigFault.TheVariants.{Name, Size, Members as WrongMembers, DoubleInstance, Limit, Object, Attribute, Service, Memory}
 use Rattle.cip_objects.specs.Configuration.{fault_of}
 use Rattle.enip_config.specs.declared.configuration.Configuration.{Configuration}
-use Rattle.enip_config.specs.Keys.{KeyRow, row, number_in, number_by, number_of, table_with, read_or}
+use Rattle.attribute_types.specs.Values.{IsBad, number_in, read_or}
+use Rattle.enip_config.specs.Keys.{KeyRow, row, number_by, number_of, table_with}
 use Rattle.config_refusal.specs.declared.fault.LoadFault.{LoadFault}
 use Rattle.config_refusal.specs.Refusals.{fault_of_objects}
-use Rattle.enip_config.specs.Documents.{number_in as held, IsKnown, HasValues, IsFaultOf, IsInRange, IsBad, IsUnread}
+use Rattle.enip_config.specs.Documents.{number_in as held, IsKnown, HasValues, IsFaultOf, IsInRange, IsUnread}
 use Rattle.enip_config.specs.declared.key.NumberKey.{NumberKey}
 use Rattle.enip_config.specs.declared.key.NumberKey.TheVariants.{Vendor, DeviceType, ProductCode, Major, Minor, Serial, Status, State, Port, Peers, Connections, FirstHandle, FirstId, CounterValue, CounterLimit}
 

@@ -1,5 +1,5 @@
 -- The key `message_router`, and the object that it makes.
-use Rattle.std.proofs.Common.{◌≡◌, ℕ, ◌≤◌, Bool, true, false, cond, ◌&&◌, nat_le, List, [], ◌∷◌, ◌++◌, length, map, Option, Some, inr, refl, sym, ap, ◌∙◌, arith}
+use Rattle.std.proofs.Common.{◌≡◌, ℕ, ◌≤◌, Bool, true, false, cond, ◌&&◌, nat_le, List, [], ◌∷◌, ◌++◌, length, map, Option, Some, inl, inr, refl, sym, ap, ◌∙◌, arith}
 use Rattle.std.proofs.lemmas.List.{length-map}
 use Rattle.toml.specs.Data.{Members}
 use Rattle.cip_application.specs.declared.config.ObjectConfig.{ObjectConfig}
@@ -7,14 +7,15 @@ use Rattle.cip_application.specs.declared.message_router.MessageRouter.{MessageR
 use Rattle.cip_application.specs.MessageRouter.{classes_of, router_attributes}
 use Rattle.cip_application.specs.Standard.{IsStandard}
 use Rattle.config_refusal.specs.declared.fault.LoadFault.{LoadFault}
-use Rattle.enip_config.specs.Documents.{IsBad, IsUnread}
+use Rattle.attribute_types.specs.Values.{IsBad}
+use Rattle.enip_config.specs.Documents.{IsUnread}
 use Rattle.enip_config.specs.Objects.{object_seen}
 use Rattle.enip_config.specs.RouterObject.{router_wanted, classes_seen, with_router}
 use Rattle.enip_config.specs.StandardObjects.{standard_object}
 use Rattle.enip_config.proofs.StandardLemmas.{map_last, standard_seen}
 
 pub unread_router : (described : Members) (fault : LoadFault) → IsBad (router_wanted described) fault → IsUnread described fault
-unread_router described fault bad = rw bad.0 (refl, inr (inr (inr (inr (inr (inr (inr (inr (inr (inr bad.1))))))))))
+unread_router described fault bad = rw bad.0 (refl, inr (inr (inr (inr (inr (inr (inr (inr (inr (inr (inl bad.1)))))))))))
 
 same_classes : (objects : List ObjectConfig) → map (λ o. o.class) objects ≡ classes_seen (map object_seen objects)
 same_classes [] = refl

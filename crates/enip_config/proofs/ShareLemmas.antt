@@ -5,7 +5,7 @@ use Rattle.std.proofs.NetLemmas.Options.{map_some}
 use Rattle.std.specs.Prelude.{codes}
 use Rattle.toml.specs.Data.{Data, string, integer, float, boolean, datetime, array, table, Members, get_member}
 use Rattle.enip_access.specs.declared.access.Access.{Access}
-use Rattle.enip_config.specs.Keys.{number_in, read_or, both}
+use Rattle.attribute_types.specs.Values.{both, number_in, read_or}
 use Rattle.enip_config.specs.Access.{shares_in, shares_of, shares_seen, IsShare, HasShares}
 use Rattle.enip_config.specs.declared.configuration.Configuration.{Configuration}
 use Rattle.enip_config.specs.Documents.{HasValues, AreSharesInRange}

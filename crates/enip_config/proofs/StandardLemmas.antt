@@ -9,7 +9,8 @@ use Rattle.cip_application.specs.Attributes.{AttributeValues}
 use Rattle.cip_application.specs.Configuration.{attribute_of_config}
 use Rattle.cip_application.specs.Standard.{InterfaceValues, LinkValues, interface_attributes, link_attributes, IsStandard}
 use Rattle.config_refusal.specs.declared.fault.LoadFault.{LoadFault}
-use Rattle.enip_config.specs.Documents.{IsBad, IsBadOrMemory, IsUnread}
+use Rattle.attribute_types.specs.Values.{IsBad, IsBadOrMemory}
+use Rattle.enip_config.specs.Documents.{IsUnread}
 use Rattle.enip_config.specs.Objects.{attribute_seen, object_seen, objects_of}
 use Rattle.enip_config.specs.StandardObjects.{two_addresses, six_bytes, interface_of, link_of, values_seen, standard_object, interface_objects, link_objects, all_objects_of}
 

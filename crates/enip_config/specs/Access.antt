@@ -9,7 +9,8 @@ use Rattle.enip_access.specs.declared.prefix.Prefix.{Prefix}
 use Rattle.config_refusal.specs.declared.fault.LoadFault.{LoadFault}
 use Rattle.config_refusal.specs.declared.fault.LoadFault.TheVariants.{Refused}
 use Rattle.config_refusal.specs.declared.fault.ConfigurationRefusal.TheVariants as refused
-use Rattle.enip_config.specs.Keys.{number_in, read_or, both, each}
+use Rattle.attribute_types.specs.Values.{both, number_in, read_or}
+use Rattle.enip_config.specs.Keys.{each}
 
 -- a share, from 1 to a greatest one, that may be left out
 abbrev pub share_by : List ℕ → ℕ → Members → Option (Option ℕ)

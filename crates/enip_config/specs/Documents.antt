@@ -25,6 +25,7 @@ use Rattle.enip_config.specs.Keys.{row, originators_row, life_row, queue_row, nu
 use Rattle.enip_config.specs.Keys.{ledger_of, queue_of, counter_enabled, reset_of, AssemblySeen}
 use Rattle.cip_application.specs.declared.message_router.MessageRouter.{MessageRouter}
 use Rattle.enip_config.specs.RouterObject.{router_wanted, HasAllObjects}
+use Rattle.enip_config.specs.Interfaces.{interfaces_of, interfaces_seen}
 use Rattle.enip_config.specs.StandardObjects.{all_objects_of}
 use Rattle.enip_config.specs.ObjectTypes.{types_of, types_seen}
 use Rattle.config_refusal.specs.Refusals.{fault_of_objects}
@@ -76,6 +77,7 @@ pub record HasValues (described : Members) (c : Configuration) : Type 0 where
   pub reset : reset_of described ≡ Some c.reset
   pub objects : HasAllObjects described (router_in c) c.objects.objects.items
   pub shares : shares_of described ≡ Some (option_map shares_seen c.access)
+  pub interfaces : interfaces_of described ≡ Some (interfaces_seen c.interfaces)
   pub types : map types_seen c.attribute_types.items ≡ types_of described
 
 -- a required value is missing, or a value has another type or is out of range
@@ -85,20 +87,12 @@ HasBadValue described =
     ⊎ ((name_of described ≡ None) ⊎ ((address_of described ≡ None) ⊎ ((assemblies_of described ≡ None)
     ⊎ ((ledger_of described ≡ None) ⊎ ((counter_enabled described ≡ None) ⊎ ((all_objects_of described ≡ None)
     ⊎ ((shares_of described ≡ None) ⊎ ((queue_of described ≡ None) ⊎ ((reset_of described ≡ None)
-    ⊎ (router_wanted described ≡ None))))))))))
+    ⊎ ((router_wanted described ≡ None) ⊎ (interfaces_of described ≡ None)))))))))))
 
 -- why a table whose keys are all known gives no configuration
 abbrev pub IsUnread : Members → LoadFault → Type 0
 IsUnread described Memory = ⊤
 IsUnread described (Refused refusal) = (refusal ≡ BadValue) × HasBadValue described
-
--- the fault is BadValue, and nothing could be read
-abbrev pub IsBad : {A : Type 0} → Option A → LoadFault → Type 0
-IsBad read fault = (fault ≡ Refused BadValue) × (read ≡ None)
-
--- the same, or memory was refused
-abbrev pub IsBadOrMemory : {A : Type 0} → Option A → LoadFault → Type 0
-IsBadOrMemory read fault = (fault ≡ Memory) ⊎ IsBad read fault
 
 -- there is a table `commands`, but no service is queued
 abbrev pub has_unused_queue : Configuration → Bool

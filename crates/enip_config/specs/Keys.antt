@@ -8,6 +8,7 @@ use Rattle.toml.specs.Data.{Data, integer, array, table, Items, no_items, item, 
 use Rattle.toml.specs.Data.{as_bool, as_table}
 use Rattle.toml.specs.View.{table_view}
 use Rattle.toml.specs.declared.value.Value.{Value}
+use Rattle.attribute_types.specs.Values.{number_in, read_or, both}
 use Rattle.enip_config.specs.declared.key.NumberKey.{NumberKey}
 use Rattle.enip_config.specs.declared.key.NumberKey.TheVariants.{Vendor, DeviceType, ProductCode, Major, Minor, Serial}
 use Rattle.enip_config.specs.declared.key.NumberKey.TheVariants.{Status, State, Port, Peers, Connections, FirstHandle}
@@ -64,16 +65,6 @@ queue_row = optional (codes "queue") 1 256 16
 
 abbrev pub row_seen : Row → KeyRow
 row_seen r = record { name = r.name.now; least = r.least; greatest = r.greatest; default = r.default }
-
--- a value as a number within a range
-abbrev pub number_in : ℕ → ℕ → Data → Option ℕ
-number_in least greatest (integer (pos n)) = if nat_le least n && nat_le n greatest then Some n else None
-number_in least greatest _ = None
-
--- a value as it is read, or the default if the key is left out
-abbrev pub read_or : {A : Type 0} → Option A → (Data → Option A) → Option Data → Option A
-read_or default read None = default
-read_or default read (Some value) = read value
 
 -- the number of a key in a table, or its default
 abbrev pub number_by : KeyRow → Members → Option ℕ
@@ -147,11 +138,6 @@ settable_of described = flag_of (codes "settable") false described
 -- whether an assembly or an object has the services for lists of attributes
 abbrev pub lists_of : Members → Option Bool
 lists_of described = flag_of (codes "lists") false described
-
--- two results as a pair; None if either is
-abbrev pub both : {A B : Type 0} → Option A → Option B → Option (A × B)
-both None second = None
-both (Some a) second = option_map (λ b. (a, b)) second
 
 -- an assembly's instance, whether it is settable, the sizes of its members, and whether it has the services for lists
 abbrev pub AssemblySeen : Type 0

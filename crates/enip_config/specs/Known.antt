@@ -69,9 +69,10 @@ keys_of Commands = queue_row.name ∷ []
 keys_of Access = codes "read" ∷ codes "write" ∷ codes "per_address" ∷ codes "connections_per_address" ∷ []
 keys_of TcpIp =
     codes "address" ∷ codes "mask" ∷ codes "gateway" ∷ codes "name_servers" ∷ codes "domain" ∷ codes "host"
-    ∷ timeout_row.name ∷ []
+    ∷ codes "interface" ∷ timeout_row.name ∷ []
 keys_of EthernetLink =
-    speed_row.name ∷ flags_row.name ∷ codes "physical_address" ∷ type_row.name ∷ state_row.name ∷ codes "label" ∷ []
+    speed_row.name ∷ flags_row.name ∷ codes "physical_address" ∷ type_row.name ∷ state_row.name ∷ codes "label"
+    ∷ codes "interface" ∷ []
 keys_of Object = class_row.name ∷ instance_row.name ∷ codes "name" ∷ codes "lists" ∷ []
 keys_of Attribute =
     attribute_row.name ∷ codes "type" ∷ codes "value" ∷ codes "settable" ∷ codes "checked" ∷ codes "min"

@@ -1,13 +1,11 @@
 pub mod Keys
-pub mod Types
 pub mod Commands
 pub mod Objects
 pub mod ObjectTypes
+pub mod Interfaces
 pub mod StandardObjects
-pub mod StandardTypes
 pub mod RouterObject
 pub mod Known
 pub mod Access
 pub mod Documents
 pub mod Numbers
-pub mod Explained

@@ -2,9 +2,9 @@
 use Rattle.std.specs.Prelude.{List, [], ◌∷◌, Vec, codes, Option, Some, None, unwrap_or}
 use Rattle.std.specs.declared.alloc.Global.{Global}
 use Rattle.toml.specs.Data.{Data, string, array, table, Items, no_items, item, Members, get_member}
-use Rattle.enip_config.specs.declared.attribute_type.AttributeType.{AttributeType}
-use Rattle.enip_config.specs.declared.attribute_type.AttributeType.TheVariants.{Bytes}
-use Rattle.enip_config.specs.Types.{type_named}
+use Rattle.attribute_types.specs.declared.attribute_type.AttributeType.{AttributeType}
+use Rattle.attribute_types.specs.declared.attribute_type.AttributeType.TheVariants.{Bytes}
+use Rattle.attribute_types.specs.Types.{type_named}
 
 abbrev pub map_items : {A : Type 0} → (Data → A) → Items → List A
 map_items read no_items = []

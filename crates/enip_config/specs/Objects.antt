@@ -10,9 +10,10 @@ use Rattle.cip_application.specs.declared.config.ServiceKind.{ServiceKind}
 use Rattle.cip_application.specs.declared.config.ServiceKind.TheVariants as kinds
 use Rattle.cip_application.specs.declared.kind.AttributeKind.{AttributeKind}
 use Rattle.enip_config.specs.Commands.{is_queued_kind}
-use Rattle.enip_config.specs.Keys.{KeyRow, required, optional, instance_row, number_in, number_by, read_or, each, both}
+use Rattle.attribute_types.specs.Values.{both, number_in, read_or}
+use Rattle.enip_config.specs.Keys.{KeyRow, required, optional, instance_row, number_by, each}
 use Rattle.enip_config.specs.Keys.{flag_of, lists_of}
-use Rattle.enip_config.specs.Types.{typed_in}
+use Rattle.attribute_types.specs.Types.{typed_in}
 
 -- the key `class` of a table `object`
 abbrev pub class_row : KeyRow

@@ -7,7 +7,9 @@ use Rattle.cip_application.specs.declared.standard.EthernetLink.{EthernetLink}
 use Rattle.cip_application.specs.declared.standard.TcpIpInterface.{TcpIpInterface}
 use Rattle.cip_application.specs.Attributes.{AttributeValues}
 use Rattle.cip_application.specs.Standard.{InterfaceValues, LinkValues, interface_attributes, link_attributes}
-use Rattle.enip_config.specs.Keys.{KeyRow, optional, number_in, number_by, read_or, each, both, address_in}
+use Rattle.attribute_types.specs.Values.{both, number_in, read_or}
+use Rattle.enip_config.specs.Keys.{KeyRow, optional, number_by, each, address_in}
+use Rattle.enip_config.specs.Interfaces.{has}
 use Rattle.enip_config.specs.Objects.{AttributeSeen, ObjectSeen, objects_of}
 
 -- the key `inactivity_timeout` of the table `tcp_ip`
@@ -30,9 +32,10 @@ state_row = optional (codes "state") 0 0xff 1
 abbrev pub no_address : List ℕ
 no_address = 0 ∷ 0 ∷ 0 ∷ 0 ∷ []
 
--- an address that is required, and one that is zeros if it is left out
-abbrev pub required_address : List ℕ → Members → Option (List ℕ)
-required_address name described = read_or None address_in (get_member name described)
+-- an address that is required unless the table names an interface of the system, and one that is zeros if it is left out
+abbrev pub own_address : List ℕ → Members → Option (List ℕ)
+own_address name described =
+    read_or (if has (codes "interface") described then Some no_address else None) address_in (get_member name described)
 
 abbrev pub optional_address : List ℕ → Members → Option (List ℕ)
 optional_address name described = read_or (Some no_address) address_in (get_member name described)
@@ -94,8 +97,8 @@ interface_of_parts parts = record {
 abbrev pub interface_in : Data → Option InterfaceValues
 interface_in (table described) =
     option_map interface_of_parts
-    (both (required_address (codes "address") described)
-    (both (required_address (codes "mask") described)
+    (both (own_address (codes "address") described)
+    (both (own_address (codes "mask") described)
     (both (optional_address (codes "gateway") described)
     (both (name_servers described)
     (both (text_by (codes "domain") 48 described)

@@ -7,19 +7,20 @@ ghost use Rattle.enip_access.specs.Access.{list_seen};
 ghost use Rattle.enip_config.specs.Keys.{each};
 ghost use Rattle.enip_config.specs.Access.{share_by, shares_in, shares_of, shares_seen, lists_seen};
 ghost use Rattle.enip_config.specs.Access.{rule_in, few, rules_in, list_by, lists_in, lists_of, IsBadList};
-ghost use Rattle.enip_config.specs.Documents.{IsBad, IsUnread};
+ghost use Rattle.attribute_types.specs.Values.{IsBad};
+ghost use Rattle.enip_config.specs.Documents.{IsUnread};
 
-use crate::values::{BAD_VALUE, number_in, value_of};
 use crate::width::Width;
+use attribute_types::{BAD_VALUE, number_in, value_of};
 use config_refusal::{ConfigurationRefusal, LoadFault};
 use enip_access::{Access, Prefix, PrefixList};
 use toml::{Table, Value};
 
 /// How many peers a device serves at most.
-pub(crate) const MOST_PEERS: u64 = 16;
+pub const MOST_PEERS: u64 = 16;
 
 /// How many connections a device has at most.
-pub(crate) const MOST_CONNECTIONS: u64 = 64;
+pub const MOST_CONNECTIONS: u64 = 64;
 
 /// A list of the table `access` is not one.
 const BAD_LIST: LoadFault = LoadFault::Refused(ConfigurationRefusal::Access);

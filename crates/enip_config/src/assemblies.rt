@@ -2,13 +2,15 @@
 
 ghost use Rattle.std.specs.Prelude.{◌≡◌, IfOk, IfErr, Some, map};
 ghost use Rattle.toml.specs.View.{view, items_view, table_view};
-ghost use Rattle.enip_config.specs.Keys.{each, number_in, sizes_of, assembly_in};
+ghost use Rattle.attribute_types.specs.Values.{IsBadOrMemory, number_in};
+ghost use Rattle.enip_config.specs.Keys.{each, sizes_of, assembly_in};
 ghost use Rattle.enip_config.specs.Keys.{assemblies_of};
-ghost use Rattle.enip_config.specs.Documents.{IsBadOrMemory, IsUnread, assembly_seen};
+ghost use Rattle.enip_config.specs.Documents.{IsUnread, assembly_seen};
 
 use crate::key::INSTANCE;
-use crate::values::{BAD_VALUE, flag_of, number_by, number_in, value_of};
+use crate::values::{flag_of, number_by};
 use crate::width::Width;
+use attribute_types::{BAD_VALUE, number_in, value_of};
 use cip_objects::AssemblyConfig;
 use config_refusal::LoadFault;
 use std::alloc::Global;

@@ -5,10 +5,12 @@ ghost use Rattle.std.specs.List.{list_any};
 ghost use Rattle.toml.specs.View.{view, table_view};
 ghost use Rattle.enip_config.specs.Commands.{has_queued, is_queued};
 ghost use Rattle.enip_config.specs.Keys.{queue_in, queue_of};
-ghost use Rattle.enip_config.specs.Documents.{IsBad, IsUnread};
+ghost use Rattle.attribute_types.specs.Values.{IsBad};
+ghost use Rattle.enip_config.specs.Documents.{IsUnread};
 
 use crate::key::QUEUE;
-use crate::values::{BAD_VALUE, number_by, value_of};
+use crate::values::number_by;
+use attribute_types::{BAD_VALUE, value_of};
 use cip_application::{ObjectConfig, ServiceConfig, ServiceKind};
 use config_refusal::LoadFault;
 use toml::{Table, Value};
@@ -48,7 +50,7 @@ pub(crate) fn has_queued(objects: &[ObjectConfig]) -> bool
 }
 
 /// Whether any of these services is queued.
-pub(crate) fn has_queued_service(services: &[ServiceConfig]) -> bool
+pub fn has_queued_service(services: &[ServiceConfig]) -> bool
     ensures { result ≡ list_any is_queued services.now }
 {
     for service in services {
@@ -60,7 +62,7 @@ pub(crate) fn has_queued_service(services: &[ServiceConfig]) -> bool
 }
 
 /// Whether a service is queued.
-pub(crate) fn is_queued(service: &ServiceConfig) -> bool
+pub fn is_queued(service: &ServiceConfig) -> bool
     ensures { result ≡ is_queued service.now }
 {
     match service.kind {

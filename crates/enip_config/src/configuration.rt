@@ -12,14 +12,15 @@ ghost use Rattle.enip_config.specs.Numbers.{HasIdentity, HasCounter, HasLimits};
 
 use crate::access::{shares_of, with_lists};
 use crate::assemblies::assemblies_of;
-use crate::attribute_type::AttributeType;
 use crate::commands::{has_queued, queue_of};
+use crate::interfaces::{NamedInterfaces, interfaces_of};
 use crate::key::{DEFAULT_QUEUE, NumberKey};
 use crate::known::has_unknown_key;
 use crate::ledger::{LedgerConfig, ledger_of};
 use crate::message_router::objects_with_router;
 use crate::object_types::types_of;
 use crate::values::{address_of, counter_enabled, name_of, number, reset_of};
+use attribute_types::AttributeType;
 use cip_application::MessageRouter;
 use cip_objects::{Config, CounterConfig};
 use config_refusal::{ConfigurationRefusal, LoadFault};
@@ -69,6 +70,8 @@ pub struct Configuration {
     pub queue: Option<u16>,
     /// Who may connect and who may change something, if the configuration says so. Otherwise everybody may.
     pub access: Option<Access>,
+    /// The network interfaces of the system from which values are read when the device is started.
+    pub interfaces: NamedInterfaces,
     /// The types of the attributes of each own object, in the order of the file.
     pub attribute_types: Vec<Vec<AttributeType>>,
 }
@@ -140,8 +143,14 @@ impl Configuration {
         Ok(Configuration { access, ..self })
     }
 
-    /// Reads the values of a table whose keys are all known.
-    pub(crate) fn from_table(alloc: Global, text: &Table) -> Result<Configuration, LoadFault>
+    /// Reads the values of a table whose keys are all known, without the lists of the table `access`. The objects may
+    /// refuse the configuration, and the table `commands` may be unused.
+    ///
+    /// # Errors
+    ///
+    /// `LoadFault::Refused` with `BadValue` if a required key is missing, or a value has another type or is out of range.
+    /// `LoadFault::Memory` if memory is refused.
+    pub fn from_table(alloc: Global, text: &Table) -> Result<Configuration, LoadFault>
         ensures read { IfOk result (HasValues (table_view text.now)) }
         ensures refused { IfErr result (IsUnread (table_view text.now)) }
     {
@@ -155,6 +164,7 @@ impl Configuration {
         let queue = queue_of(text)?;
         let access = shares_of(text)?;
         let name = name_of(text)?;
+        let interfaces = interfaces_of(text)?;
         let assemblies = assemblies_of(alloc, text)?;
         let objects = objects_with_router(alloc, text, router_of(counter, ledger, limits))?;
         let attribute_types = types_of(alloc, text)?;
@@ -183,6 +193,7 @@ impl Configuration {
             ledger,
             queue,
             access,
+            interfaces,
             attribute_types,
         })
     }

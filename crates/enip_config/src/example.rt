@@ -44,6 +44,7 @@ connections_per_address = 16 # how many of its connections are open at once: 1 t
 [tcp_ip]                     # class 0xf5, the TCP/IP Interface; it changes nothing on this computer
 address = [10, 0, 0, 9]      # the address of the device
 mask = [255, 255, 255, 0]    # its network mask
+#       interface = "eth0"   # instead of both: those of this computer when the device starts
 gateway = [10, 0, 0, 1]      # its default gateway; default [0, 0, 0, 0]
 name_servers = [[10, 0, 0, 2]] # up to two addresses; default none
 domain = "plant.example"     # up to 48 characters, 0x20 to 0x7e; default none
@@ -54,8 +55,9 @@ inactivity_timeout = 120     # in seconds, clients can set it: 0 to 3600; defaul
 speed = 100                  # in Mbit/s: 0 to 4294967295; default 100
 flags = 15                   # default 15: an active link, full duplex, negotiated
 physical_address = [2, 0, 0, 0, 0, 9] # the MAC address; default all zeros
-type = 2                     # 0 to 255; default 2, twisted pair
 state = 1                    # 0 to 255; default 1, enabled
+#       interface = "eth0"   # instead of these four: those of this computer when the device starts
+type = 2                     # 0 to 255; default 2, twisted pair
 label = "Port 1"             # up to 64 characters; default none
 
 [[assembly]]                 # class 4, one table for each assembly, up to 16

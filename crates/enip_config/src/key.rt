@@ -52,16 +52,19 @@ pub enum NumberKey {
 
 /// A row of the table: the name of a key, the range of its number, and the default.
 #[derive(Clone, Copy)]
-pub(crate) struct Row {
-    pub(crate) name: &'static str,
-    pub(crate) least: u64,
-    pub(crate) greatest: u64,
+pub struct Row {
+    /// The name of the key.
+    pub name: &'static str,
+    /// The least number.
+    pub least: u64,
+    /// The greatest number.
+    pub greatest: u64,
     /// `None` if the key is required.
-    pub(crate) default: Option<u64>,
+    pub default: Option<u64>,
 }
 
 /// The key `instance` of a table `assembly` or `object`.
-pub(crate) const INSTANCE: Row = Row {
+pub const INSTANCE: Row = Row {
     name: "instance",
     least: 0,
     greatest: 0xffff,
@@ -69,7 +72,7 @@ pub(crate) const INSTANCE: Row = Row {
 };
 
 /// The key `class` of a table `object`.
-pub(crate) const CLASS: Row = Row {
+pub const CLASS: Row = Row {
     name: "class",
     least: 0,
     greatest: 0xffff,
@@ -77,7 +80,7 @@ pub(crate) const CLASS: Row = Row {
 };
 
 /// The key `number` of a table `object.attribute`.
-pub(crate) const ATTRIBUTE_NUMBER: Row = Row {
+pub const ATTRIBUTE_NUMBER: Row = Row {
     name: "number",
     least: 0,
     greatest: 0xffff,
@@ -85,7 +88,7 @@ pub(crate) const ATTRIBUTE_NUMBER: Row = Row {
 };
 
 /// The key `number` of a table `object.service`.
-pub(crate) const SERVICE_NUMBER: Row = Row {
+pub const SERVICE_NUMBER: Row = Row {
     name: "number",
     least: 0,
     greatest: 0xff,
@@ -93,7 +96,7 @@ pub(crate) const SERVICE_NUMBER: Row = Row {
 };
 
 /// The key `reply` of a table `object.service`.
-pub(crate) const REPLY: Row = Row {
+pub const REPLY: Row = Row {
     name: "reply",
     least: 0,
     greatest: 0xffff,
@@ -101,7 +104,7 @@ pub(crate) const REPLY: Row = Row {
 };
 
 /// The key `originators` of the table `ledger`.
-pub(crate) const ORIGINATORS: Row = Row {
+pub const ORIGINATORS: Row = Row {
     name: "originators",
     least: 1,
     greatest: 64,
@@ -109,7 +112,7 @@ pub(crate) const ORIGINATORS: Row = Row {
 };
 
 /// The key `life` of the table `ledger`. TOML has no greater integers.
-pub(crate) const LIFE: Row = Row {
+pub const LIFE: Row = Row {
     name: "life",
     least: 1,
     greatest: 0x7fff_ffff_ffff_ffff,
@@ -117,7 +120,7 @@ pub(crate) const LIFE: Row = Row {
 };
 
 /// The key `inactivity_timeout` of the table `tcp_ip`. (Volume 2, TCP/IP Interface object.)
-pub(crate) const INACTIVITY_TIMEOUT: Row = Row {
+pub const INACTIVITY_TIMEOUT: Row = Row {
     name: "inactivity_timeout",
     least: 0,
     greatest: INACTIVITY_LIMIT as u64,
@@ -125,7 +128,7 @@ pub(crate) const INACTIVITY_TIMEOUT: Row = Row {
 };
 
 /// The key `speed` of the table `ethernet_link`, in Mbit/s.
-pub(crate) const SPEED: Row = Row {
+pub const SPEED: Row = Row {
     name: "speed",
     least: 0,
     greatest: GREATEST_UDINT,
@@ -133,7 +136,7 @@ pub(crate) const SPEED: Row = Row {
 };
 
 /// The key `flags` of the table `ethernet_link`. The default is an active link, full duplex, negotiated.
-pub(crate) const FLAGS: Row = Row {
+pub const FLAGS: Row = Row {
     name: "flags",
     least: 0,
     greatest: GREATEST_UDINT,
@@ -141,7 +144,7 @@ pub(crate) const FLAGS: Row = Row {
 };
 
 /// The key `type` of the table `ethernet_link`. The default is twisted pair.
-pub(crate) const INTERFACE_TYPE: Row = Row {
+pub const INTERFACE_TYPE: Row = Row {
     name: "type",
     least: 0,
     greatest: 0xff,
@@ -149,7 +152,7 @@ pub(crate) const INTERFACE_TYPE: Row = Row {
 };
 
 /// The key `state` of the table `ethernet_link`. The default is enabled.
-pub(crate) const INTERFACE_STATE: Row = Row {
+pub const INTERFACE_STATE: Row = Row {
     name: "state",
     least: 0,
     greatest: 0xff,
@@ -157,7 +160,7 @@ pub(crate) const INTERFACE_STATE: Row = Row {
 };
 
 /// The key `queue` of the table `commands`.
-pub(crate) const QUEUE: Row = Row {
+pub const QUEUE: Row = Row {
     name: "queue",
     least: 1,
     greatest: 256,
@@ -166,7 +169,7 @@ pub(crate) const QUEUE: Row = Row {
 
 impl NumberKey {
     /// The key's row in the table.
-    pub(crate) fn row(self) -> Row
+    pub fn row(self) -> Row
         ensures { row_seen result ≡ row self }
     {
         let (name, least, greatest, default) = match self {

@@ -18,7 +18,7 @@ use toml::{Table, Value};
 
 /// The kinds of tables in a configuration.
 #[derive(Clone, Copy)]
-pub(crate) enum TableKind {
+pub enum TableKind {
     /// The top level, without the tables in it.
     Text,
     /// The table `counter`.
@@ -46,7 +46,7 @@ pub(crate) enum TableKind {
 }
 
 /// The keys at the top level whose values are numbers.
-pub(crate) static TEXT_NUMBERS: [NumberKey; 13] = [
+pub static TEXT_NUMBERS: [NumberKey; 13] = [
     NumberKey::Vendor,
     NumberKey::DeviceType,
     NumberKey::ProductCode,
@@ -64,7 +64,7 @@ pub(crate) static TEXT_NUMBERS: [NumberKey; 13] = [
 
 impl TableKind {
     /// Whether a key is known in this kind of table.
-    pub(crate) fn knows(self, name: &str) -> bool
+    pub fn knows(self, name: &str) -> bool
         ensures { result ≡ is_among (keys_of self) name.now }
     {
         match self {
@@ -113,6 +113,7 @@ fn is_tcp_ip_key(name: &str) -> bool
         || name == "name_servers"
         || name == "domain"
         || name == "host"
+        || name == "interface"
         || INACTIVITY_TIMEOUT.is_named(name)
 }
 
@@ -126,6 +127,7 @@ fn is_link_key(name: &str) -> bool
         || INTERFACE_TYPE.is_named(name)
         || INTERFACE_STATE.is_named(name)
         || name == "label"
+        || name == "interface"
 }
 
 /// Whether a table `object.attribute` has a key of this name.
@@ -295,7 +297,7 @@ fn is_unknown_in_object(key: &str, value: &Value) -> bool
 
 /// Whether a value has a key within it, at any depth.
 #[cycle(keys)]
-pub(crate) fn has_key(value: &Value) -> bool
+pub fn has_key(value: &Value) -> bool
     ensures { result ≡ has_key (view value.now) }
 {
     match value {

@@ -3,10 +3,12 @@
 ghost use Rattle.std.specs.Prelude.{◌≡◌, IfOk, IfErr, Some, option_map};
 ghost use Rattle.toml.specs.View.{view, table_view};
 ghost use Rattle.enip_config.specs.Keys.{ledger_in, ledger_of};
-ghost use Rattle.enip_config.specs.Documents.{IsBad, IsUnread, ledger_seen};
+ghost use Rattle.attribute_types.specs.Values.{IsBad};
+ghost use Rattle.enip_config.specs.Documents.{IsUnread, ledger_seen};
 
 use crate::key::{LIFE, ORIGINATORS};
-use crate::values::{BAD_VALUE, number_by, value_of};
+use crate::values::number_by;
+use attribute_types::{BAD_VALUE, value_of};
 use config_refusal::LoadFault;
 use toml::{Table, Value};
 

@@ -4,8 +4,7 @@ ghost use Rattle.std.specs.Prelude.{◌≡◌, IfOk, map};
 ghost use Rattle.toml.specs.View.{view, items_view, table_view};
 ghost use Rattle.enip_config.specs.ObjectTypes.{type_of_attribute, types_of_object, types_of, map_items, types_seen};
 
-use crate::attribute_type::AttributeType;
-use crate::values::value_of;
+use attribute_types::{AttributeType, value_of};
 use std::alloc::{AllocError, Global};
 use toml::{Table, Value};
 

@@ -4,18 +4,18 @@
 ghost use Rattle.std.specs.Prelude.{◌≡◌, IfOk, IfErr, Some, map, option_map, string_bytes};
 ghost use Rattle.toml.specs.Data.{array};
 ghost use Rattle.toml.specs.View.{view, items_view, table_view};
-ghost use Rattle.enip_config.specs.Keys.{each, number_in};
+ghost use Rattle.attribute_types.specs.Values.{IsBad, IsBadOrMemory, number_in};
+ghost use Rattle.enip_config.specs.Keys.{each};
 ghost use Rattle.enip_config.specs.Objects.{objects_of, object_in, object_seen, object_name};
 ghost use Rattle.enip_config.specs.Objects.{attributes_of, attribute_in, attribute_seen};
 ghost use Rattle.enip_config.specs.Objects.{services_of, described_services, service_in, service_seen, kind_by};
 ghost use Rattle.enip_config.specs.Objects.{sizes_from, two_sizes};
-ghost use Rattle.enip_config.specs.Documents.{IsBad, IsBadOrMemory};
 
 use crate::commands::has_queued_service;
 use crate::key::{ATTRIBUTE_NUMBER, CLASS, INSTANCE, REPLY, SERVICE_NUMBER};
-use crate::typed::typed_in;
-use crate::values::{BAD_VALUE, flag_of, number_by, number_in, value_of};
+use crate::values::{flag_of, number_by};
 use crate::width::Width;
+use attribute_types::{BAD_VALUE, number_in, typed_in, value_of};
 use cip_application::{
     AttributeConfig, GET_RESULT, ObjectConfig, QUEUED_REPLY_LIMIT, ServiceConfig, ServiceKind,
 };

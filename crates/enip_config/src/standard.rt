@@ -5,18 +5,21 @@ ghost use Rattle.std.specs.Prelude.{◌≡◌, ◌≤◌, ◌++◌, [], ◌∷�
 ghost use Rattle.toml.specs.Data.{array};
 ghost use Rattle.toml.specs.View.{view, items_view, table_view};
 ghost use Rattle.cip_application.specs.Standard.{interface_seen, link_seen};
-ghost use Rattle.enip_config.specs.Documents.{IsBad, IsUnread};
+ghost use Rattle.attribute_types.specs.Values.{IsBad};
+ghost use Rattle.enip_config.specs.Documents.{IsUnread};
 ghost use Rattle.enip_config.specs.Keys.{address_in};
 ghost use Rattle.enip_config.specs.Objects.{object_seen};
 ghost use Rattle.enip_config.specs.StandardObjects.{all_objects_of, interface_of, interface_in, interface_objects};
 ghost use Rattle.enip_config.specs.StandardObjects.{link_of, link_in, link_objects, name_servers, two_addresses};
-ghost use Rattle.enip_config.specs.StandardObjects.{required_address, optional_address, physical_address};
+ghost use Rattle.enip_config.specs.StandardObjects.{own_address, optional_address, physical_address};
 ghost use Rattle.enip_config.specs.StandardObjects.{six_bytes, three_bytes};
 ghost use Rattle.enip_config.specs.StandardObjects.{is_text, text_in, text_by, HasShortTexts, HasShortLabel};
 
+use crate::interfaces::has;
 use crate::key::{FLAGS, INACTIVITY_TIMEOUT, INTERFACE_STATE, INTERFACE_TYPE, SPEED};
 use crate::objects::objects_of;
-use crate::values::{BAD_VALUE, byte, four_bytes, number_by, value_of};
+use crate::values::{byte, four_bytes, number_by};
+use attribute_types::{BAD_VALUE, value_of};
 use cip_application::{
     DOMAIN_LIMIT, EthernetLink, HOST_LIMIT, LABEL_LIMIT, ObjectConfig, TcpIpInterface,
 };
@@ -97,8 +100,8 @@ fn interface_in(value: &Value) -> Result<TcpIpInterface<'_>, LoadFault>
     let Value::Table(table) = value else {
         return Err(BAD_VALUE);
     };
-    let address = required_address(table, "address")?;
-    let mask = required_address(table, "mask")?;
+    let address = own_address(table, "address")?;
+    let mask = own_address(table, "mask")?;
     let gateway = optional_address(table, "gateway")?;
     let (name_server, second_name_server) = name_servers(table)?;
     let domain = text_by(table, "domain", DOMAIN_LIMIT)?;
@@ -147,12 +150,13 @@ fn link_in(value: &Value) -> Result<EthernetLink<'_>, LoadFault>
     })
 }
 
-/// The address of a key. It is required.
-fn required_address(table: &Table, name: &str) -> Result<[u8; 4], LoadFault>
-    ensures read { IfOk result (λ address. required_address name.now (table_view table.now) ≡ Some address) }
-    ensures refused { IfErr result (IsBad (required_address name.now (table_view table.now))) }
+/// The address of a key. It is required, unless the table names an interface of the system, which has it.
+fn own_address(table: &Table, name: &str) -> Result<[u8; 4], LoadFault>
+    ensures read { IfOk result (λ address. own_address name.now (table_view table.now) ≡ Some address) }
+    ensures refused { IfErr result (IsBad (own_address name.now (table_view table.now))) }
 {
     match value_of(table, name) {
+        None if has(table, "interface") => Ok(NO_ADDRESS),
         None => Err(BAD_VALUE),
         Some(value) => address_in(value),
     }
@@ -286,7 +290,7 @@ fn text_in(value: &Value, most: usize) -> Result<&str, LoadFault>
 }
 
 /// Whether a text has this many bytes at most, each of which can be printed.
-pub(crate) fn is_text(text: &[u8], most: usize) -> bool
+pub fn is_text(text: &[u8], most: usize) -> bool
     ensures { result ≡ is_text most text.now }
 {
     if text.len() > most {

@@ -5,38 +5,15 @@ ghost use Rattle.toml.specs.Data.{array, as_str, get_member};
 ghost use Rattle.toml.specs.View.{view, items_view, table_view};
 ghost use Rattle.enip_config.specs.Keys.{row, row_seen, number_by, number_of, table_with, counter_table, members_found};
 ghost use Rattle.enip_config.specs.Keys.{flag_of, counter_enabled, identity_table, reset_of, name_of};
-ghost use Rattle.enip_config.specs.Keys.{number_in, address_in, address_of};
-ghost use Rattle.enip_config.specs.Documents.{IsBad, IsUnread};
+ghost use Rattle.attribute_types.specs.Values.{IsBad, number_in};
+ghost use Rattle.enip_config.specs.Keys.{address_in, address_of};
+ghost use Rattle.enip_config.specs.Documents.{IsUnread};
 
 use crate::key::{NumberKey, Row};
 use crate::width::Width;
-use config_refusal::{ConfigurationRefusal, LoadFault};
+use attribute_types::{BAD_VALUE, number_in, value_of};
+use config_refusal::LoadFault;
 use toml::{Table, Value};
-
-/// A required key is missing, or a value has another type or is out of range.
-pub(crate) const BAD_VALUE: LoadFault = LoadFault::Refused(ConfigurationRefusal::BadValue);
-
-/// The value of a key, if the table has it.
-pub(crate) fn value_of<'a>(table: &'a Table, key: &str) -> Option<&'a Value>
-    ensures { option_map (λ value. view value.now) result ≡ get_member key.now (table_view table.now) }
-{
-    table.get(key)
-}
-
-/// Reads a value as a number within a range, from `least` to `greatest`.
-pub(crate) fn number_in(value: &Value, least: u64, greatest: u64) -> Result<u64, LoadFault>
-    ensures read { IfOk result (λ n. number_in least greatest (view value.now) ≡ Some n) }
-    ensures refused { IfErr result (IsBad (number_in least greatest (view value.now))) }
-    ensures to { IfOk result (λ n. n ≤ greatest) }
-{
-    let Value::Integer(number) = value else {
-        return Err(BAD_VALUE);
-    };
-    match u64::try_from(*number) {
-        Ok(number) if least <= number && number <= greatest => Ok(number),
-        _ => Err(BAD_VALUE),
-    }
-}
 
 /// The number of a key in a table, or its default.
 pub(crate) fn number_by<N: Width>(table: &Table, key: Row) -> Result<N, LoadFault>

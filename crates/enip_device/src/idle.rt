@@ -5,7 +5,7 @@ ghost use Rattle.std.specs.Prelude.{◌≡◌, ◌<◌, ◌*◌, ◌-◌, ◌^�
 use cip_application::{AttributeConfig, ObjectConfig, TCP_IP_INTERFACE};
 use clap::ArgMatches;
 use enip_common::{ArgumentError, NumberArgument, u16_of};
-use enip_server::{NO_IDLE_TIMEOUT, Peers, Wire};
+use enip_server::NO_IDLE_TIMEOUT;
 
 /// The microseconds of a second.
 const SECOND: u64 = 1_000_000;
@@ -38,14 +38,6 @@ impl IdleOption {
     /// How long a client may be silent, in microseconds, if the device has no TCP/IP Interface.
     pub(crate) fn timeout(self) -> u64 {
         idle_timeout_of(self.seconds.unwrap_or(DEFAULT_SECONDS))
-    }
-
-    /// Writes the seconds into the TCP/IP Interface of a device that begins, if it has one.
-    pub(crate) fn write_to<W: Wire + Drop>(self, peers: &mut Peers<W>) {
-        if let Some(seconds) = self.seconds {
-            let value = seconds.to_le_bytes();
-            peers.write_attribute(TCP_IP_INTERFACE, 1, INACTIVITY_TIMEOUT, 0, &value);
-        }
     }
 
     /// Makes the seconds the first value of the TCP/IP Interface, if one of the objects is that.

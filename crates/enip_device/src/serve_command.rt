@@ -11,7 +11,8 @@ use device_log::{FrameLog, LogClock, LogStyle, TurnedAwayReport};
 use device_rounds::{Keeping, ServeLimits, Sockets, serve_connections};
 use device_sockets::{Observer, ServeFault, Serving};
 use device_start::{
-    KeptFile, OpenFile, ReportedAddress, adapter_of, adapter_start, listen_of, start_kept,
+    KeptFile, OpenFile, ReportedAddress, adapter_start, fill_from_system, first_adapter, listen_of,
+    start_kept,
 };
 use enip_access::Access;
 use enip_adapter::Listen;
@@ -90,6 +91,17 @@ impl<'a> ServeOptions<'a> {
             Some(file) => file.accepts_older(),
             None => false,
         }
+    }
+
+    /// Puts the seconds of `--idle` into a configuration, and the values that it leaves to interfaces of this computer.
+    pub(crate) fn set_in(
+        self,
+        rt: &HostRuntime,
+        config: &ConfigFile<'a>,
+        configuration: &mut Configuration,
+    ) -> Result<(), CommandError<'a>> {
+        self.idle.set_in(&mut configuration.objects.objects);
+        fill_from_system(rt, config, configuration)
     }
 
     /// The same, with what a configuration has for discovery.
@@ -171,10 +183,9 @@ fn unkept_peers<'a, W: Wire + Drop>(
     options: ServeOptions<'a>,
 ) -> Result<(Peers<W>, Option<Access>, Listen), CommandError<'a>> {
     let mut configuration = config.configuration_to_serve(rt.alloc())?;
-    options.idle.set_in(&mut configuration.objects.objects);
-    let adapter = adapter_of(rt, config, &configuration)?;
-    let mut peers = Peers::new(rt.alloc(), adapter, options.idle.timeout())?;
-    options.idle.write_to(&mut peers);
+    options.set_in(rt, config, &mut configuration)?;
+    let adapter = first_adapter(rt, config, &configuration)?;
+    let peers = Peers::new(rt.alloc(), adapter, options.idle.timeout())?;
     Ok((
         peers,
         configuration.access.take(),
@@ -202,7 +213,8 @@ fn kept_start<'a>(
     config: &ConfigFile<'a>,
     options: ServeOptions<'a>,
 ) -> Result<(AdapterStart, Option<Access>), CommandError<'a>> {
-    let configuration = config.configuration_to_serve(rt.alloc())?;
+    let mut configuration = config.configuration_to_serve(rt.alloc())?;
+    options.set_in(rt, config, &mut configuration)?;
     start_and_access(rt, config, configuration, options)
 }
 
@@ -215,7 +227,6 @@ pub(crate) fn start_and_access<'a>(
 ) -> Result<(AdapterStart, Option<Access>), CommandError<'a>> {
     let mut configuration = configuration;
     let access = configuration.access.take();
-    options.idle.set_in(&mut configuration.objects.objects);
     match adapter_start(
         rt,
         config,

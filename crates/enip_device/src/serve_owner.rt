@@ -9,7 +9,7 @@ use crate::serve_command::{ServeOptions, listen_and_serve, start_and_access};
 use config_file::ConfigFile;
 use device_rounds::Keeping;
 use device_sockets::{Observer, OwnerLog, Serving};
-use device_start::{KeptFile, OpenFile, adapter_of, listen_of, start_kept};
+use device_start::{KeptFile, OpenFile, first_adapter, listen_of, start_kept};
 use enip_access::Access;
 use enip_adapter::{Adapter, Listen};
 use enip_cli::OsArg;
@@ -112,9 +112,9 @@ fn unkept_parts<'a>(
     options: ServeOptions<'a>,
 ) -> Result<(PortParts, Adapter, Option<Access>, Listen), CommandError<'a>> {
     let mut configuration = config.configuration(rt.alloc())?;
-    options.idle().set_in(&mut configuration.objects.objects);
+    options.set_in(rt, config, &mut configuration)?;
     let parts = PortParts::read(rt, args, owner, &configuration)?;
-    let adapter = adapter_of(rt, config, &configuration)?;
+    let adapter = first_adapter(rt, config, &configuration)?;
     let access = configuration.access.take();
     Ok((parts, adapter, access, listen_of(&configuration)))
 }
@@ -145,7 +145,8 @@ fn kept_parts<'a>(
     config: &ConfigFile<'a>,
     options: ServeOptions<'a>,
 ) -> Result<(PortParts, AdapterStart, Option<Access>), CommandError<'a>> {
-    let configuration = config.configuration(rt.alloc())?;
+    let mut configuration = config.configuration(rt.alloc())?;
+    options.set_in(rt, config, &mut configuration)?;
     let parts = PortParts::read(rt, args, owner, &configuration)?;
     let (start, access) = start_and_access(rt, config, configuration, options)?;
     Ok((parts, start, access))
@@ -194,8 +195,7 @@ fn owned<'a, W: Wire + Drop, L: OwnerLog + Drop>(
 ) -> Result<(Owned<W, L>, SocketAddr), CommandError<'a>> {
     let asks = parts.asks;
     let (link, address) = owner_link(rt, owner, parts, &adapter, log)?;
-    let mut peers = Peers::new(rt.alloc(), adapter, options.idle().timeout())?;
-    options.idle().write_to(&mut peers);
+    let peers = Peers::new(rt.alloc(), adapter, options.idle().timeout())?;
     Ok((Owned::new(peers, link, asks), address))
 }
 

@@ -12,8 +12,8 @@ use Rattle.cip_application.specs.declared.config.ObjectConfig.{ObjectConfig}
 use Rattle.cip_application.specs.declared.kind.AttributeKind.{AttributeKind}
 use Rattle.cip_application.specs.declared.kind.AttributeKind.TheVariants as kinds
 use Rattle.cip_objects.specs.declared.config.AssemblyConfig.{AssemblyConfig}
-use Rattle.enip_config.specs.declared.attribute_type.AttributeType.{AttributeType}
-use Rattle.enip_config.specs.declared.attribute_type.AttributeType.TheVariants as attribute_types
+use Rattle.attribute_types.specs.declared.attribute_type.AttributeType.{AttributeType}
+use Rattle.attribute_types.specs.declared.attribute_type.AttributeType.TheVariants as attribute_types
 use Rattle.enip_eds.specs.declared.param.Param.{Param}
 use Rattle.enip_eds.specs.declared.param.Subject.{Subject}
 use Rattle.enip_eds.specs.declared.param.Subject.TheVariants as subjects

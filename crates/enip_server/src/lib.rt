@@ -122,6 +122,7 @@ pub mod laws;
 mod peer_io;
 mod peers;
 mod shown_connections;
+mod slots;
 mod watcher;
 mod wire;
 mod wire_counts;

@@ -8,21 +8,22 @@ ghost use Rattle.cip_ledger.specs.Device.{finished_in};
 ghost use Rattle.cip_objects.specs.DeviceWrites.{device_write};
 ghost use Rattle.enip_adapter.specs.Discovery.{discovered};
 ghost use Rattle.enip_adapter.specs.OwnWrites.{OwnWrite, attribute_write};
-ghost use Rattle.enip_server.specs.Rounds.{IsSlotServed, AreSlotsServed, IsRound, has_ended, ended_in};
+ghost use Rattle.enip_server.specs.Rounds.{IsRound, ended_in};
 ghost use Rattle.enip_server.specs.Rounds.{state_of, new_peers, first_free, IsAdded, marked_ready, is_ready, earliest_of, next_moment};
 ghost use Rattle.enip_server.specs.Rounds.{idle_of, moment_or_none, written_by};
 ghost use Rattle.enip_server.specs.Rounds.{nobody, no_answer, same_nobody};
 ghost use Rattle.enip_server.specs.Evictions.{IsAddedAs, freed, gives_way, slot_for, slot_found, with_room};
 ghost use Rattle.enip_server.specs.Admissions.{AreShown};
-ghost use Rattle.enip_server.specs.Held.{IsSlotReleased, AreSlotsReleased, AreReleased};
-ghost use Rattle.enip_server.specs.Resets.{after_reset, closed_slot, closed_slots, was_reset};
+ghost use Rattle.enip_server.specs.Held.{AreReleased};
+ghost use Rattle.enip_server.specs.Resets.{after_reset, was_reset};
 
 use crate::admissions::admit_slots;
 use crate::evictions::longest_silent;
 use crate::gate::Gate;
 use crate::gated_wire::GatedWire;
 use crate::held_wire::HeldWire;
-use crate::peer_io::{PeerIo, Turn};
+use crate::peer_io::PeerIo;
+use crate::slots::{close_slots, is_slot_ready, release_slots, serve_slots};
 use crate::watcher::{NoWatcher, Watcher};
 use crate::wire::Wire;
 use cip_owner::{NoOwner, Owner, OwnerReply};
@@ -522,52 +523,6 @@ impl<W: GatedWire + Drop> Peers<W> {
     }
 }
 
-/// Releases the wires in these slots. Returns whether one of the peers may have a turn now.
-fn release_slots<W: Wire + Drop>(slots: &mut [Option<PeerIo<HeldWire<W>>>]) -> bool
-    ensures released { AreSlotsReleased W.left W.written W.known W.counts slots.old slots.new }
-    ensures ready { result ≡ list_any is_ready slots.new }
-{
-    let Some((slot, others)) = slots.split_first_mut() else {
-        return false;
-    };
-    let ready = release_slot(slot);
-    release_slots(others) || ready
-}
-
-/// Releases the wire in a slot. Returns whether its peer may have a turn now.
-fn release_slot<W: Wire + Drop>(slot: &mut Option<PeerIo<HeldWire<W>>>) -> bool
-    ensures released { IsSlotReleased W.left W.written W.known W.counts slot.old slot.new }
-    ensures ready { result ≡ is_ready slot.new }
-{
-    match slot {
-        Some(io) => {
-            io.release();
-            io.ready
-        }
-        None => false,
-    }
-}
-
-/// Closes the peers in these slots at the time `now`.
-fn close_slots<W: Wire + Drop>(slots: &mut [Option<PeerIo<W>>], now: u64)
-    ensures { slots.new ≡ closed_slots now slots.old }
-{
-    let Some((slot, others)) = slots.split_first_mut() else {
-        return;
-    };
-    close_slot(slot, now);
-    close_slots(others, now);
-}
-
-/// Closes the peer in a slot at the time `now`, if there is one.
-fn close_slot<W: Wire + Drop>(slot: &mut Option<PeerIo<W>>, now: u64)
-    ensures { slot.new ≡ closed_slot now slot.old }
-{
-    if let Some(io) = slot {
-        io.close(now);
-    }
-}
-
 /// `None` for the time that never comes.
 fn moment_or_none(moment: u64) -> Option<u64>
     ensures { result ≡ moment_or_none moment }
@@ -576,63 +531,4 @@ fn moment_or_none(moment: u64) -> Option<u64>
         u64::MAX => None,
         moment => Some(moment),
     }
-}
-
-/// Whether a slot has a peer whose wire may be ready now.
-fn is_slot_ready<W>(slot: &Option<PeerIo<W>>) -> bool
-    ensures { result ≡ is_ready slot.now }
-{
-    match slot {
-        Some(io) => io.ready,
-        None => false,
-    }
-}
-
-/// Serves the slots of a round, one after the other. Returns the number of peers that ended.
-fn serve_slots<W: Wire + Drop, O: Owner, T: Watcher<W>>(
-    places: &mut [Option<PeerIo<W>>],
-    adapter: &mut Adapter,
-    owner: &mut O,
-    watcher: &mut T,
-    now: u64,
-    idle_timeout: u64,
-) -> usize
-    ensures served { AreSlotsServed W.left W.written W.known W.counts O.answer O.after now idle_timeout
-        owner.old adapter.old places.old owner.new adapter.new places.new }
-    ensures watched { T.has_seen watcher.old adapter.old.state.shared.objects →
-        T.has_seen watcher.new adapter.new.state.shared.objects }
-    ensures ended { result ≡ ended_in places.old places.new }
-    ensures few { result ≤ length places.old }
-{
-    let Some((slot, others)) = places.split_first_mut() else {
-        return 0;
-    };
-    let ended = serve_slot(slot, adapter, owner, watcher, now, idle_timeout);
-    usize::from(ended) + serve_slots(others, adapter, owner, watcher, now, idle_timeout)
-}
-
-/// Serves one slot of a round. Returns whether its peer ended.
-fn serve_slot<W: Wire + Drop, O: Owner, T: Watcher<W>>(
-    slot: &mut Option<PeerIo<W>>,
-    adapter: &mut Adapter,
-    owner: &mut O,
-    watcher: &mut T,
-    now: u64,
-    idle_timeout: u64,
-) -> bool
-    ensures served { IsSlotServed W.left W.written W.known W.counts O.answer O.after now idle_timeout
-        owner.old adapter.old slot.old owner.new adapter.new slot.new }
-    ensures watched { T.has_seen watcher.old adapter.old.state.shared.objects →
-        T.has_seen watcher.new adapter.new.state.shared.objects }
-    ensures ended { result ≡ has_ended slot.old slot.new }
-{
-    let Some(io) = slot else {
-        return false;
-    };
-    if io.serve(adapter, owner, watcher, now, idle_timeout) {
-        return false;
-    }
-    adapter.end(io.peer);
-    *slot = None;
-    true
 }

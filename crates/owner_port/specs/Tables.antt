@@ -11,10 +11,10 @@ use Rattle.cip_objects.specs.declared.config.AssemblyConfig.{AssemblyConfig}
 use Rattle.cip_objects.specs.declared.config.Config.{Config}
 use Rattle.cip_values.specs.declared.element.ElementaryType.TheVariants as types
 use Rattle.cip_values.specs.declared.element.ValueType.{ValueType}
-use Rattle.enip_config.specs.declared.attribute_type.AttributeType.{AttributeType}
-use Rattle.enip_config.specs.declared.attribute_type.AttributeType.TheVariants as attribute_types
+use Rattle.attribute_types.specs.declared.attribute_type.AttributeType.{AttributeType}
+use Rattle.attribute_types.specs.declared.attribute_type.AttributeType.TheVariants as attribute_types
 use Rattle.enip_config.specs.declared.configuration.Configuration.{Configuration}
-use Rattle.enip_config.specs.StandardTypes.{type_of_standard}
+use Rattle.attribute_types.specs.StandardTypes.{type_of_standard}
 use Rattle.enip_owner.specs.declared.attribute_ref.AttributeRef.{AttributeRef}
 use Rattle.owner_port.specs.declared.attribute_table.TypedAttribute.{TypedAttribute}
 use Rattle.owner_port.specs.declared.device_table.DeviceTable.{DeviceTable}

@@ -20,6 +20,8 @@ mod commands;
 #[cfg(test)]
 mod eds;
 #[cfg(test)]
+mod interfaces;
+#[cfg(test)]
 mod keep;
 #[cfg(test)]
 mod layouts;

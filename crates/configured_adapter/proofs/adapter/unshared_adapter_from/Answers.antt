@@ -4,8 +4,11 @@ use Rattle.enip_config.specs.declared.configuration.Configuration.{Configuration
 use Rattle.cip_ledger.specs.Device.{queued_device, with_reset}
 use Rattle.configured_adapter.specs.Configured.{ledger_from, queue_from, listen_of, limits_of, reset_from}
 use Rattle.enip_config.specs.Commands.{queue_limit}
-use Rattle.configured_adapter.proofs.ObjectLemmas.{objects_fail}
+use Rattle.configured_adapter.proofs.ObjectLemmas.{objects_fail, limits_by}
 use Rattle.configured_adapter.proofs.adapter.unshared_adapter_from.Goals as goal
+
+pub adapter_of-requires-clause-limits : goal.adapter_of-requires-clause-limits
+adapter_of-requires-clause-limits c = limits_by c.in_ok-configuration.configuration c.in_ok-configuration.ensures.in_range
 
 pub returns-clause-accepted : goal.returns-clause-accepted
 returns-clause-accepted c = (c.in_ok-configuration.configuration, c.in_ok-configuration.ensures.read)

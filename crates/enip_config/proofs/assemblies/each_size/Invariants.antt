@@ -1,6 +1,7 @@
 use Rattle.std.proofs.Common.{◌≡◌, ◌++◌, drop, option_map}
 use Rattle.toml.specs.View.{items_view}
-use Rattle.enip_config.specs.Keys.{each, number_in}
+use Rattle.attribute_types.specs.Values.{number_in}
+use Rattle.enip_config.specs.Keys.{each}
 use Rattle.enip_config.proofs.assemblies.each_size.Given as goal
 
 abbrev pub invariant-loop-value : goal.invariant-loop-value

@@ -17,5 +17,6 @@ returns-clause-read c = record {
   reset = c.in_ok-reset.ensures.read;
   objects = subst (λ (router : MessageRouter). HasAllObjects (table_view c.args.text.now) router c.in_ok-objects.objects.items) c.router_of.ensures c.in_ok-objects.ensures.read;
   shares = c.in_ok-access.ensures.read;
+  interfaces = c.in_ok-interfaces.ensures.read;
   types = c.in_ok-attribute_types.ensures;
 }

@@ -1,0 +1,97 @@
+//! What is wrong with the table `access` of a configuration.
+
+use crate::explanation::{Location, Problem};
+use crate::finding::Finding;
+use crate::value_problems::out_of_range;
+use enip_access::{LONGEST_LIST, Prefix, PrefixFault};
+use enip_config::rules::{MOST_CONNECTIONS, MOST_PEERS};
+use std::alloc::{AllocError, Global};
+use thiserror::Error;
+use toml::{Table, Value};
+
+/// What is wrong with a list of rules. Each has the name of the list.
+#[derive(Debug, Drop, Error)]
+pub(crate) enum ListProblem {
+    #[error("{0} is not an array of addresses and prefixes")]
+    NoArray(&'static str),
+    #[error("{0} has {1} rules (allowed: up to 64)")]
+    Count(&'static str, usize),
+    #[error("a rule in {0} is not a string, such as \"10.0.0.0/8\"")]
+    NoText(&'static str),
+    #[error("{1} in {0} is neither an address nor a prefix, such as 10.0.0.0/8")]
+    NoAddress(&'static str, String),
+    #[error("{1} in {0} has a prefix length that is not a number from 0 to 32 (IPv4) or from 0 to 128 (IPv6)")]
+    Length(&'static str, String),
+    #[error("{1} in {0} has bits after the prefix (did you mean {2}?)")]
+    HostBits(&'static str, String, Prefix),
+}
+
+/// The first bad share of the table `access`, or that it is not a table.
+pub(crate) fn bad_shares(text: &Table) -> Option<Finding<'static>> {
+    let table = match text.get("access") {
+        None => return None,
+        Some(Value::Table(table)) => table,
+        Some(_) => return Some(Finding::new(
+            Location::Text("access"),
+            Problem::Type("access", "a table"),
+        )),
+    };
+    let shares = [
+        ("per_address", MOST_PEERS),
+        ("connections_per_address", MOST_CONNECTIONS),
+    ];
+    for (key, most) in shares {
+        if let Some(value) = table.get(key) {
+            if let Some(problem) = out_of_range(key, value, 1, most) {
+                return Some(Finding::new(Location::Access(key), problem));
+            }
+        }
+    }
+    None
+}
+
+/// The first list of the table `access` that is not one.
+pub(crate) fn list_problem(
+    alloc: Global,
+    text: &Table,
+) -> Result<Option<Finding<'static>>, AllocError> {
+    let Some(Value::Table(table)) = text.get("access") else {
+        return Ok(None);
+    };
+    for name in ["read", "write"] {
+        if let Some(value) = table.get(name) {
+            if let Some(problem) = problem_of(alloc, name, value)? {
+                return Ok(Some(Finding::new(Location::Access(name), Problem::List(problem))));
+            }
+        }
+    }
+    Ok(None)
+}
+
+/// What is wrong with a list.
+fn problem_of(
+    alloc: Global,
+    name: &'static str,
+    value: &Value,
+) -> Result<Option<ListProblem>, AllocError> {
+    let Value::Array(values) = value else {
+        return Ok(Some(ListProblem::NoArray(name)));
+    };
+    for value in values.as_slice() {
+        let Value::String(text) = value else {
+            return Ok(Some(ListProblem::NoText(name)));
+        };
+        if let Err(fault) = Prefix::parse(text.as_bytes()) {
+            let text = text.clone()?;
+            return Ok(Some(match fault {
+                PrefixFault::Address => ListProblem::NoAddress(name, text),
+                PrefixFault::Length => ListProblem::Length(name, text),
+                PrefixFault::HostBits(meant) => ListProblem::HostBits(name, text, meant),
+            }));
+        }
+    }
+    if values.len() > LONGEST_LIST {
+        return Ok(Some(ListProblem::Count(name, values.len())));
+    }
+    Ok(None)
+}

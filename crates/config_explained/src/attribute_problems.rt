@@ -1,0 +1,158 @@
+//! What is wrong with an attribute of an own object whose keys each have a value of their type.
+
+use crate::explanation::part_at;
+use attribute_types::{AttributeType, bound, number_type, value_bytes, width_of};
+use cip_application::{AttributeConfig, AttributeKind, SetFault};
+use cip_values::ElementaryType;
+use config_refusal::LoadFault;
+use std::alloc::{AllocError, Global};
+use thiserror::Error;
+use toml::{Table, Value};
+
+/// What is wrong with an attribute, how many attributes an object has, or how many bytes all values have.
+#[derive(Clone, Copy, Debug, Error)]
+pub(crate) enum AttributeProblem {
+    #[error("number is 0 (allowed: 1 to 65535)")]
+    NoNumber,
+    #[error("attribute {0} is defined twice")]
+    Twice(u16),
+    #[error("there are {0} attributes (allowed: up to 32)")]
+    Count(usize),
+    #[error("type is not one such as UINT, UINT[4], SHORT_STRING[32] or BYTES[12]")]
+    NoType,
+    #[error("{0} is not of type {1}")]
+    Value(&'static str, AttributeType),
+    #[error("{0} has no numbers for min and max")]
+    NoNumbers(AttributeType),
+    #[error("a value of type {0} has {1} bytes (allowed: 1 to 500)")]
+    Size(AttributeType, u16),
+    #[error("min is over max, or not a number")]
+    Range,
+    #[error("value has {0} bytes, but {1} has {2}")]
+    ValueSize(usize, AttributeType, u16),
+    #[error("value is longer than {0}")]
+    TooLong(AttributeType),
+    #[error("value is not from min to max")]
+    OutOfRange,
+    #[error("value is missing, and 0 is not from min to max")]
+    NoValue,
+    #[error("the values of all objects have over 16384 bytes")]
+    Total,
+}
+
+/// What is wrong with the attribute at these indices of its object and in it, and at which key.
+pub(crate) fn attribute_problem(
+    alloc: Global,
+    text: &Table,
+    place: (usize, usize),
+    attribute: &AttributeConfig,
+) -> Result<Option<(&'static str, AttributeProblem)>, AllocError> {
+    if attribute.number == 0 {
+        return Ok(Some(("number", AttributeProblem::NoNumber)));
+    }
+    let Some(Value::Table(table)) = part_at(text, place.0, "attribute", place.1) else {
+        return Ok(None);
+    };
+    let Some(Value::String(name)) = table.get("type") else {
+        return Ok(None);
+    };
+    let Some(of_type) = AttributeType::from_name(name.as_str()) else {
+        return Ok(Some(("type", AttributeProblem::NoType)));
+    };
+    let size = of_type.fixed_size();
+    if size == 0 || size > 500 {
+        return Ok(Some(("type", AttributeProblem::Size(of_type, size))));
+    }
+    if let Some(found) = bad_bounds(of_type, table) {
+        return Ok(Some(found));
+    }
+    if let Some(value) = table.get("value") {
+        match value_bytes(alloc, of_type, value) {
+            Ok(_) => {}
+            Err(LoadFault::Memory) => return Err(AllocError),
+            Err(LoadFault::Refused(_)) => {
+                return Ok(Some(("value", AttributeProblem::Value("value", of_type))));
+            }
+        }
+    }
+    Ok(bad_value(of_type, table, attribute))
+}
+
+/// What is wrong with the bounds of a type's numbers, and at which key.
+fn bad_bounds(of_type: AttributeType, table: &Table) -> Option<(&'static str, AttributeProblem)> {
+    for key in ["min", "max"] {
+        let Some(value) = table.get(key) else {
+            continue;
+        };
+        match element_of(of_type) {
+            None => return Some((key, AttributeProblem::NoNumbers(of_type))),
+            Some(element) if bound(element, Some(value), 0).is_err() => {
+                return Some((key, AttributeProblem::Value(key, of_type)));
+            }
+            Some(_) => {}
+        }
+    }
+    None
+}
+
+/// The elementary type of a type's values, if these are numbers.
+fn element_of(of_type: AttributeType) -> Option<ElementaryType> {
+    match of_type {
+        AttributeType::One(element) | AttributeType::Array(element, _)
+            if number_type(element).is_some() => { Some(element) }
+        _ => None,
+    }
+}
+
+/// What is wrong with the value of an attribute, and at which key.
+fn bad_value(
+    of_type: AttributeType,
+    table: &Table,
+    attribute: &AttributeConfig,
+) -> Option<(&'static str, AttributeProblem)> {
+    if has_falling_range(of_type, attribute.kind) {
+        let key = if table.get("min").is_some() {
+            "min"
+        } else {
+            "max"
+        };
+        return Some((key, AttributeProblem::Range));
+    }
+    let value = attribute.value.as_slice();
+    match attribute.kind.check(value) {
+        Ok(()) => None,
+        Err(SetFault::InvalidAttributeValue) => match of_type {
+            AttributeType::ShortString(_) => Some(("value", AttributeProblem::TooLong(of_type))),
+            _ if table.get("value").is_some() => Some(("value", AttributeProblem::OutOfRange)),
+            _ => Some(("number", AttributeProblem::NoValue)),
+        },
+        Err(_) => {
+            let size = of_type.fixed_size();
+            Some((
+                "value",
+                AttributeProblem::ValueSize(value.len(), of_type, size),
+            ))
+        }
+    }
+}
+
+/// Whether the bounds of a kind's range do not rise: the least number is not in the range.
+fn has_falling_range(of_type: AttributeType, kind: AttributeKind) -> bool {
+    let AttributeKind::Fixed {
+        range: Some(range),
+        ..
+    } = kind
+    else {
+        return false;
+    };
+    let Some(element) = element_of(of_type) else {
+        return false;
+    };
+    let size = width_of(element);
+    let one = AttributeKind::Fixed {
+        size,
+        range: Some(range),
+    };
+    one.check(&range.least.to_le_bytes()[..usize::from(size)])
+        .is_err()
+}

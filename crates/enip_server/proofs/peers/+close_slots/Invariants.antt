@@ -1,5 +1,0 @@
-use Rattle.std.proofs.Common.{length}
-use Rattle.enip_server.proofs.peers.+close_slots.Given as goal
-
-abbrev pub decreases-close_slots : goal.decreases-close_slots
-decreases-close_slots g l = length l.slots.now

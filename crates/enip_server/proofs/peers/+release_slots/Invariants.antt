@@ -1,5 +1,0 @@
-use Rattle.std.proofs.Common.{length}
-use Rattle.enip_server.proofs.peers.+release_slots.Given as goal
-
-abbrev pub decreases-release_slots : goal.decreases-release_slots
-decreases-release_slots g l = length l.slots.now

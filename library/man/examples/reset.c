@@ -1,0 +1,65 @@
+/* A client resets the device. Both are in the same program: where this one
+   calls exchange(), yours uses TCP. */
+#include <assert.h>
+#include <enip_types.h>
+#include <stdio.h>
+#include <stdlib.h>
+#include <string.h>
+
+static const char config[] =
+    "vendor = 4660\ndevice_type = 43\nproduct_code = 7\n"
+    "major = 1\nminor = 1\n"
+    "serial = 1\nname = \"Lamp\"\naddress = [127, 0, 0, 1]\n"
+    "[counter]\nlimit = 100\n"
+    "[identity]\nreset = true\n";
+
+static enip_adapter *device;
+static enip_client *client;
+static uint32_t peer;
+static unsigned char frame[ENIP_FRAME_ROOM], answer[ENIP_ANSWER_ROOM];
+static unsigned char reply[ENIP_REPLY_ROOM];
+static size_t count;
+static enip_heard heard;
+
+static void check(int status) {
+    char text[80] = "";
+    if (status == ENIP_OK)
+        return;
+    enip_status_text(ENIP_OF_CALL, (uint32_t)status, text, sizeof text);
+    fprintf(stderr, "reset: %s\n", text);
+    exit(1);
+}
+
+/* Sends the frame that a call wrote, and feeds what comes back. */
+static void exchange(int status) {
+    enip_fed fed;
+    check(status);
+    check(enip_adapter_feed(device, 0, peer, frame, count, answer,
+                            sizeof answer, &fed));
+    check(enip_client_feed(client, answer, fed.answer, reply, sizeof reply,
+                           &heard));
+}
+
+int main(void) {
+    const enip_wants wants = ENIP_WANTS_DEFAULT;
+    unsigned char request[16];
+    size_t length = 0;
+    uint32_t before, after;
+    check(enip_adapter_new(config, strlen(config), &device, NULL));
+    check(enip_adapter_begin(device, &peer));
+    check(enip_client_new(&wants, &client));
+    exchange(enip_client_register(client, frame, sizeof frame, &count));
+    check(enip_adapter_resets(device, &before));
+    check(enip_request_service(request, sizeof request, &length, ENIP_RESET,
+                               1, 1));
+    exchange(enip_client_ask(client, request, length, frame, sizeof frame,
+                             &count));
+    check(enip_adapter_resets(device, &after));
+    assert(after == before + 1);
+    /* the answer is sent: now end all peers, and close their connections */
+    check(enip_adapter_end(device, peer));
+    puts("the device was reset");
+    enip_client_free(client);
+    enip_adapter_free(device);
+    return 0;
+}
