@@ -28,7 +28,7 @@
 #include <stddef.h>
 #include <stdint.h>
 
-#define ENIP_VERSION "0.1.0"
+#define ENIP_VERSION "0.2.0"
 
 #if defined(__GNUC__)
 #define ENIP_API __attribute__((visibility("default")))

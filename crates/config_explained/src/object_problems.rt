@@ -16,7 +16,7 @@ pub(crate) fn object_problem(
     let Ok(configuration) = Configuration::from_table(alloc, text) else {
         return Err(AllocError);
     };
-    let config = configuration.objects;
+    let config = configuration.into_objects();
     match config.fault() {
         None => Ok(None),
         Some(ConfigFault::Name) => Ok(Some(Finding::new(

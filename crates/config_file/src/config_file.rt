@@ -3,7 +3,6 @@
 ghost use Rattle.std.specs.Prelude.{◌≡◌};
 
 use clap::ArgMatches;
-use config_explained::explain;
 use config_refusal::{ConfigurationRefusal, LoadFault};
 use enip_cli::OsArg;
 use enip_common::{
@@ -85,17 +84,15 @@ impl<'a> ConfigFile<'a> {
         if let LoadFault::Memory = fault {
             return CommandError::of_memory();
         }
-        CommandError::new(Fault::from(fault), self.explanation(alloc))
+        CommandError::new(Fault::from(fault), self.refusal(alloc))
     }
 
-    /// Why the configuration in the file is refused.
-    fn explanation(&self, alloc: Global) -> Reason<'a> {
-        match explain(alloc, self.bytes()) {
-            Ok(Some(explanation)) => match format!(in alloc; "{explanation}") {
-                Ok(text) => Reason::Configuration(self.name(), ConfigurationReason::Check(text)),
-                Err(_) => Reason::Memory,
-            },
-            Ok(None) => Reason::Named(self.name(), NamedReason::Failed),
+    /// Why the configuration in the file is refused: by its content. The program says which check that fails.
+    fn refusal(&self, alloc: Global) -> Reason<'a> {
+        match self.bytes().to_vec(alloc) {
+            Ok(content) => {
+                Reason::Configuration(self.name(), ConfigurationReason::Content(content))
+            }
             Err(_) => Reason::Memory,
         }
     }
@@ -110,7 +107,7 @@ pub fn error_of_run<'a>(
     stream_reason: Option<Reason<'a>>,
 ) -> CommandError<'a> {
     let reason = match fault {
-        Fault::Configuration(_) => config.explanation(alloc),
+        Fault::Configuration(_) => config.refusal(alloc),
         Fault::Setup => { Reason::Configuration(config.name(), ConfigurationReason::NoCapacity) }
         Fault::Run(ProgramFault::Line(number, why)) => Reason::Line(input_name, number, why),
         Fault::Run(ProgramFault::Memory) => Reason::Memory,

@@ -122,21 +122,9 @@ fn start_of(
 ) -> Option<AdapterStart> {
     let queue = configuration.queue_limit();
     let limits = limits_of(&configuration);
-    let Configuration {
-        mut objects,
-        reset,
-        address,
-        port,
-        peers: _,
-        connections: _,
-        first_handle: _,
-        first_id: _,
-        ledger,
-        queue: _,
-        access: _,
-        interfaces: _,
-        attribute_types: _,
-    } = configuration;
+    let (address, port) = (configuration.address, configuration.port);
+    let (reset, ledger) = (configuration.reset, configuration.ledger);
+    let mut objects = configuration.into_objects();
     objects
         .assemblies
         .sort_unstable_by_key(|assembly| assembly.instance);

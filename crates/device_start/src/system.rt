@@ -3,6 +3,7 @@
 use config_file::ConfigFile;
 use enip_common::{CommandError, ConfigurationReason, Reason};
 use enip_config::Configuration;
+use std::alloc::Global;
 use std::fs::read_to_string;
 use system_interface::{Link, LinkTexts, Network, fill_ethernet_link, fill_tcp_ip};
 
@@ -72,20 +73,74 @@ fn link_of<'a>(
 ) -> Result<Link, CommandError<'a>> {
     let address = file_of(rt, name, "address")?;
     if address.is_empty() {
-        let text = format!(in rt.alloc(); "ethernet_link: no interface {name}")?;
-        return Err(missing(config, text));
+        return Err(no_link(rt, config, name));
     }
-    let flags = file_of(rt, name, "flags")?;
-    let carrier = file_of(rt, name, "carrier")?;
-    let speed = file_of(rt, name, "speed")?;
-    let duplex = file_of(rt, name, "duplex")?;
+    link_with_address(rt, name, address.as_str())
+}
+
+/// The error of a configuration whose table `ethernet_link` names an interface that the system does not have.
+fn no_link<'a>(rt: &HostRuntime, config: &ConfigFile<'a>, name: &str) -> CommandError<'a> {
+    match format!(in rt.alloc(); "ethernet_link: no interface {name}") {
+        Ok(text) => missing(config, text),
+        Err(_) => CommandError::of_memory(),
+    }
+}
+
+/// The state of an interface with this address.
+fn link_with_address<'a>(
+    rt: &HostRuntime,
+    name: &str,
+    address: &str,
+) -> Result<Link, CommandError<'a>> {
+    let mut files = LinkFiles::new(rt.alloc());
+    files.read(rt, name)?;
     Ok(Link::from_texts(LinkTexts {
-        address: address.as_str(),
-        flags: flags.as_str(),
-        carrier: carrier.as_str(),
-        speed: speed.as_str(),
-        duplex: duplex.as_str(),
+        address,
+        flags: files.flags.as_str(),
+        carrier: files.carrier.as_str(),
+        speed: files.speed.as_str(),
+        duplex: files.duplex.as_str(),
     }))
+}
+
+/// The texts of the files of an interface.
+struct LinkFiles {
+    flags: String,
+    carrier: String,
+    speed: String,
+    duplex: String,
+}
+
+// Written out, so that each exit of a function that owns one calls it, and has no drop of every part.
+impl Drop for LinkFiles {
+    fn drop(self) {
+        let LinkFiles {
+            flags: _,
+            carrier: _,
+            speed: _,
+            duplex: _,
+        } = self;
+    }
+}
+
+impl LinkFiles {
+    fn new(alloc: Global) -> LinkFiles {
+        LinkFiles {
+            flags: String::new(alloc),
+            carrier: String::new(alloc),
+            speed: String::new(alloc),
+            duplex: String::new(alloc),
+        }
+    }
+
+    /// Reads the files of this interface.
+    fn read<'a>(&mut self, rt: &HostRuntime, name: &str) -> Result<(), CommandError<'a>> {
+        self.flags = file_of(rt, name, "flags")?;
+        self.carrier = file_of(rt, name, "carrier")?;
+        self.speed = file_of(rt, name, "speed")?;
+        self.duplex = file_of(rt, name, "duplex")?;
+        Ok(())
+    }
 }
 
 /// The text of a file of an interface. Nothing if it cannot be read.

@@ -139,7 +139,7 @@ fn start_of(configuration: Configuration, life: u64) -> AdapterStart
         },
         shares: shares_from(&configuration.access),
         idle_timeout: 0,
-        objects: configuration.objects,
+        objects: configuration.into_objects(),
     }
 }
 

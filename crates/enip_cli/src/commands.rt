@@ -9,10 +9,10 @@ use std::alloc::{AllocError, Global};
 /// The name of the program.
 pub const PROGRAM: &str = "enip";
 
-pub(crate) const VERSION: &str = "0.1.0";
+pub(crate) const VERSION: &str = "0.2.0";
 
 /// The date of the version.
-pub(crate) const DATE: &str = "2026-11-27";
+pub(crate) const DATE: &str = "2026-11-29";
 
 /// What the program is.
 pub(crate) const ABOUT: &str = "An EtherNet/IP adapter and explicit messaging client";

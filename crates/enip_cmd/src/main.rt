@@ -2,6 +2,7 @@
 #![tactic(auto)]
 
 pub mod answer;
+mod explained;
 pub mod replay;
 pub mod report;
 pub mod show;
@@ -22,6 +23,7 @@ use enip_requests::{
     Query, is_help_of_objects, run_call, run_get, run_help_of_objects, run_query, run_set,
 };
 use enip_sessions::{run_batch, run_inspect, run_watch};
+use explained::explained;
 use replay::{draw, replay};
 use report::Reported;
 use show::show;
@@ -164,7 +166,7 @@ fn run_arguments(rt: &HostRuntime, args: &[OsArg]) -> u8 {
 fn status_of(rt: &HostRuntime, ended: Result<u8, CommandError<'_>>) -> u8 {
     match ended {
         Ok(status) => status,
-        Err(error) => error.print(rt),
+        Err(error) => explained(rt.alloc(), error).print(rt),
     }
 }
 

@@ -163,6 +163,9 @@ pub enum ConfigurationReason {
     /// A check of the configuration fails: what is wrong, and in which line.
     #[error("{0}")]
     Check(String),
+    /// A check of a configuration with this content fails. The program says which one before it prints the reason.
+    #[error("refused")]
+    Content(Vec<u8>),
     /// It is longer than any device needs.
     #[error("over 1 MiB")]
     TooLong,
@@ -331,6 +334,34 @@ impl<'a> CommandError<'a> {
             fault,
             reason,
             note: Some(note),
+        }
+    }
+
+    /// The name and the content of the configuration that the command refuses, if the reason has the content.
+    pub fn refused_content(&self) -> Option<(&'a str, &[u8])> {
+        match &self.reason {
+            Reason::Configuration(name, ConfigurationReason::Content(content)) => {
+                Some((*name, content.as_slice()))
+            }
+            _ => None,
+        }
+    }
+
+    /// The same error, for this reason.
+    pub fn with_reason(self, reason: Reason<'a>) -> CommandError<'a>
+        ensures fault { result.fault ≡ self.entry.fault }
+        ensures reason { result.reason ≡ reason.entry }
+        ensures note { result.note ≡ self.entry.note }
+    {
+        let CommandError {
+            fault,
+            reason: _,
+            note,
+        } = self;
+        CommandError {
+            fault,
+            reason,
+            note,
         }
     }
 

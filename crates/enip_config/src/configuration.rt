@@ -46,7 +46,7 @@ use toml::Table;
 ///     Ok(configuration.port) // 44818
 /// }
 /// ```
-#[derive(Debug, Drop)]
+#[derive(Debug)]
 pub struct Configuration {
     /// The device's identity, its counter and its assemblies.
     pub objects: Config,
@@ -74,6 +74,27 @@ pub struct Configuration {
     pub interfaces: NamedInterfaces,
     /// The types of the attributes of each own object, in the order of the file.
     pub attribute_types: Vec<Vec<AttributeType>>,
+}
+
+// Written out, so that each exit of a function that owns one calls it, and has no drop of every part.
+impl Drop for Configuration {
+    fn drop(self) {
+        let Configuration {
+            objects: _,
+            reset: _,
+            address: _,
+            port: _,
+            peers: _,
+            connections: _,
+            first_handle: _,
+            first_id: _,
+            ledger: _,
+            queue: _,
+            access: _,
+            interfaces: _,
+            attribute_types: _,
+        } = self;
+    }
 }
 
 impl Configuration {
@@ -112,6 +133,28 @@ impl Configuration {
         Ok(configuration)
     }
 
+    /// The objects of the device.
+    pub fn into_objects(self) -> Config
+        ensures { result ≡ self.entry.objects }
+    {
+        let Configuration {
+            objects: described,
+            reset: _,
+            address: _,
+            port: _,
+            peers: _,
+            connections: _,
+            first_handle: _,
+            first_id: _,
+            ledger: _,
+            queue: _,
+            access: _,
+            interfaces: _,
+            attribute_types: _,
+        } = self;
+        described
+    }
+
     /// How many queued commands can wait. `None` if no service is queued, so that the device has no queue.
     pub fn queue_limit(&self) -> Option<u16>
         ensures value { result ≡ queue_limit self.now }
@@ -139,8 +182,9 @@ impl Configuration {
         ensures lists { IfOk result (λ c. lists_of (table_view text.now) ≡ Some (option_map lists_seen c.access)) }
         ensures refused { IfErr result (IsBadList (lists_of (table_view text.now))) }
     {
-        let access = with_lists(text, self.access)?;
-        Ok(Configuration { access, ..self })
+        let mut configuration = self;
+        configuration.access = with_lists(text, configuration.access.take())?;
+        Ok(configuration)
     }
 
     /// Reads the values of a table whose keys are all known, without the lists of the table `access`. The objects may
