@@ -1,6 +1,6 @@
 //! Why a command fails, as text for people. It comes before the line that goes with the exit status.
 
-ghost use Rattle.std.specs.Prelude.{◌≡◌};
+ghost use Rattle.std.specs.Prelude.{◌≡◌, IfSome};
 ghost use Rattle.enip_common.specs.Statuses.{exit_status};
 
 use crate::fault::Fault;
@@ -337,31 +337,16 @@ impl<'a> CommandError<'a> {
         }
     }
 
-    /// The name and the content of the configuration that the command refuses, if the reason has the content.
-    pub fn refused_content(&self) -> Option<(&'a str, &[u8])> {
+    /// The fault, and the name and the content of the configuration that the command refuses. `None` if the reason is
+    /// another one.
+    pub fn refused_content(&self) -> Option<(Fault, &'a str, &[u8])>
+        ensures { IfSome result (λ r. r.0 ≡ self.now.fault) }
+    {
         match &self.reason {
             Reason::Configuration(name, ConfigurationReason::Content(content)) => {
-                Some((*name, content.as_slice()))
+                Some((self.fault, *name, content.as_slice()))
             }
             _ => None,
-        }
-    }
-
-    /// The same error, for this reason.
-    pub fn with_reason(self, reason: Reason<'a>) -> CommandError<'a>
-        ensures fault { result.fault ≡ self.entry.fault }
-        ensures reason { result.reason ≡ reason.entry }
-        ensures note { result.note ≡ self.entry.note }
-    {
-        let CommandError {
-            fault,
-            reason: _,
-            note,
-        } = self;
-        CommandError {
-            fault,
-            reason,
-            note,
         }
     }
 

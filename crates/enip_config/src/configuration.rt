@@ -135,7 +135,7 @@ impl Configuration {
 
     /// The objects of the device.
     pub fn into_objects(self) -> Config
-        ensures { result ≡ self.entry.objects }
+        ensures { result ≡ self.objects }
     {
         let Configuration {
             objects: described,
@@ -182,9 +182,37 @@ impl Configuration {
         ensures lists { IfOk result (λ c. lists_of (table_view text.now) ≡ Some (option_map lists_seen c.access)) }
         ensures refused { IfErr result (IsBadList (lists_of (table_view text.now))) }
     {
-        let mut configuration = self;
-        configuration.access = with_lists(text, configuration.access.take())?;
-        Ok(configuration)
+        let Configuration {
+            objects,
+            reset,
+            address,
+            port,
+            peers,
+            connections,
+            first_handle,
+            first_id,
+            ledger,
+            queue,
+            access,
+            interfaces,
+            attribute_types,
+        } = self;
+        let access = with_lists(text, access)?;
+        Ok(Configuration {
+            objects,
+            reset,
+            address,
+            port,
+            peers,
+            connections,
+            first_handle,
+            first_id,
+            ledger,
+            queue,
+            access,
+            interfaces,
+            attribute_types,
+        })
     }
 
     /// Reads the values of a table whose keys are all known, without the lists of the table `access`. The objects may
