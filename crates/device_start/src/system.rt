@@ -73,17 +73,19 @@ fn link_of<'a>(
 ) -> Result<Link, CommandError<'a>> {
     let address = file_of(rt, name, "address")?;
     if address.is_empty() {
-        return Err(no_link(rt, config, name));
+        return no_link(rt, config, name);
     }
     link_with_address(rt, name, address.as_str())
 }
 
-/// The error of a configuration whose table `ethernet_link` names an interface that the system does not have.
-fn no_link<'a>(rt: &HostRuntime, config: &ConfigFile<'a>, name: &str) -> CommandError<'a> {
-    match format!(in rt.alloc(); "ethernet_link: no interface {name}") {
-        Ok(text) => missing(config, text),
-        Err(_) => CommandError::of_memory(),
-    }
+/// Refuses a configuration whose table `ethernet_link` names an interface that the system does not have.
+fn no_link<'a>(
+    rt: &HostRuntime,
+    config: &ConfigFile<'a>,
+    name: &str,
+) -> Result<Link, CommandError<'a>> {
+    let text = format!(in rt.alloc(); "ethernet_link: no interface {name}")?;
+    Err(missing(config, text))
 }
 
 /// The state of an interface with this address.
