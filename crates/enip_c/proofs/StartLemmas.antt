@@ -1,6 +1,8 @@
 -- The slots of a ledger that an adapter starts from.
-use Rattle.std.proofs.Common.{◌≡◌, ◌≤◌, ℕ, Option, Some, None, IfSome, subst}
+use Rattle.std.proofs.Common.{◌≡◌, ◌≤◌, ℕ, Option, Some, None, IfSome, subst, sym}
 use Rattle.std.specs.Option.{ForSome, option_map}
+use Rattle.cip_objects.specs.Configuration.{fault_of}
+use Rattle.cip_objects.specs.declared.config.Config.{Config}
 use Rattle.enip_config.specs.declared.ledger.LedgerConfig.{LedgerConfig}
 use Rattle.enip_config.specs.Documents.{HasRanges}
 use Rattle.kept_adapter.specs.declared.adapter_start.LedgerStart.{LedgerStart}
@@ -22,3 +24,7 @@ pub slots_to : (life : ℕ) (configured : Option LedgerConfig) (ledger : Option 
 slots_to life None ledger ranges is start e = absurd (cc)
 slots_to life (Some l) ledger ranges is start e =
     subst (λ s. s.originators ≤ 64) (same_start (ledger_start life l) start (cc)) ranges.originators_to
+
+-- The objects of a configuration that is accepted are accepted.
+pub accepted : (described objects : Config) → objects ≡ described → fault_of described ≡ None → fault_of objects ≡ None
+accepted described objects same is = subst (λ o. fault_of o ≡ None) (sym same) is

@@ -3,7 +3,8 @@ use Rattle.enip_c.proofs.StartLemmas as lemma
 use Rattle.enip_c.proofs.starting.start_of.Goals as goal
 
 pub invariant_of-result-clause-accepted : goal.invariant_of-result-clause-accepted
-invariant_of-result-clause-accepted c = c.requires.accepted
+invariant_of-result-clause-accepted c =
+    lemma.accepted c.args.configuration.objects c.into_objects.result c.into_objects.ensures c.requires.accepted
 
 pub invariant_of-result-clause-slots_from : goal.invariant_of-result-clause-slots_from
 invariant_of-result-clause-slots_from c =
