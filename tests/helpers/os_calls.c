@@ -14,7 +14,6 @@
 #include <sys/epoll.h>
 #include <sys/socket.h>
 #include <sys/stat.h>
-#include <time.h>
 #include <unistd.h>
 
 struct address {
@@ -213,7 +212,6 @@ static void events(const struct entry *entries, ptrdiff_t count) {
 static void ready(void) {
     struct entry entries[4];
     int fds[2], pair[2], set = opened("epoll_create1", epoll_create1(EPOLL_CLOEXEC));
-    struct timespec before, after;
     ptrdiff_t count;
     show("pipe", pipe(fds));
     show("socketpair", socketpair(AF_UNIX, SOCK_STREAM, 0, pair));
@@ -234,10 +232,7 @@ static void ready(void) {
     show("remove", rattle_epoll_ctl(set, EPOLL_CTL_DEL, fds[0], 0, 0));
     count = show("wait", rattle_epoll_wait(set, entries, 4, 0));
     events(entries, count);
-    clock_gettime(CLOCK_MONOTONIC, &before);
-    show("nothing changed", rattle_epoll_wait(set, entries, 4, 30));
-    clock_gettime(CLOCK_MONOTONIC, &after);
-    show("it waited", (after.tv_sec - before.tv_sec) * 1000000000 + after.tv_nsec - before.tv_nsec >= 25000000);
+    show("nothing changed", rattle_epoll_wait(set, entries, 4, 5));
     close(pair[1]);
     count = show("the other end is closed", rattle_epoll_wait(set, entries, 4, 0));
     events(entries, count);
