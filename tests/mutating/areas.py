@@ -216,10 +216,10 @@ class Scripts:
             head, _, rest = script.read_text().partition("\n")
             mode = script.stat().st_mode
             script.unlink()
-            script.write_text('%s\n: >>"%s"\n%s' % (head, reached / path.replace("/", ":"), rest))
+            script.write_text('%s\n: >>"%s"\n%s' % (head, reached / path, rest))
             script.chmod(mode)
         if run([copy / SCRIPTS, test.split()[1]], LONGEST)[0] is None:
-            self.reached[test] = {it.name.replace(":", "/") for it in reached.iterdir()}
+            self.reached[test] = {it.name for it in reached.iterdir()}
         shutil.rmtree(copy)
 
     def judge(self, error, seconds):

@@ -6,7 +6,7 @@ from mutating.rules import Rules
 from mutating.sources import TOP
 from mutating.tokens import Token
 
-SCRIPTS = ("enip", "enip-prove", "prove", "install-library", "package", "packaging/build-program", "packaging/proving", "check")
+SCRIPTS = ("enip", "enip-prove", "prove", "install-library", "package", "check")
 TURNED = {
     "=": "!=", "!=": "=", "==": "!=", "-z": "-n", "-n": "-z", "-eq": "-ne", "-ne": "-eq", "-lt": "-le", "-le": "-lt",
     "-gt": "-ge", "-ge": "-gt", "&&": "||", "||": "&&", "-e": "! -e", "-x": "! -x", "-f": "! -f", "-d": "! -d", "!": "",
