@@ -25,6 +25,8 @@ static uint8_t *block_of(const void *bytes, size_t size) {
         exit(2);
     if (size != 0)
         memcpy(block, bytes, size);
+    else
+        *block = 0;
     return block;
 }
 
