@@ -1,7 +1,7 @@
 //! The configuration of a device in a file that an argument of the program `enip` names.
 //!
-//! - A [`ConfigFile`] has the content of the file. It reads the configuration, or makes the error that says why it is
-//!   refused.
+//! - A [`ConfigFile`] has the content of the file. It reads the configuration, or makes the error of a refused one, which
+//!   has that content.
 //! - [`error_of_run`] makes the error of a command that runs the device of a configuration over lines.
 #![tactic(auto)]
 

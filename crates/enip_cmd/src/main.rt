@@ -1,32 +1,22 @@
 //! `enip`: an EtherNet/IP adapter and explicit messaging client on the command line.
 #![tactic(auto)]
 
-pub mod answer;
 mod explained;
-pub mod replay;
-pub mod report;
-pub mod show;
 
-use answer::answer;
 use clap::ArgMatches;
 use command_line::{Page, parse, run_page};
-use config_file::{ConfigFile, error_of_run};
 use described_device::{run_check, run_eds};
-use enip_cli::{OsArg, PROGRAM, arguments_after, os_args, reserve_streams};
+use enip_cli::{OsArg, PROGRAM, os_args, reserve_streams};
 use enip_client::ListCommand;
-use enip_common::{
-    ARGUMENTS_REFUSED, ArgumentError, CommandError, ErrorKeeping, Fault, INPUT, NamedFile,
-    NamedReason, OUTPUT, Reason, is_input, print_argument_error,
-};
+use enip_common::{ARGUMENTS_REFUSED, CommandError};
 use enip_device::run_serve;
 use enip_requests::{
     Query, is_help_of_objects, run_call, run_get, run_help_of_objects, run_query, run_set,
 };
 use enip_sessions::{run_batch, run_inspect, run_watch};
 use explained::explained;
-use replay::{draw, replay};
-use report::Reported;
-use show::show;
+pub use line_commands::{answer, replay, report, show};
+use line_commands::{run_answer, run_replay, run_show};
 use std::process::ExitCode;
 
 /// Runs the command in the arguments. Returns the exit status.
@@ -62,93 +52,6 @@ fn run_command<'a>(
         _ => {}
     }
     Ok(ARGUMENTS_REFUSED)
-}
-
-/// `enip answer`.
-fn run_answer<'a>(
-    rt: &HostRuntime,
-    args: &[OsArg],
-    matches: &ArgMatches<'a>,
-) -> Result<u8, CommandError<'a>> {
-    if is_input(matches, "CONFIG") {
-        return Ok(print_argument_error(rt, ArgumentError::InputOfLines));
-    }
-    let config = ConfigFile::read(rt, args, matches)?;
-    let text = config.text(rt.alloc())?;
-    let mut input = ErrorKeeping::new(rt.stdin());
-    let mut output = ErrorKeeping::new(rt.stdout());
-    let mut reported = Reported::new();
-    let status = answer(rt.alloc(), text, &mut input, &mut output, &mut reported);
-    match reported.fault() {
-        None => Ok(status),
-        Some(fault) => {
-            let reason = output.reason(OUTPUT).or(input.reason(INPUT));
-            Err(error_of_run(rt.alloc(), fault, &config, INPUT, reason))
-        }
-    }
-}
-
-/// `enip replay`.
-fn run_replay<'a>(
-    rt: &HostRuntime,
-    args: &[OsArg],
-    matches: &ArgMatches<'a>,
-) -> Result<u8, CommandError<'a>> {
-    if is_input(matches, "CONFIG") && is_input(matches, "SCRIPT") {
-        return Ok(print_argument_error(rt, ArgumentError::InputTwice));
-    }
-    let config = ConfigFile::read(rt, args, matches)?;
-    let rest = arguments_after(args, matches.get_str("CONFIG").unwrap_or(""));
-    let script = NamedFile::read(rt, rest, matches, "SCRIPT")?;
-    replay_files(rt, &config, &script, matches.get_flag("ladder"))
-}
-
-/// Runs or draws the script in a file.
-fn replay_files<'a>(
-    rt: &HostRuntime,
-    config: &ConfigFile<'a>,
-    script: &NamedFile<'a>,
-    ladder: bool,
-) -> Result<u8, CommandError<'a>> {
-    let config_text = config.text(rt.alloc())?;
-    let script_text = script.script_text(rt.alloc())?;
-    let mut output = ErrorKeeping::new(rt.stdout());
-    let mut reported = Reported::new();
-    let (alloc, lines) = (rt.alloc(), script_text.as_str());
-    let status = if ladder {
-        draw(alloc, config_text, lines, &mut output, &mut reported)
-    } else {
-        replay(alloc, config_text, lines, &mut output, &mut reported)
-    };
-    match reported.fault() {
-        None => Ok(status),
-        Some(fault) => Err(error_of_run(
-            alloc,
-            fault,
-            config,
-            script.name(),
-            output.reason(OUTPUT),
-        )),
-    }
-}
-
-/// `enip show`.
-fn run_show<'a>(rt: &HostRuntime) -> Result<u8, CommandError<'a>> {
-    let mut input = ErrorKeeping::new(rt.stdin());
-    let mut output = ErrorKeeping::new(rt.stdout());
-    let mut reported = Reported::new();
-    let status = show(rt.alloc(), &mut input, &mut output, &mut reported);
-    match reported.fault() {
-        None => Ok(status),
-        Some(Fault::Run(enip_commands::ProgramFault::Memory)) => Err(CommandError::of_memory()),
-        Some(_) => {
-            let reason = output.reason(OUTPUT).or(input.reason(INPUT));
-            Err(CommandError::of_reason(reason.unwrap_or(Reason::Named(
-                INPUT,
-                NamedReason::Failed,
-            ))))
-        }
-    }
 }
 
 /// Runs the command of these arguments. Returns the exit status.

@@ -1,2 +1,3 @@
 pub mod Owner
+pub mod Reasons
 pub mod Statuses

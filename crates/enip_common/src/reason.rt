@@ -1,6 +1,7 @@
 //! Why a command fails, as text for people. It comes before the line that goes with the exit status.
 
-ghost use Rattle.std.specs.Prelude.{◌≡◌, IfSome};
+ghost use Rattle.std.specs.Prelude.{◌≡◌, IfSome, option_map};
+ghost use Rattle.enip_common.specs.Reasons.{refused_content, refused_name};
 ghost use Rattle.enip_common.specs.Statuses.{exit_status};
 
 use crate::fault::Fault;
@@ -340,7 +341,9 @@ impl<'a> CommandError<'a> {
     /// The fault, and the name and the content of the configuration that the command refuses. `None` if the reason is
     /// another one.
     pub fn refused_content(&self) -> Option<(Fault, &'a str, &[u8])>
-        ensures { IfSome result (λ r. r.0 ≡ self.now.fault) }
+        ensures fault { IfSome result (λ r. r.0 ≡ self.now.fault) }
+        ensures name { option_map (λ r. r.1.now) result ≡ refused_name self.now.reason }
+        ensures content { option_map (λ r. r.2.now) result ≡ refused_content self.now.reason }
     {
         match &self.reason {
             Reason::Configuration(name, ConfigurationReason::Content(content)) => {

@@ -4,12 +4,11 @@ ghost use Rattle.std.specs.Prelude.{◌≡◌, IfOk};
 ghost use Rattle.enip_keep.specs.Server.{IsReady};
 ghost use Rattle.kept_server.specs.Rounds.{kept_of};
 
-use crate::owner_options::OwnerOptions;
-use crate::serve_command::{ServeOptions, listen_and_serve, start_and_access};
+use crate::serve_command::listen_and_serve;
 use config_file::ConfigFile;
 use device_rounds::Keeping;
 use device_sockets::{Observer, OwnerLog, Serving};
-use device_start::{KeptFile, OpenFile, first_adapter, listen_of, start_kept};
+use device_start::{KeptFile, OpenFile, start_kept};
 use enip_access::Access;
 use enip_adapter::{Adapter, Listen};
 use enip_cli::OsArg;
@@ -21,6 +20,7 @@ use kept_adapter::AdapterStart;
 use kept_server::KeptPeers;
 use owner_port::{DeviceTable, HasAddress, OwnerPort};
 use owner_sockets::{Owned, OwnerLink, OwnerSockets};
+use serve_options::{OwnerOptions, ServeOptions, kept_start, unkept_start};
 use std::alloc::{AllocError, Global};
 use std::net::SocketAddr;
 
@@ -111,12 +111,10 @@ fn unkept_parts<'a>(
     config: &ConfigFile<'a>,
     options: ServeOptions<'a>,
 ) -> Result<(PortParts, Adapter, Option<Access>, Listen), CommandError<'a>> {
-    let mut configuration = config.configuration(rt.alloc())?;
-    options.set_in(rt, config, &mut configuration)?;
+    let configuration = options.configuration(rt, config)?;
     let parts = PortParts::read(rt, args, owner, &configuration)?;
-    let adapter = first_adapter(rt, config, &configuration)?;
-    let access = configuration.access.take();
-    Ok((parts, adapter, access, listen_of(&configuration)))
+    let (adapter, access, listen) = unkept_start(rt, config, configuration)?;
+    Ok((parts, adapter, access, listen))
 }
 
 /// Serves the device of a configuration, whose state is kept in a file, and its owner.
@@ -145,10 +143,9 @@ fn kept_parts<'a>(
     config: &ConfigFile<'a>,
     options: ServeOptions<'a>,
 ) -> Result<(PortParts, AdapterStart, Option<Access>), CommandError<'a>> {
-    let mut configuration = config.configuration(rt.alloc())?;
-    options.set_in(rt, config, &mut configuration)?;
+    let configuration = options.configuration(rt, config)?;
     let parts = PortParts::read(rt, args, owner, &configuration)?;
-    let (start, access) = start_and_access(rt, config, configuration, options)?;
+    let (start, access) = kept_start(rt, config, configuration, options)?;
     Ok((parts, start, access))
 }
 
@@ -195,7 +192,7 @@ fn owned<'a, W: Wire + Drop, L: OwnerLog + Drop>(
 ) -> Result<(Owned<W, L>, SocketAddr), CommandError<'a>> {
     let asks = parts.asks;
     let (link, address) = owner_link(rt, owner, parts, &adapter, log)?;
-    let peers = Peers::new(rt.alloc(), adapter, options.idle().timeout())?;
+    let peers = Peers::new(rt.alloc(), adapter, options.idle_timeout())?;
     Ok((Owned::new(peers, link, asks), address))
 }
 

@@ -3,7 +3,7 @@ use Rattle.config_refusal.specs.declared.fault.ConfigurationRefusal.{Configurati
 use Rattle.enip_config.specs.Documents.{IsRefused}
 use Rattle.configured_adapter.specs.Configured.{IsAccepted}
 use Rattle.configured_runs.proofs.StatusLemmas.{status_of_fault, line_refused, configuration_refused}
-use Rattle.enip_cmd.proofs.answer.answer.Goals as goal
+use Rattle.line_commands.proofs.answer.answer.Goals as goal
 
 pub returns-in-Ok-clause-accepted : goal.returns-in-Ok-clause-accepted
 returns-in-Ok-clause-accepted g c done_ =

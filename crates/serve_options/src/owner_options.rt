@@ -13,7 +13,7 @@ use std::time::Duration;
 
 /// Where a device listens for its owner, and who that may be.
 #[derive(Clone, Copy)]
-pub(crate) struct OwnerOptions<'a> {
+pub struct OwnerOptions<'a> {
     /// Where it listens.
     address: &'a str,
     /// The only address from which an owner may come, as a number. `None`: an owner is on this machine.
@@ -48,22 +48,22 @@ impl<'a> OwnerOptions<'a> {
     }
 
     /// How long an owner has for an answer, in microseconds.
-    pub(crate) fn timeout(self) -> u64 {
+    pub fn timeout(self) -> u64 {
         self.timeout
     }
 
     /// The only address from which an owner may come, as a number.
-    pub(crate) fn from(self) -> Option<u128> {
+    pub fn from(self) -> Option<u128> {
         self.from
     }
 
     /// The argument that says where the device listens for its owner, for messages.
-    pub(crate) fn address(self) -> &'a str {
+    pub fn address(self) -> &'a str {
         self.address
     }
 
     /// Listens for an owner: at a loopback address, unless the options say from where one may come.
-    pub(crate) fn bind(self, rt: &HostRuntime) -> Result<TcpListener, CommandError<'a>> {
+    pub fn bind(self, rt: &HostRuntime) -> Result<TcpListener, CommandError<'a>> {
         let address = HostPort::parse(self.address)?;
         let listener = match self.from {
             Some(_) => address.bind(rt)?,
@@ -76,7 +76,7 @@ impl<'a> OwnerOptions<'a> {
     }
 
     /// The token that an owner shows, if it has to: the first line of the file.
-    pub(crate) fn read_token(
+    pub fn read_token(
         self,
         rt: &HostRuntime,
         args: &[OsArg],

@@ -4,7 +4,7 @@ use Rattle.enip_config.specs.Documents.{IsRefused}
 use Rattle.configured_adapter.specs.Configured.{IsAccepted}
 use Rattle.configured_runs.specs.Statuses.{IsOpeningRefused}
 use Rattle.configured_runs.proofs.StatusLemmas.{status_of_replay_fault, replay_line_refused, replay_configuration_refused, replay_setup}
-use Rattle.enip_cmd.proofs.replay.draw.Goals as goal
+use Rattle.line_commands.proofs.replay.draw.Goals as goal
 
 pub returns-in-Ok-clause-accepted : goal.returns-in-Ok-clause-accepted
 returns-in-Ok-clause-accepted g c done_ =

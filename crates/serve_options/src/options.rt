@@ -1,0 +1,137 @@
+//! The arguments of `enip serve`.
+
+use crate::idle::IdleOption;
+use crate::owner_options::OwnerOptions;
+use clap::ArgMatches;
+use config_file::ConfigFile;
+use device_start::{KeptFile, ReportedAddress, fill_from_system};
+use enip_adapter::Listen;
+use enip_common::{ArgumentError, CommandError, NumberArgument};
+use enip_config::Configuration;
+use std::net::SocketAddr;
+
+/// How a device is served.
+#[derive(Clone, Copy)]
+pub struct ServeOptions<'a> {
+    /// Where it listens.
+    address: &'a str,
+    /// Whether it answers datagrams.
+    discovery: bool,
+    /// After how many connections to return.
+    count: u64,
+    /// How long a client may be silent.
+    idle: IdleOption,
+    /// Where its state is kept.
+    keep: Option<KeptFile<'a>>,
+    /// Where it listens for its owner, and who that may be.
+    owner: Option<OwnerOptions<'a>>,
+    /// The address at which it listens for its owner.
+    owner_at: Option<SocketAddr>,
+    /// Where discovery reports it.
+    reported: Option<ReportedAddress<'a>>,
+}
+
+impl<'a> ServeOptions<'a> {
+    /// The options in the arguments.
+    pub fn from_matches(matches: &ArgMatches<'a>) -> Result<ServeOptions<'a>, ArgumentError<'a>> {
+        let idle = IdleOption::from_matches(matches)?;
+        let accepts_older = matches.get_flag("accept-older");
+        let owner = OwnerOptions::from_matches(matches)?;
+        Ok(ServeOptions {
+            address: matches.get_str("ADDRESS").unwrap_or(""),
+            discovery: matches.get_flag("discovery"),
+            // Without --count there is no end: more connections than there can be.
+            count: NumberArgument::CONNECTIONS
+                .value(matches)?
+                .unwrap_or(u64::MAX),
+            idle,
+            keep: match matches.get_str("keep") {
+                Some(name) => Some(KeptFile::new(name, accepts_older)),
+                None => None,
+            },
+            owner,
+            owner_at: None,
+            reported: None,
+        })
+    }
+
+    /// The argument that says where the device listens.
+    pub(crate) fn address(self) -> &'a str {
+        self.address
+    }
+
+    /// Whether the device answers datagrams.
+    pub(crate) fn discovery(self) -> bool {
+        self.discovery
+    }
+
+    /// After how many connections the device is served no longer.
+    pub fn count(self) -> u64 {
+        self.count
+    }
+
+    /// How long a client may be silent, in microseconds, if the device has no TCP/IP Interface.
+    pub fn idle_timeout(self) -> u64 {
+        self.idle.timeout()
+    }
+
+    /// Where the state of the device is kept.
+    pub fn keep(self) -> Option<KeptFile<'a>> {
+        self.keep
+    }
+
+    /// Where the device listens for its owner, and who that may be.
+    pub fn owner(self) -> Option<OwnerOptions<'a>> {
+        self.owner
+    }
+
+    /// The address at which the device listens for its owner.
+    pub(crate) fn owner_at(self) -> Option<SocketAddr> {
+        self.owner_at
+    }
+
+    /// Where discovery reports the device.
+    pub(crate) fn reported(self) -> Option<ReportedAddress<'a>> {
+        self.reported
+    }
+
+    /// Whether a state is taken that is damaged, or older than it was: its ledger then begins another life.
+    pub(crate) fn begins_life(self) -> bool {
+        match self.keep {
+            Some(file) => file.accepts_older(),
+            None => false,
+        }
+    }
+
+    /// The configuration of a file, with the seconds of `--idle` in it, and with the values that it leaves to interfaces of
+    /// this computer. Without an owner, no object may ask one while a client waits.
+    pub fn configuration(
+        self,
+        rt: &HostRuntime,
+        config: &ConfigFile<'a>,
+    ) -> Result<Configuration, CommandError<'a>> {
+        let mut configuration = match self.owner {
+            Some(_) => config.configuration(rt.alloc())?,
+            None => config.configuration_to_serve(rt.alloc())?,
+        };
+        self.idle.set_in(&mut configuration.objects.objects);
+        fill_from_system(rt, config, &mut configuration)?;
+        Ok(configuration)
+    }
+
+    /// The same, with what a configuration has for discovery.
+    pub fn with_reported(self, config: &'a str, listen: Listen) -> ServeOptions<'a> {
+        ServeOptions {
+            reported: Some(ReportedAddress { config, listen }),
+            ..self
+        }
+    }
+
+    /// The same, with the address at which the device listens for its owner.
+    pub fn with_owner_at(self, address: SocketAddr) -> ServeOptions<'a> {
+        ServeOptions {
+            owner_at: Some(address),
+            ..self
+        }
+    }
+}
