@@ -1,6 +1,7 @@
 """A device that keeps its state, for tests/restart: it is started, killed and asked, and its files are compared."""
 import atexit
 import contextlib
+import itertools
 import os
 import re
 import shutil
@@ -46,6 +47,8 @@ good = bad = 0
 is_over = False
 counting = threading.Lock()
 running = set()
+# Numbers for the loopback addresses of the devices.
+numbers = itertools.count(1)
 
 
 def kill_all():
@@ -79,8 +82,8 @@ def run(*arguments, timeout=LONGEST, **options):
 class Peer:
     """A client with a session."""
 
-    def __init__(self, port):
-        self.stream = socket.create_connection(("127.0.0.1", port), timeout=LONGEST)
+    def __init__(self, device):
+        self.stream = socket.create_connection((device.host, device.port), timeout=LONGEST)
         self.session = struct.unpack_from("<I", self.ask(frame(0x65, 0, REGISTER)), 4)[0]
 
     def ask(self, sent):
@@ -120,12 +123,15 @@ class Peer:
 
 
 class Device:
-    """`enip serve --keep`, which can be killed and started again at its port."""
+    """`enip serve --keep`, which can be killed and started again at its address and port. No other program of this machine
+    takes them meanwhile, since each device has a loopback address of its own."""
 
     def __init__(self, folder, config=CONFIG):
         self.folder, self.environment = Path(folder), {}
         self.config, self.file = self.folder / "device.toml", self.folder / "state"
-        self.port, self.process, self.errors, self.listens = 0, None, [], False
+        # other test runs at the same time hardly have the same first number
+        self.host, self.port = "127.%d.%d.%d" % (1 + os.getpid() % 254, *divmod(next(numbers), 256)), 0
+        self.process, self.errors, self.listens = None, [], False
         self.configure(config)
 
     def configure(self, config):
@@ -133,7 +139,7 @@ class Device:
 
     def start(self, *options, prefix=(), program=PROGRAM, **more):
         """Starts it. Returns the lines that it prints before it listens, or all if it does not."""
-        command = [*prefix, program, "serve", self.config, "127.0.0.1:%d" % self.port, "--keep", self.file, *options]
+        command = [*prefix, program, "serve", self.config, self.at, "--keep", self.file, *options]
         environment = {**os.environ, **self.environment}
         self.errors, self.listens = [], False
         self.process = subprocess.Popen(list(map(str, command)), stderr=subprocess.PIPE, text=True, env=environment, **more)
@@ -150,7 +156,7 @@ class Device:
 
     @property
     def at(self):
-        return "127.0.0.1:%d" % self.port
+        return "%s:%d" % (self.host, self.port)
 
     def kill(self):
         self.process.kill()
@@ -170,7 +176,7 @@ class Device:
         return self.start(*options)
 
     def get(self, *name):
-        with contextlib.closing(Peer(self.port)) as peer:
+        with contextlib.closing(Peer(self)) as peer:
             return peer.get(*name)
 
     def counter(self):
@@ -178,7 +184,7 @@ class Device:
 
     def values(self):
         """The values that are kept: an assembly, the counter, the object, the life and how many slots are taken."""
-        with contextlib.closing(Peer(self.port)) as peer:
+        with contextlib.closing(Peer(self)) as peer:
             return {name: peer.get(*name).hex() for name in NAMES}
 
     def files(self):
