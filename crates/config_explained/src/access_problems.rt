@@ -6,11 +6,12 @@ use crate::value_problems::out_of_range;
 use enip_access::{LONGEST_LIST, Prefix, PrefixFault};
 use enip_config::rules::{MOST_CONNECTIONS, MOST_PEERS};
 use std::alloc::{AllocError, Global};
+use std::fmt;
 use thiserror::Error;
 use toml::{Table, Value};
 
 /// What is wrong with a list of rules. Each has the name of the list.
-#[derive(Debug, Drop, Error)]
+#[derive(Drop, Error)]
 pub(crate) enum ListProblem {
     #[error("{0} is not an array of addresses and prefixes")]
     NoArray(&'static str),
@@ -24,6 +25,13 @@ pub(crate) enum ListProblem {
     Length(&'static str, String),
     #[error("{1} in {0} has bits after the prefix (did you mean {2}?)")]
     HostBits(&'static str, String, Prefix),
+}
+
+// As the text, since nothing prints it otherwise.
+impl fmt::Debug for ListProblem {
+    fn fmt<W: fmt::Write>(&self, f: &mut fmt::Formatter<W>) -> fmt::Result {
+        write!(f, "{self}")
+    }
 }
 
 /// The first bad share of the table `access`, or that it is not a table.

@@ -1,54 +1,67 @@
 //! Required keys that a table does not have.
 
-use arrayvec::ArrayVec;
 use std::fmt;
 
 /// The most required keys in a table: those at the top level.
 const MOST: usize = 8;
 
 /// The names of required keys that a table does not have. It prints as `vendor, serial and name are missing`.
-#[derive(Debug, Drop)]
+#[derive(Clone, Copy)]
 pub(crate) struct MissingKeys {
-    names: ArrayVec<&'static str, MOST>,
+    /// The first `count` of them are names.
+    names: [&'static str; MOST],
+    count: usize,
 }
 
 impl MissingKeys {
     /// No keys.
     pub(crate) fn new() -> MissingKeys {
         MissingKeys {
-            names: ArrayVec::new(),
+            names: [""; MOST],
+            count: 0,
         }
     }
 
     /// Adds a key.
     pub(crate) fn push(&mut self, name: &'static str) {
-        let _ = self.names.try_push(name);
+        let count = self.count;
+        if count < MOST {
+            self.names[count] = name;
+            self.count = count + 1;
+        }
     }
 
     /// The key that was added first.
     pub(crate) fn first(&self) -> Option<&'static str> {
-        self.names.first().copied()
+        match self.count {
+            0 => None,
+            _ => Some(self.names[0]),
+        }
     }
 }
 
 impl fmt::Display for MissingKeys {
     fn fmt<W: fmt::Write>(&self, f: &mut fmt::Formatter<W>) -> fmt::Result {
-        let last = self.names.len().saturating_sub(1);
-        for (index, name) in self.names.iter().enumerate() {
-            match index {
-                0 => write!(f, "{name}")?,
-                _ if index == last => write!(f, " and {name}")?,
-                _ => write!(f, ", {name}")?,
-            }
+        let last = self.count.saturating_sub(1);
+        for (index, name) in self.names.iter().take(self.count).enumerate() {
+            let before = match index {
+                0 => "",
+                _ if index == last => " and ",
+                _ => ", ",
+            };
+            write!(f, "{before}{name}")?;
         }
-        write!(
-            f,
-            "{}",
-            if last == 0 {
-                " is missing"
-            } else {
-                " are missing"
-            }
-        )
+        f.write_str(if last == 0 {
+            " is missing"
+        } else {
+            " are missing"
+        })
+    }
+}
+
+// As the text, since nothing prints it otherwise.
+impl fmt::Debug for MissingKeys {
+    fn fmt<W: fmt::Write>(&self, f: &mut fmt::Formatter<W>) -> fmt::Result {
+        write!(f, "{self}")
     }
 }

@@ -2,7 +2,7 @@
 
 use crate::explanation::{Location, Problem};
 use crate::finding::{Finding, KeyFinding};
-use crate::value_problems::{bad_flag, bad_number, missing_in, out_of_range};
+use crate::value_problems::{bad_flag, bad_member, bad_number, missing_in, out_of_range};
 use enip_config::rules::{ATTRIBUTE_NUMBER, CLASS, INSTANCE, REPLY, SERVICE_NUMBER, TableKind};
 use toml::{Table, Value};
 
@@ -147,9 +147,7 @@ fn bad_sizes(table: &Table) -> Option<KeyFinding<'static>> {
             Some(KeyFinding::new("size", problem))
         }
         (None, Some(Value::Array(values))) if values.len() == 2 => {
-            let problem = values
-                .iter()
-                .find_map(|value| out_of_range("a size in sizes", value, 0, 0xffff))?;
+            let problem = bad_member("a size in sizes", values.as_slice(), 0xffff)?;
             Some(KeyFinding::new("sizes", problem))
         }
         (None, Some(_)) => Some(KeyFinding::new(

@@ -3,7 +3,7 @@
 
 use crate::explanation::{Location, Problem};
 use crate::finding::{Finding, KeyFinding};
-use crate::value_problems::{address_problem, bad_flag, bad_number, missing_in, out_of_range};
+use crate::value_problems::{address_problem, bad_flag, bad_member, bad_number, missing_in};
 use cip_application::{DOMAIN_LIMIT, HOST_LIMIT, LABEL_LIMIT};
 use enip_config::rules::{
     FLAGS, INACTIVITY_TIMEOUT, INTERFACE_STATE, INTERFACE_TYPE, SPEED, has, is_interface_name,
@@ -76,11 +76,13 @@ fn servers_problem(value: &Value) -> Option<Problem> {
     if values.len() > 2 {
         return Some(Problem::Type("name_servers", "an array of up to two addresses"));
     }
-    values.iter().find_map(|value| address_problem(
-        "an address in name_servers",
-        "a number in name_servers",
-        value,
-    ))
+    for value in values.as_slice() {
+        let name = "an address in name_servers";
+        if let Some(problem) = address_problem(name, "a number in name_servers", value) {
+            return Some(problem);
+        }
+    }
+    None
 }
 
 /// The first bad value of the table `ethernet_link`, or that it is not a table.
@@ -149,7 +151,7 @@ fn mac_problem(value: &Value) -> Option<Problem> {
     if values.len() != 6 {
         return Some(Problem::Type("physical_address", "an array of six numbers"));
     }
-    values.iter().find_map(|value| out_of_range("a number in physical_address", value, 0, 0xff))
+    bad_member("a number in physical_address", values.as_slice(), 0xff)
 }
 
 /// What is wrong with the text of a key, of this many bytes at most.

@@ -148,9 +148,17 @@ pub(crate) fn address_problem(
     if values.len() != 4 {
         return Some(Problem::Type(name, "an array of four numbers"));
     }
-    values
-        .iter()
-        .find_map(|value| out_of_range(number, value, 0, 0xff))
+    bad_member(number, values.as_slice(), 0xff)
+}
+
+/// What is wrong with the first of these values that is not a number from 0 to `most`. Each is called `name`.
+pub(crate) fn bad_member(name: &'static str, values: &[Value], most: u64) -> Option<Problem> {
+    for value in values {
+        if let Some(problem) = out_of_range(name, value, 0, most) {
+            return Some(problem);
+        }
+    }
+    None
 }
 
 fn bad_counter(text: &Table) -> Option<Finding<'static>> {
@@ -275,11 +283,6 @@ fn bad_assembly(table: &Table) -> Option<KeyFinding<'static>> {
             Problem::Type("members", "an array of sizes"),
         )),
     };
-    let problem = sizes.iter().find_map(|value| out_of_range(
-        "a size in members",
-        value,
-        0,
-        0xffff,
-    ))?;
+    let problem = bad_member("a size in members", sizes, 0xffff)?;
     Some(KeyFinding::new("members", problem))
 }

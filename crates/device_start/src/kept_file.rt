@@ -3,23 +3,20 @@
 //! `FILE.round` is locked first, so one process uses FILE at a time. FILE is made only if neither of them says that there
 //! was a state before.
 
-ghost use Rattle.std.specs.Prelude.{◌≡◌, IfOk};
+ghost use Rattle.std.specs.Prelude.{◌≡◌, IfOk, true, false};
 
 use crate::file_identity::FileIdentity;
 use enip_cli::{LastRound, OsArg, RoundFile, can_update, option_file_name, resolved};
 use enip_common::{CommandError, Fault, NamedReason, Reason};
 use enip_keep::{KeepError, Keeper, Numbered, RoundNote};
-use enip_keep_sqlite::{Rows, make_file, open};
-use sqlite::{FileFrom, FileStore, Unknown};
+use enip_keep_sqlite::{RowsUser, make_file, with_rows};
+use sqlite::Unknown;
 use std::alloc::Global;
 use std::fs::metadata;
 use std::io::{self, ErrorKind};
 
 /// The bytes of the header of a database. (SQLite, Database File Format.)
 const HEADER: u64 = 100;
-
-/// The rows of a database.
-pub type FileRows = Rows<FileStore<FileFrom<Unknown>>>;
 
 /// FILE, once it is open.
 #[derive(Drop)]
@@ -57,6 +54,40 @@ impl RoundNote for FileNote {
     }
 }
 
+/// What is done with FILE once it is open.
+pub trait FileUser<R> {
+    /// Goes on with the open file. Its rows are up, unless what they keep is in doubt.
+    fn run<K: Keeper + Drop>(self, rt: &HostRuntime, opened: OpenFile<K>) -> R
+        requires { K.doubt opened.rows ≡ 0 → K.is_up opened.rows };
+}
+
+/// FILE while its database is opened, and what is done with it then.
+#[derive(Drop)]
+struct Opening<'a, 'p, U: Drop> {
+    kept: KeptFile<'a>,
+    path: &'p str,
+    file: RoundFile,
+    last: u64,
+    user: U,
+}
+
+impl<'a, 'p, R, U: FileUser<R> + Drop> RowsUser<Result<R, CommandError<'a>>>
+    for Opening<'a, 'p, U> {
+    fn run<K: Keeper + Drop>(self, rt: &HostRuntime, rows: K) -> Result<R, CommandError<'a>> {
+        let Opening {
+            kept,
+            path,
+            file,
+            last,
+            user,
+        } = self;
+        match kept.note(rt, path, file, last) {
+            Ok(note) => Ok(user.run(rt, OpenFile { rows, note, last })),
+            Err(error) => Err(CommandError::of_system(kept.name, error)),
+        }
+    }
+}
+
 /// Whether a file can be a database: it is as long as the header. A shorter one would be opened as a new database.
 fn has_header(rt: &HostRuntime, path: &str) -> bool {
     metadata(rt, path).is_ok_and(|found| found.len() >= HEADER)
@@ -74,7 +105,11 @@ pub struct KeptFile<'a> {
 
 impl<'a> KeptFile<'a> {
     /// The file of a device that is served.
-    pub fn new(name: &'a str, accepts_older: bool) -> KeptFile<'a> {
+    pub fn new(name: &'a str, accepts_older: bool) -> KeptFile<'a>
+        ensures name { result.name ≡ name.entry }
+        ensures older { result.accepts_older ≡ accepts_older }
+        ensures made { result.is_made ≡ true }
+    {
         KeptFile {
             name,
             accepts_older,
@@ -83,7 +118,11 @@ impl<'a> KeptFile<'a> {
     }
 
     /// A file that is only read.
-    pub(crate) fn to_read(name: &'a str) -> KeptFile<'a> {
+    pub(crate) fn to_read(name: &'a str) -> KeptFile<'a>
+        ensures name { result.name ≡ name.entry }
+        ensures older { result.accepts_older ≡ false }
+        ensures made { result.is_made ≡ false }
+    {
         KeptFile {
             name,
             accepts_older: false,
@@ -92,34 +131,59 @@ impl<'a> KeptFile<'a> {
     }
 
     /// The name as the argument gives it.
-    pub(crate) fn name(self) -> &'a str {
+    pub(crate) fn name(self) -> &'a str
+        ensures { result ≡ self.entry.name }
+    {
         self.name
     }
 
     /// Whether a state that is damaged, or older than it was, is taken.
-    pub fn accepts_older(self) -> bool {
+    pub fn accepts_older(self) -> bool
+        ensures { result ≡ self.entry.accepts_older }
+    {
         self.accepts_older
     }
 
-    /// Opens the file, or makes it if there was none before.
+    /// Opens the file, or makes it if there was none before, and hands it on. Returns what comes of that.
     ///
     /// # Errors
     ///
-    /// If another process uses it, or if it is not a state. It is left as it is.
-    pub fn open(
+    /// If another process uses the file, or if it is not a state. It is left as it is then.
+    pub fn open_for<R, U: FileUser<R> + Drop>(
         self,
         rt: &HostRuntime,
         args: &[OsArg],
-    ) -> Result<OpenFile<FileRows>, CommandError<'a>>
-        ensures up { IfOk result (λ f. ⟦<FileRows as Keeper>⟧.doubt f.rows ≡ 0 → ⟦<FileRows as Keeper>⟧.is_up f.rows) }
-    {
-        let alloc = rt.alloc();
-        let name = resolved(alloc, option_file_name(args, "--keep", self.name))?;
+        user: U,
+    ) -> Result<R, CommandError<'a>> {
+        let name = resolved(rt.alloc(), option_file_name(args, "--keep", self.name))?;
         let Ok(path) = str::from_utf8(&name) else {
             return Err(CommandError::of_reason(Reason::Named(self.name, NamedReason::NotText)));
         };
-        let exists = self.exists(&name)?;
-        let file = self.lock(alloc, &name)?;
+        let (file, last) = self.locked(rt, &name, path)?;
+        let opening = Opening {
+            kept: self,
+            path,
+            file,
+            last,
+            user,
+        };
+        match with_rows(rt, path, Unknown, opening) {
+            Ok(result) => result,
+            Err(error) => Err(self.refused(error)),
+        }
+    }
+
+    /// Locks `FILE.round`, and makes the database if there was none before. Returns `FILE.round`, and the number of the last
+    /// round, as it has it.
+    fn locked(
+        self,
+        rt: &HostRuntime,
+        name: &[u8],
+        path: &str,
+    ) -> Result<(RoundFile, u64), CommandError<'a>> {
+        let alloc = rt.alloc();
+        let exists = self.exists(name)?;
+        let file = self.lock(alloc, name)?;
         let last = self.last_round(alloc, &file, exists)?;
         if exists && last > 0 && !has_header(rt, path) {
             return Err(self.state_refused(Reason::Named(self.name, NamedReason::NotAState)));
@@ -127,21 +191,7 @@ impl<'a> KeptFile<'a> {
         if last == 0 || !exists {
             make_file(rt, path, Unknown).map_err(|error| self.refused(error))?;
         }
-        let rows = self.rows(rt, path)?;
-        match self.note(rt, path, file, last) {
-            Ok(note) => Ok(OpenFile { rows, note, last }),
-            Err(error) => Err(CommandError::of_system(self.name, error)),
-        }
-    }
-
-    /// Opens the database.
-    fn rows(self, rt: &HostRuntime, path: &str) -> Result<FileRows, CommandError<'a>>
-        ensures { IfOk result (λ k. ⟦<FileRows as Keeper>⟧.doubt k ≡ 0 → ⟦<FileRows as Keeper>⟧.is_up k) }
-    {
-        match open(rt, path, Unknown) {
-            Ok(rows) => Ok(rows),
-            Err(error) => Err(self.refused(error)),
-        }
+        Ok((file, last))
     }
 
     /// Goes on after the last round of an open file.

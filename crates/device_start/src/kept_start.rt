@@ -4,7 +4,7 @@ ghost use Rattle.std.specs.Prelude.{◌≡◌, IfOk};
 ghost use Rattle.enip_keep.specs.Server.{IsReady};
 ghost use Rattle.kept_server.specs.Rounds.{kept_of};
 
-use crate::kept_file::{FileNote, KeptFile, OpenFile};
+use crate::kept_file::{FileNote, FileUser, KeptFile, OpenFile};
 use crate::kept_values::KeptValues;
 use crate::start::start_to_read;
 use config_file::ConfigFile;
@@ -70,11 +70,28 @@ pub fn print_kept_values<'a>(
 ) -> Result<(), CommandError<'a>> {
     let file = KeptFile::to_read(name);
     let start = start_to_read(rt, config)?;
-    let opened = file.open(rt, args)?;
-    let values = kept_values(rt.alloc(), file, opened, &start)?;
-    values
-        .print(rt.alloc(), rt.stdout())
-        .map_err(|error| CommandError::of_system(OUTPUT, error))
+    file.open_for(rt, args, Printing { file, start })?
+}
+
+/// Prints what is kept in an open file, if a device starts from it.
+#[derive(Drop)]
+struct Printing<'a> {
+    file: KeptFile<'a>,
+    start: AdapterStart,
+}
+
+impl<'a> FileUser<Result<(), CommandError<'a>>> for Printing<'a> {
+    fn run<K: Keeper + Drop>(
+        self,
+        rt: &HostRuntime,
+        opened: OpenFile<K>,
+    ) -> Result<(), CommandError<'a>> {
+        let Printing { file, start } = self;
+        let values = kept_values(rt.alloc(), file, opened, &start)?;
+        values
+            .print(rt.alloc(), rt.stdout())
+            .map_err(|error| CommandError::of_system(OUTPUT, error))
+    }
 }
 
 /// What is kept in an open file, if a device starts from it.

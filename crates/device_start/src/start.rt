@@ -1,6 +1,6 @@
 //! What a device starts from: the adapter of its configuration.
 
-ghost use Rattle.std.specs.Prelude.{◌≡◌, ◌≤◌, IfSome, IsTrue};
+ghost use Rattle.std.specs.Prelude.{◌≡◌, ◌≤◌, IfOk, IfSome, IsTrue};
 ghost use Rattle.configured_adapter.specs.Configured.{AreLimits, limits_of, shares_from};
 ghost use Rattle.enip_config.specs.Commands.{queue_limit};
 
@@ -82,7 +82,12 @@ pub fn adapter_start<'a>(
     access: &Option<Access>,
     begins_life: bool,
     idle_timeout: u64,
-) -> Result<AdapterStart, CommandError<'a>> {
+) -> Result<AdapterStart, CommandError<'a>>
+    ensures begins { IfOk result (λ s. s.begins_life ≡ begins_life) }
+    ensures idle { IfOk result (λ s. s.idle_timeout ≡ idle_timeout) }
+    ensures limits { IfOk result (λ s. s.limits ≡ limits_of configuration) }
+    ensures shares { IfOk result (λ s. s.shares ≡ shares_from access.now) }
+{
     let life = life_now(rt)?;
     let shares = shares_from(access);
     match start_of(configuration, shares, life, begins_life, idle_timeout) {
@@ -119,7 +124,12 @@ fn start_of(
     life: u64,
     begins_life: bool,
     idle_timeout: u64,
-) -> Option<AdapterStart> {
+) -> Option<AdapterStart>
+    ensures begins { IfSome result (λ s. s.begins_life ≡ begins_life) }
+    ensures idle { IfSome result (λ s. s.idle_timeout ≡ idle_timeout) }
+    ensures limits { IfSome result (λ s. s.limits ≡ limits_of configuration) }
+    ensures shares { IfSome result (λ s. s.shares ≡ shares) }
+{
     let queue = configuration.queue_limit();
     let limits = limits_of(&configuration);
     let (address, port) = (configuration.address, configuration.port);

@@ -8,7 +8,7 @@ use config_file::ConfigFile;
 use device_log::{FrameLog, LogClock, LogStyle, TurnedAwayReport};
 use device_rounds::{Keeping, ServeLimits, Sockets, serve_connections};
 use device_sockets::{Observer, ServeFault, Serving};
-use device_start::{KeptFile, OpenFile, start_kept};
+use device_start::{FileUser, KeptFile, OpenFile, start_kept};
 use enip_access::Access;
 use enip_adapter::Listen;
 use enip_cli::OsArg;
@@ -97,8 +97,14 @@ fn serve_configured<'a, O: Observer + Drop>(
     observer: O,
 ) -> Result<u8, CommandError<'a>> {
     let (start, access) = configured_start(rt, config, options)?;
-    let options = options.with_reported(config.name(), start.listen);
-    open_and_serve(rt, args, file, &start, options, access, observer)
+    let device = KeptService {
+        file,
+        options: options.with_reported(config.name(), start.listen),
+        start,
+        access,
+        observer,
+    };
+    file.open_for(rt, args, device)?
 }
 
 /// What the device of a configuration starts from, whose state is kept, and who may connect.
@@ -111,18 +117,31 @@ fn configured_start<'a>(
     kept_start(rt, config, configuration, options)
 }
 
-/// Opens the file that keeps the state of a device, and serves the device.
-fn open_and_serve<'a, O: Observer + Drop>(
-    rt: &HostRuntime,
-    args: &[OsArg],
+/// A device that goes on with what is kept in an open file, and is served then.
+#[derive(Drop)]
+struct KeptService<'a, O: Observer + Drop> {
     file: KeptFile<'a>,
-    start: &AdapterStart,
+    start: AdapterStart,
     options: ServeOptions<'a>,
     access: Option<Access>,
     observer: O,
-) -> Result<u8, CommandError<'a>> {
-    let opened = file.open(rt, args)?;
-    serve_kept(rt, file, opened, start, options, access, observer)
+}
+
+impl<'a, O: Observer + Drop> FileUser<Result<u8, CommandError<'a>>> for KeptService<'a, O> {
+    fn run<K: Keeper + Drop>(
+        self,
+        rt: &HostRuntime,
+        opened: OpenFile<K>,
+    ) -> Result<u8, CommandError<'a>> {
+        let KeptService {
+            file,
+            start,
+            options,
+            access,
+            observer,
+        } = self;
+        serve_kept(rt, file, opened, &start, options, access, observer)
+    }
 }
 
 /// Serves a device that goes on with what is kept in an open file.

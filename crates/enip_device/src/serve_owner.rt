@@ -8,7 +8,7 @@ use crate::serve_command::listen_and_serve;
 use config_file::ConfigFile;
 use device_rounds::Keeping;
 use device_sockets::{Observer, OwnerLog, Serving};
-use device_start::{KeptFile, OpenFile, start_kept};
+use device_start::{FileUser, KeptFile, OpenFile, start_kept};
 use enip_access::Access;
 use enip_adapter::{Adapter, Listen};
 use enip_cli::OsArg;
@@ -128,10 +128,16 @@ fn serve_configured<'a, O: Observer + Drop>(
     observer: O,
 ) -> Result<u8, CommandError<'a>> {
     let (parts, start, access) = kept_parts(rt, args, owner, config, options)?;
-    let options = options.with_reported(config.name(), start.listen);
-    open_and_serve(
-        rt, args, file, owner, parts, &start, options, access, observer,
-    )
+    let device = OwnedService {
+        file,
+        owner,
+        parts,
+        options: options.with_reported(config.name(), start.listen),
+        start,
+        access,
+        observer,
+    };
+    file.open_for(rt, args, device)?
 }
 
 /// What the arguments and a configuration say of a device whose state is kept: of its owner, what it starts from, and who may
@@ -147,24 +153,6 @@ fn kept_parts<'a>(
     let parts = PortParts::read(rt, args, owner, &configuration)?;
     let (start, access) = kept_start(rt, config, configuration, options)?;
     Ok((parts, start, access))
-}
-
-/// Opens the file that keeps the state of a device, and serves the device and its owner.
-fn open_and_serve<'a, O: Observer + Drop>(
-    rt: &HostRuntime,
-    args: &[OsArg],
-    file: KeptFile<'a>,
-    owner: OwnerOptions<'a>,
-    parts: PortParts,
-    start: &AdapterStart,
-    options: ServeOptions<'a>,
-    access: Option<Access>,
-    observer: O,
-) -> Result<u8, CommandError<'a>> {
-    let opened = file.open(rt, args)?;
-    serve_kept(
-        rt, file, opened, owner, parts, start, options, access, observer,
-    )
 }
 
 /// Serves a device that keeps nothing, and its owner.
@@ -194,6 +182,39 @@ fn owned<'a, W: Wire + Drop, L: OwnerLog + Drop>(
     let (link, address) = owner_link(rt, owner, parts, &adapter, log)?;
     let peers = Peers::new(rt.alloc(), adapter, options.idle_timeout())?;
     Ok((Owned::new(peers, link, asks), address))
+}
+
+/// A device that goes on with what is kept in an open file, and is served then with its owner.
+#[derive(Drop)]
+struct OwnedService<'a, O: Observer + Drop> {
+    file: KeptFile<'a>,
+    owner: OwnerOptions<'a>,
+    parts: PortParts,
+    start: AdapterStart,
+    options: ServeOptions<'a>,
+    access: Option<Access>,
+    observer: O,
+}
+
+impl<'a, O: Observer + Drop> FileUser<Result<u8, CommandError<'a>>> for OwnedService<'a, O> {
+    fn run<K: Keeper + Drop>(
+        self,
+        rt: &HostRuntime,
+        opened: OpenFile<K>,
+    ) -> Result<u8, CommandError<'a>> {
+        let OwnedService {
+            file,
+            owner,
+            parts,
+            start,
+            options,
+            access,
+            observer,
+        } = self;
+        serve_kept(
+            rt, file, opened, owner, parts, &start, options, access, observer,
+        )
+    }
 }
 
 /// Serves a device that goes on with what is kept in an open file, and its owner.

@@ -1,6 +1,6 @@
 //! How long a client of a device may be silent: the option `--idle`.
 
-ghost use Rattle.std.specs.Prelude.{◌≡◌, ◌<◌, ◌*◌, ◌-◌, ◌^◌};
+ghost use Rattle.std.specs.Prelude.{◌≡◌, ◌<◌, ◌*◌, ◌-◌, ◌^◌, IfSome, IfNone};
 
 use cip_application::{AttributeConfig, ObjectConfig, TCP_IP_INTERFACE};
 use clap::ArgMatches;
@@ -36,8 +36,15 @@ impl IdleOption {
     }
 
     /// How long a client may be silent, in microseconds, if the device has no TCP/IP Interface.
-    pub(crate) fn timeout(self) -> u64 {
-        idle_timeout_of(self.seconds.unwrap_or(DEFAULT_SECONDS))
+    pub(crate) fn timeout(self) -> u64
+        ensures by_default { IfNone self.seconds (result ≡ 120_000_000) }
+        ensures given { IfSome self.seconds (λ s. 0 < s → result ≡ s * 1_000_000) }
+        ensures no_limit { IfSome self.seconds (λ s. s ≡ 0 → result ≡ 2 ^ 64 - 1) }
+    {
+        match self.seconds {
+            Some(seconds) => idle_timeout_of(seconds),
+            None => idle_timeout_of(DEFAULT_SECONDS),
+        }
     }
 
     /// Makes the seconds the first value of the TCP/IP Interface, if one of the objects is that.

@@ -8,6 +8,10 @@ use std::net::SocketAddr;
 
 /// Binds the sockets of a device to its address, and prints where it listens. Returns the address of the arguments, the
 /// listener, and with discovery the socket for datagrams.
+///
+/// # Errors
+///
+/// If the argument is not an address, if the system refuses to listen there, or if standard error cannot be written.
 pub fn listen<'a>(
     rt: &HostRuntime,
     options: ServeOptions<'a>,

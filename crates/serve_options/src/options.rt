@@ -1,5 +1,7 @@
 //! The arguments of `enip serve`.
 
+ghost use Rattle.std.specs.Prelude.{◌≡◌, ◌<◌, ◌*◌, ◌-◌, ◌^◌, ◌↔◌, IfSome, IfNone, IsSomeAnd, IsTrue, true};
+
 use crate::idle::IdleOption;
 use crate::owner_options::OwnerOptions;
 use clap::ArgMatches;
@@ -33,6 +35,10 @@ pub struct ServeOptions<'a> {
 
 impl<'a> ServeOptions<'a> {
     /// The options in the arguments.
+    ///
+    /// # Errors
+    ///
+    /// If one of them has a value that it cannot have.
     pub fn from_matches(matches: &ArgMatches<'a>) -> Result<ServeOptions<'a>, ArgumentError<'a>> {
         let idle = IdleOption::from_matches(matches)?;
         let accepts_older = matches.get_flag("accept-older");
@@ -56,47 +62,67 @@ impl<'a> ServeOptions<'a> {
     }
 
     /// The argument that says where the device listens.
-    pub(crate) fn address(self) -> &'a str {
+    pub(crate) fn address(self) -> &'a str
+        ensures { result ≡ self.entry.address }
+    {
         self.address
     }
 
     /// Whether the device answers datagrams.
-    pub(crate) fn discovery(self) -> bool {
+    pub(crate) fn discovery(self) -> bool
+        ensures { result ≡ self.entry.discovery }
+    {
         self.discovery
     }
 
     /// After how many connections the device is served no longer.
-    pub fn count(self) -> u64 {
+    pub fn count(self) -> u64
+        ensures { result ≡ self.entry.count }
+    {
         self.count
     }
 
     /// How long a client may be silent, in microseconds, if the device has no TCP/IP Interface.
-    pub fn idle_timeout(self) -> u64 {
+    pub fn idle_timeout(self) -> u64
+        ensures by_default { IfNone self.entry.idle.seconds (result ≡ 120_000_000) }
+        ensures given { IfSome self.entry.idle.seconds (λ s. 0 < s → result ≡ s * 1_000_000) }
+        ensures no_limit { IfSome self.entry.idle.seconds (λ s. s ≡ 0 → result ≡ 2 ^ 64 - 1) }
+    {
         self.idle.timeout()
     }
 
     /// Where the state of the device is kept.
-    pub fn keep(self) -> Option<KeptFile<'a>> {
+    pub fn keep(self) -> Option<KeptFile<'a>>
+        ensures { result ≡ self.entry.keep }
+    {
         self.keep
     }
 
     /// Where the device listens for its owner, and who that may be.
-    pub fn owner(self) -> Option<OwnerOptions<'a>> {
+    pub fn owner(self) -> Option<OwnerOptions<'a>>
+        ensures { result ≡ self.entry.owner }
+    {
         self.owner
     }
 
     /// The address at which the device listens for its owner.
-    pub(crate) fn owner_at(self) -> Option<SocketAddr> {
+    pub(crate) fn owner_at(self) -> Option<SocketAddr>
+        ensures { result ≡ self.entry.owner_at }
+    {
         self.owner_at
     }
 
     /// Where discovery reports the device.
-    pub(crate) fn reported(self) -> Option<ReportedAddress<'a>> {
+    pub(crate) fn reported(self) -> Option<ReportedAddress<'a>>
+        ensures { result ≡ self.entry.reported }
+    {
         self.reported
     }
 
     /// Whether a state is taken that is damaged, or older than it was: its ledger then begins another life.
-    pub(crate) fn begins_life(self) -> bool {
+    pub(crate) fn begins_life(self) -> bool
+        ensures { IsTrue result ↔ IsSomeAnd self.entry.keep (λ f. IsTrue f.accepts_older) }
+    {
         match self.keep {
             Some(file) => file.accepts_older(),
             None => false,
@@ -105,6 +131,10 @@ impl<'a> ServeOptions<'a> {
 
     /// The configuration of a file, with the seconds of `--idle` in it, and with the values that it leaves to interfaces of
     /// this computer. Without an owner, no object may ask one while a client waits.
+    ///
+    /// # Errors
+    ///
+    /// If the text of the file is refused, an interface cannot be read, or memory is refused.
     pub fn configuration(
         self,
         rt: &HostRuntime,

@@ -1,6 +1,8 @@
 //! The options of `enip serve` for the owner of the device: where it listens for one, from where one may come, and the
 //! token.
 
+ghost use Rattle.std.specs.Prelude.{◌≡◌};
+
 use clap::ArgMatches;
 use enip_access::address_number;
 use enip_cli::{OsArg, read_option_file};
@@ -48,21 +50,31 @@ impl<'a> OwnerOptions<'a> {
     }
 
     /// How long an owner has for an answer, in microseconds.
-    pub fn timeout(self) -> u64 {
+    pub fn timeout(self) -> u64
+        ensures { result ≡ self.entry.timeout }
+    {
         self.timeout
     }
 
     /// The only address from which an owner may come, as a number.
-    pub fn from(self) -> Option<u128> {
+    pub fn from(self) -> Option<u128>
+        ensures { result ≡ self.entry.from }
+    {
         self.from
     }
 
     /// The argument that says where the device listens for its owner, for messages.
-    pub fn address(self) -> &'a str {
+    pub fn address(self) -> &'a str
+        ensures { result ≡ self.entry.address }
+    {
         self.address
     }
 
     /// Listens for an owner: at a loopback address, unless the options say from where one may come.
+    ///
+    /// # Errors
+    ///
+    /// If the argument is not an address, or if the system refuses to listen there.
     pub fn bind(self, rt: &HostRuntime) -> Result<TcpListener, CommandError<'a>> {
         let address = HostPort::parse(self.address)?;
         let listener = match self.from {
@@ -76,6 +88,10 @@ impl<'a> OwnerOptions<'a> {
     }
 
     /// The token that an owner shows, if it has to: the first line of the file.
+    ///
+    /// # Errors
+    ///
+    /// If the file cannot be read, if its first line is empty, or if memory is refused.
     pub fn read_token(
         self,
         rt: &HostRuntime,

@@ -1,5 +1,7 @@
 //! What a device starts from, by its configuration and the arguments.
 
+ghost use Rattle.std.specs.Prelude.{◌≡◌, ◌↔◌, IfOk, IsSomeAnd, IsTrue};
+
 use crate::options::ServeOptions;
 use config_file::ConfigFile;
 use device_start::{adapter_start, first_adapter, listen_of};
@@ -10,11 +12,17 @@ use enip_config::Configuration;
 use kept_adapter::AdapterStart;
 
 /// The adapter of a device that keeps nothing, who may connect, and where discovery reports the device.
+///
+/// # Errors
+///
+/// If an object of the configuration is refused, the clock of the system cannot be read, or memory is refused.
 pub fn unkept_start<'a>(
     rt: &HostRuntime,
     config: &ConfigFile<'a>,
     configuration: Configuration,
-) -> Result<(Adapter, Option<Access>, Listen), CommandError<'a>> {
+) -> Result<(Adapter, Option<Access>, Listen), CommandError<'a>>
+    ensures { IfOk result (λ r. r.1 ≡ configuration.access) }
+{
     let mut configuration = configuration;
     let adapter = first_adapter(rt, config, &configuration)?;
     let access = configuration.access.take();
@@ -22,12 +30,19 @@ pub fn unkept_start<'a>(
 }
 
 /// What a device starts from whose state is kept, and who may connect.
+///
+/// # Errors
+///
+/// If an object of the configuration is refused, the clock of the system cannot be read, or memory is refused.
 pub fn kept_start<'a>(
     rt: &HostRuntime,
     config: &ConfigFile<'a>,
     configuration: Configuration,
     options: ServeOptions<'a>,
-) -> Result<(AdapterStart, Option<Access>), CommandError<'a>> {
+) -> Result<(AdapterStart, Option<Access>), CommandError<'a>>
+    ensures access { IfOk result (λ r. r.1 ≡ configuration.access) }
+    ensures begins { IfOk result (λ r. IsTrue r.0.begins_life ↔ IsSomeAnd options.entry.keep (λ f. IsTrue f.accepts_older)) }
+{
     let mut configuration = configuration;
     let access = configuration.access.take();
     match adapter_start(
