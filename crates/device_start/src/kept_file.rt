@@ -38,6 +38,20 @@ pub struct FileNote {
     noted: u64,
 }
 
+impl FileNote {
+    /// What notes the numbers of rounds, the last of which is this one, next to the database at a path.
+    fn new(rt: &HostRuntime, path: &str, file: RoundFile, noted: u64) -> io::Result<FileNote> {
+        let alloc = rt.alloc();
+        Ok(FileNote {
+            alloc,
+            file,
+            database: FileIdentity::of(rt, String::from_str(alloc, path)?)?,
+            log: FileIdentity::of(rt, format!(in alloc; "{path}-wal")?)?,
+            noted,
+        })
+    }
+}
+
 impl RoundNote for FileNote {
     ghost noted = { λ n. n.noted };
 
@@ -61,29 +75,71 @@ pub trait FileUser<R> {
         requires { K.doubt opened.rows ≡ 0 → K.is_up opened.rows };
 }
 
+/// Why a locked file is not opened.
+#[derive(Drop)]
+pub enum OpenFault {
+    /// Its database is not one of a state, or it cannot be read.
+    Rows(KeepError),
+    /// It cannot be found out which files they are.
+    Files(io::Error),
+}
+
+/// FILE, once `FILE.round` is locked, and before its database is opened.
+#[derive(Drop)]
+pub struct LockedFile {
+    /// The path of the database.
+    path: String,
+    round: RoundFile,
+    /// The number of the last round, as `FILE.round` has it.
+    last: u64,
+}
+
+impl LockedFile {
+    /// Opens the database, and hands the open file on. Returns what comes of that.
+    ///
+    /// # Errors
+    ///
+    /// If the database is refused. It is left as it is then.
+    pub fn open_for<R, U: FileUser<R> + Drop>(
+        self,
+        rt: &HostRuntime,
+        user: U,
+    ) -> Result<R, OpenFault> {
+        let LockedFile { path, round, last } = self;
+        let path = path.as_str();
+        let opening = Opening {
+            path,
+            round,
+            last,
+            user,
+        };
+        match with_rows(rt, path, Unknown, opening) {
+            Ok(result) => result,
+            Err(error) => Err(OpenFault::Rows(error)),
+        }
+    }
+}
+
 /// FILE while its database is opened, and what is done with it then.
 #[derive(Drop)]
-struct Opening<'a, 'p, U: Drop> {
-    kept: KeptFile<'a>,
+struct Opening<'p, U: Drop> {
     path: &'p str,
-    file: RoundFile,
+    round: RoundFile,
     last: u64,
     user: U,
 }
 
-impl<'a, 'p, R, U: FileUser<R> + Drop> RowsUser<Result<R, CommandError<'a>>>
-    for Opening<'a, 'p, U> {
-    fn run<K: Keeper + Drop>(self, rt: &HostRuntime, rows: K) -> Result<R, CommandError<'a>> {
+impl<'p, R, U: FileUser<R> + Drop> RowsUser<Result<R, OpenFault>> for Opening<'p, U> {
+    fn run<K: Keeper + Drop>(self, rt: &HostRuntime, rows: K) -> Result<R, OpenFault> {
         let Opening {
-            kept,
             path,
-            file,
+            round,
             last,
             user,
         } = self;
-        match kept.note(rt, path, file, last) {
+        match FileNote::new(rt, path, round, last) {
             Ok(note) => Ok(user.run(rt, OpenFile { rows, note, last })),
-            Err(error) => Err(CommandError::of_system(kept.name, error)),
+            Err(error) => Err(OpenFault::Files(error)),
         }
     }
 }
@@ -144,38 +200,24 @@ impl<'a> KeptFile<'a> {
         self.accepts_older
     }
 
-    /// Opens the file, or makes it if there was none before, and hands it on. Returns what comes of that.
+    /// Locks `FILE.round`, and makes the database if there was none before.
     ///
     /// # Errors
     ///
     /// If another process uses the file, or if it is not a state. It is left as it is then.
-    pub fn open_for<R, U: FileUser<R> + Drop>(
-        self,
-        rt: &HostRuntime,
-        args: &[OsArg],
-        user: U,
-    ) -> Result<R, CommandError<'a>> {
+    pub fn locked(self, rt: &HostRuntime, args: &[OsArg]) -> Result<LockedFile, CommandError<'a>> {
         let name = resolved(rt.alloc(), option_file_name(args, "--keep", self.name))?;
         let Ok(path) = str::from_utf8(&name) else {
             return Err(CommandError::of_reason(Reason::Named(self.name, NamedReason::NotText)));
         };
-        let (file, last) = self.locked(rt, &name, path)?;
-        let opening = Opening {
-            kept: self,
-            path,
-            file,
-            last,
-            user,
-        };
-        match with_rows(rt, path, Unknown, opening) {
-            Ok(result) => result,
-            Err(error) => Err(self.refused(error)),
-        }
+        let path = String::from_str(rt.alloc(), path)?;
+        let (round, last) = self.lock_rounds(rt, &name, path.as_str())?;
+        Ok(LockedFile { path, round, last })
     }
 
     /// Locks `FILE.round`, and makes the database if there was none before. Returns `FILE.round`, and the number of the last
     /// round, as it has it.
-    fn locked(
+    fn lock_rounds(
         self,
         rt: &HostRuntime,
         name: &[u8],
@@ -192,6 +234,14 @@ impl<'a> KeptFile<'a> {
             make_file(rt, path, Unknown).map_err(|error| self.refused(error))?;
         }
         Ok((file, last))
+    }
+
+    /// The error of a locked file that is not opened.
+    pub fn not_opened(self, fault: OpenFault) -> CommandError<'a> {
+        match fault {
+            OpenFault::Rows(error) => self.refused(error),
+            OpenFault::Files(error) => CommandError::of_system(self.name, error),
+        }
     }
 
     /// Goes on after the last round of an open file.
@@ -213,24 +263,6 @@ impl<'a> KeptFile<'a> {
             Ok(keeper) => self.compare(keeper, last),
             Err(error) => Err(self.refused(error)),
         }
-    }
-
-    /// What notes the numbers of rounds, the last of which is this one.
-    fn note(
-        self,
-        rt: &HostRuntime,
-        path: &str,
-        file: RoundFile,
-        noted: u64,
-    ) -> io::Result<FileNote> {
-        let alloc = rt.alloc();
-        Ok(FileNote {
-            alloc,
-            file,
-            database: FileIdentity::of(rt, String::from_str(alloc, path)?)?,
-            log: FileIdentity::of(rt, format!(in alloc; "{path}-wal")?)?,
-            noted,
-        })
     }
 
     /// Whether there is such a file.

@@ -70,7 +70,13 @@ pub fn print_kept_values<'a>(
 ) -> Result<(), CommandError<'a>> {
     let file = KeptFile::to_read(name);
     let start = start_to_read(rt, config)?;
-    file.open_for(rt, args, Printing { file, start })?
+    match file
+        .locked(rt, args)?
+        .open_for(rt, Printing { file, start })
+    {
+        Ok(printed) => printed,
+        Err(fault) => Err(file.not_opened(fault)),
+    }
 }
 
 /// Prints what is kept in an open file, if a device starts from it.

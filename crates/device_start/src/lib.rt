@@ -16,7 +16,7 @@ mod reported_address;
 mod start;
 mod system;
 
-pub use kept_file::{FileNote, FileUser, KeptFile, OpenFile};
+pub use kept_file::{FileNote, FileUser, KeptFile, LockedFile, OpenFault, OpenFile};
 pub use kept_start::{print_kept_values, start_kept};
 pub use kept_values::KeptValues;
 pub use reported_address::{Elsewhere, ReportedAddress, listen_of, warn_of_address};

@@ -104,7 +104,10 @@ fn serve_configured<'a, O: Observer + Drop>(
         access,
         observer,
     };
-    file.open_for(rt, args, device)?
+    match file.locked(rt, args)?.open_for(rt, device) {
+        Ok(status) => status,
+        Err(fault) => Err(file.not_opened(fault)),
+    }
 }
 
 /// What the device of a configuration starts from, whose state is kept, and who may connect.

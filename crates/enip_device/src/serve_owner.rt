@@ -137,7 +137,10 @@ fn serve_configured<'a, O: Observer + Drop>(
         access,
         observer,
     };
-    file.open_for(rt, args, device)?
+    match file.locked(rt, args)?.open_for(rt, device) {
+        Ok(status) => status,
+        Err(fault) => Err(file.not_opened(fault)),
+    }
 }
 
 /// What the arguments and a configuration say of a device whose state is kept: of its owner, what it starts from, and who may
