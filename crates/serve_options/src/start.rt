@@ -1,6 +1,6 @@
 //! What a device starts from, by its configuration and the arguments.
 
-ghost use Rattle.std.specs.Prelude.{◌≡◌, ◌↔◌, IfOk, IsSomeAnd, IsTrue};
+ghost use Rattle.std.specs.Prelude.{◌≡◌, ◌<◌, ◌*◌, ◌-◌, ◌^◌, ◌↔◌, IfOk, IfNone, IfSome, IsSomeAnd, IsTrue};
 
 use crate::options::ServeOptions;
 use config_file::ConfigFile;
@@ -42,6 +42,9 @@ pub fn kept_start<'a>(
 ) -> Result<(AdapterStart, Option<Access>), CommandError<'a>>
     ensures access { IfOk result (λ r. r.1 ≡ configuration.access) }
     ensures begins { IfOk result (λ r. IsTrue r.0.begins_life ↔ IsSomeAnd options.entry.keep (λ f. IsTrue f.accepts_older)) }
+    ensures idle_by_default { IfOk result (λ r. IfNone options.entry.idle.seconds (r.0.idle_timeout ≡ 120_000_000)) }
+    ensures idle { IfOk result (λ r. IfSome options.entry.idle.seconds (λ s. 0 < s → r.0.idle_timeout ≡ s * 1_000_000)) }
+    ensures no_limit { IfOk result (λ r. IfSome options.entry.idle.seconds (λ s. s ≡ 0 → r.0.idle_timeout ≡ 2 ^ 64 - 1)) }
 {
     let mut configuration = configuration;
     let access = configuration.access.take();
