@@ -4,10 +4,10 @@
 //                                  the port OWNER, executes each at once. A round ends when all its commands are
 //                                  answered, to the peers and to the owner. Prints the commands per second
 //   lines OWNER COUNT              an owner alone, which executes COUNT commands. Prints the commands per second
-//   echo                           prints two ports, and serves both until standard input ends. For each frame of a
+//   echo AHEAD                     prints two ports, and serves both until standard input ends. For each frame of a
 //                                  peer it writes the line of a command to the owner, and the frame of its ticket to
-//                                  the peer; for each line of the owner it writes the line of an answer. It keeps
-//                                  counts and nothing else
+//                                  the peer; for each line of the owner it writes the line of an answer. While AHEAD
+//                                  commands are not done, it writes no other. It keeps counts and nothing else
 //   source WINDOW                  prints a port. An owner that connects there has WINDOW commands at a time
 #define _GNU_SOURCE
 #include <arpa/inet.h>
@@ -175,11 +175,16 @@ static int lines(int owner_port, unsigned long count) {
     return 0;
 }
 
-// The echo: how many commands it has given, and how many lines it has answered.
-static unsigned long tickets, numbers;
+// The echo: how many commands have tickets, how many of them were written, and how many lines it has answered. At most
+// `ahead` are written and not answered.
+static unsigned long tickets, written, numbers, ahead = 1;
 
 static void add_command(Lines *out) {
-    out->size += snprintf(out->bytes + out->size, LONGEST_LINE, COMMAND_HEAD "%lu" COMMAND_REST, ++tickets);
+    out->size += snprintf(out->bytes + out->size, LONGEST_LINE, COMMAND_HEAD "%lu" COMMAND_REST, ++written);
+}
+
+static void add_commands(Lines *out) {
+    while (written < tickets && written < numbers + ahead) add_command(out);
 }
 
 static void add_ok(const char *line, Lines *out) {
@@ -192,6 +197,11 @@ static void add_ok_and_command(const char *line, Lines *out) {
     add_command(out);
 }
 
+static void add_ok_and_commands(const char *line, Lines *out) {
+    add_ok(line, out);
+    add_commands(out);
+}
+
 // Answers what one read of a peer has: a RegisterSession, or commands. Returns 0 at the end of its stream.
 static int serve_peer(int peer, Lines *out) {
     unsigned char bytes[4096], answer[TICKET] = {0x6f, 0, PACKET + 8};
@@ -202,8 +212,8 @@ static int serve_peer(int peer, Lines *out) {
         return write(peer, bytes, REGISTER) == REGISTER;
     }
     for (ssize_t at = 0; at + COMMAND <= got; at += COMMAND) {
-        add_command(out);
-        unsigned ticket = tickets;
+        unsigned ticket = ++tickets;
+        add_commands(out);
         answer[4] = 1, answer[HEADER + 6] = 2, answer[HEADER + 12] = 0xb2, answer[HEADER + 14] = 8;
         answer[HEADER + PACKET] = 0xb4;
         memcpy(answer + HEADER + PACKET + 4, &ticket, sizeof ticket);
@@ -241,14 +251,15 @@ static void leave(int i) {
     sockets[i].fd = -1;
 }
 
-static int echo(void) {
+static int echo(unsigned long most) {
     static Lines out;
+    ahead = most;
     for (int i = 0; i < SOCKETS; i++) sockets[i] = (struct pollfd){.fd = -1, .events = POLLIN};
     sockets[PEERS_AT].fd = listening(), sockets[OWNERS_AT].fd = listening(), sockets[INPUT].fd = 0;
     for (;;) {
         if (poll(sockets, SOCKETS, -1) < 0 && errno != EINTR) return 1;
         if (sockets[INPUT].revents) return 0;
-        if (sockets[OWNER].revents && !serve_owner(sockets[OWNER].fd, add_ok, &out)) leave(OWNER);
+        if (sockets[OWNER].revents && !serve_owner(sockets[OWNER].fd, add_ok_and_commands, &out)) leave(OWNER);
         for (int i = FIRST; i < SOCKETS; i++) {
             if (sockets[i].revents && !serve_peer(sockets[i].fd, &out)) leave(i);
         }
@@ -275,7 +286,7 @@ int main(int count, char **arguments) {
         return load(atoi(arguments[2]), atoi(arguments[3]), atoi(arguments[4]), atol(arguments[5]));
     }
     if (count == 4 && !strcmp(mode, "lines")) return lines(atoi(arguments[2]), atol(arguments[3]));
-    if (count == 2 && !strcmp(mode, "echo")) return echo();
+    if (count == 3 && !strcmp(mode, "echo")) return echo(strtoul(arguments[2], NULL, 10));
     if (count == 3 && !strcmp(mode, "source")) return source(atoi(arguments[2]));
     return 2;
 }

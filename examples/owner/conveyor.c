@@ -1,106 +1,127 @@
 /*
- * The owner of a conveyor, in C: does what conveyor.py does. The members of the device's lines have a fixed order, and
- * no spaces between them (docs/PROGRAM.md, "The owner's lines"), so that sscanf reads them.
+ * The owner of a conveyor, in C: does what conveyor.py does, with the same files.
  *
- *     cc -std=c99 -o owner conveyor.c
+ *     cc -std=c99 -I ../../library/include -o owner conveyor.c
  *     enip serve conveyor.toml 127.0.0.1:44818 --owner 127.0.0.1:44900
  *     ./owner 127.0.0.1 44900 FILE
  *
- * FILE has the last command and the position that it moves to, and is written before the conveyor moves. If this
- * program is killed, the device hands the command over again, and FILE has it already: the conveyor moves once. FILE also
- * has the life of the device's command ledger: a device that starts anew counts its tickets from 1 again, in another life.
+ * FILE stands for the machine: it has the position. FILE.journal has what this program must remember, so that each
+ * command moves the conveyor once, also if this program or the device is killed. enip_owner.h keeps it (in the archive,
+ * it is in include; in Debian, in the package libenip-dev). The members of the device's lines have a fixed order, and
+ * no spaces between them (docs/PROGRAM.md, "The owner's lines"), so that sscanf reads those that are not commands.
  */
 #define _POSIX_C_SOURCE 200809L
 #include <arpa/inet.h>
-#include <stdint.h>
-#include <stdio.h>
-#include <stdlib.h>
-#include <string.h>
+#include <enip_owner.h>
 #include <sys/socket.h>
-#include <unistd.h>
 
 enum { END = 10000, SUCCESS = 0, INVALID_PARAMETER = 0x20 };
 
-/* The life of the device, the last command in it, and the position that the conveyor moves to. */
 static const char *file;
-static unsigned long long life;
-static unsigned last_ticket;
-static long position;
+static enip_journal *journal;
 
-static void read_file(void) {
-    FILE *kept = fopen(file, "r");
-    if (kept == NULL)
+static void check(const char *what, int status) {
+    if (status == ENIP_JOURNAL_OK)
         return;
-    if (fscanf(kept, "[%llu, %u, %ld]", &life, &last_ticket, &position) != 3) {
-        fprintf(stderr, "%s: expected a life, a ticket and a position\n", file);
-        exit(1);
-    }
-    fclose(kept);
+    fprintf(stderr, "%s: %s\n", what, status == ENIP_JOURNAL_SYSTEM ? strerror(errno) : enip_journal_text(status));
+    exit(1);
 }
 
-/* Writes the command and its position to the disk. */
-static void keep(unsigned ticket, long target) {
+static int send_bytes(void *device, const char *bytes, size_t length) {
+    return send(*(int *)device, bytes, length, MSG_NOSIGNAL) == (ssize_t)length ? 0 : -1;
+}
+
+/* ---- the motor and the encoder ---- */
+
+static long position(void) {
+    long at = 0;
+    FILE *encoder = fopen(file, "r");
+    if (encoder == NULL)
+        return 0;
+    if (fscanf(encoder, "%ld", &at) != 1)
+        check(file, ENIP_JOURNAL_SYSTEM);
+    fclose(encoder);
+    return at;
+}
+
+/* Drives to a position. If the conveyor is there, it does not move. */
+static void drive(long target) {
     char name[4096];
     snprintf(name, sizeof name, "%s.new", file);
-    FILE *kept = fopen(name, "w");
-    if (kept == NULL || fprintf(kept, "[%llu, %u, %ld]", life, ticket, target) < 0 ||
-        fflush(kept) != 0 || fsync(fileno(kept)) != 0 || fclose(kept) != 0 || rename(name, file) != 0) {
-        perror(name);
-        exit(1);
-    }
-    last_ticket = ticket;
-    position = target;
+    FILE *encoder = fopen(name, "w");
+    if (encoder == NULL || fprintf(encoder, "%ld\n", target) < 0 || fclose(encoder) != 0 || rename(name, file) != 0)
+        check(name, ENIP_JOURNAL_SYSTEM);
+    printf("at %ld\n", target);
 }
 
-/* Begins a session with the device in this life. */
-static void begin(unsigned long long new_life) {
-    if (new_life != life)
-        last_ticket = 0;
-    life = new_life;
+/* ---- commands ---- */
+
+/* Writes the position to the device, for clients to read. */
+static void show(void) {
+    char line[100];
+    const char *form = "{\"write\":{\"class\":768,\"instance\":1,\"attribute\":2,\"values\":[%ld]}}\n";
+    snprintf(line, sizeof line, form, position());
+    check("the device", enip_journal_send(journal, line, NULL));
 }
 
-/* Executes a command. Returns its general status. */
-static int move(unsigned ticket, int is_again, int32_t distance) {
-    if (!is_again || ticket != last_ticket) {
-        long target = position + distance;
-        if (target < 0 || target > END)
-            return INVALID_PARAMETER;
-        keep(ticket, target);
-    }
-    /* The motor is driven here, to a position: to drive it there again does nothing. */
-    printf("at %ld\n", position);
-    return SUCCESS;
+/* Moves the conveyor, and makes the reply. */
+static void move_to(int64_t target, enip_journal_reply *reply) {
+    reply->status = target < 0 || target > END ? INVALID_PARAMETER : SUCCESS;
+    reply->length = 0;
+    if (reply->status != SUCCESS)
+        return;
+    drive((long)target);
+    show();
+    for (; reply->length < 4; reply->length++)
+        reply->data[reply->length] = (uint8_t)(target >> 8 * reply->length);
 }
 
-/* Executes a command, shows the position, and answers. */
-static void execute(int device, unsigned ticket, int is_again, const unsigned *data) {
+/* Settles a command that began before this program was killed: goes on to the position that was noted. */
+static int settle(void *context, const enip_journal_command *command, const void *note, size_t length,
+                  enip_journal_reply *reply) {
+    const uint8_t *bytes = note;
+    uint64_t target = 0;
+    (void)context, (void)command;
+    if (length != 8)
+        return -1;
+    for (int i = 0; i < 8; i++)
+        target |= (uint64_t)bytes[i] << 8 * i;
+    move_to((int64_t)target, reply);
+    return 1;
+}
+
+static void execute(const enip_journal_command *command) {
+    const uint8_t *data = command->data;
     uint32_t distance = data[0] | data[1] << 8 | data[2] << 16 | (uint32_t)data[3] << 24;
-    int status = move(ticket, is_again, (int32_t)distance);
-    dprintf(device, "{\"write\":{\"class\":768,\"instance\":1,\"attribute\":2,\"values\":[%ld]}}\n", position);
-    if (status != SUCCESS)
-        dprintf(device, "{\"done\":{\"ticket\":%u,\"status\":%d}}\n", ticket, status);
-    else
-        dprintf(device, "{\"done\":{\"ticket\":%u,\"status\":0,\"data\":\"%02lx%02lx0000\"}}\n", ticket,
-                position & 0xff, position >> 8);
+    int64_t target = position() + (int32_t)distance;
+    uint8_t note[8];
+    enip_journal_reply reply;
+    for (int i = 0; i < 8; i++)
+        note[i] = (uint8_t)((uint64_t)target >> 8 * i);
+    check("the journal", enip_journal_begin(journal, command, note, sizeof note));
+    move_to(target, &reply);
+    check("the journal", enip_journal_done(journal, command, reply.status, reply.data, reply.length));
 }
 
 /* How lines of the device begin, up to the last number or text that is needed. */
-#define HELLO "{\"hello\":{\"vendor\":%*u,\"product_code\":%*u,\"serial\":%*u,\"name\":\"%63[^\"]\",\"life\":%llu"
-#define MOVE "{\"command\":{\"ticket\":%u,\"class\":768,\"instance\":1,\"service\":52,\"data\":\"%2x%2x%2x%2x\""
+#define HELLO "{\"hello\":{\"vendor\":%*u,\"product_code\":%*u,\"serial\":%*u,\"name\":\"%63[^\"]\""
 #define SET "{\"changed\":{\"class\":768,\"instance\":1,\"attribute\":1,\"data\":\"%*4[0-9a-f]\""
-#define SPEED SET ",\"values\":[%u],\"by\":\"%63[^\"]"
+#define SPEED SET ",\"values\":[%u],\"by\":\"%63[^\"]\""
 
-/* Reads a line of the device. */
-static void take(int device, const char *line) {
-    unsigned ticket, speed, data[4];
-    unsigned long long new_life;
+/* Takes a line of the device. */
+static void take(const char *line, size_t length) {
+    unsigned speed;
     char text[64];
-    if (sscanf(line, HELLO, text, &new_life) == 2) {
+    enip_journal_command command;
+    int status = enip_journal_receive(journal, line, length, &command);
+    if (status == ENIP_JOURNAL_EXECUTE)
+        execute(&command);
+    else if (status != ENIP_JOURNAL_REFUSED)
+        check("the journal", status);
+    if (sscanf(line, HELLO, text) == 1) {
         printf("owner of %s\n", text);
-        begin(new_life);
-    } else if (sscanf(line, MOVE, &ticket, &data[0], &data[1], &data[2], &data[3]) == 5)
-        execute(device, ticket, strstr(line, "\"again\":true") != NULL, data);
-    else if (sscanf(line, SPEED, &speed, text) == 2)
+        show();
+    } else if (sscanf(line, SPEED, &speed, text) == 2)
         printf("speed %u, set by %s\n", speed, text);
     else if (strncmp(line, "{\"error\":", 9) == 0)
         fprintf(stderr, "refused: %s", line);
@@ -109,22 +130,25 @@ static void take(int device, const char *line) {
 
 int main(int count, char **arguments) {
     struct sockaddr_in address = {.sin_family = AF_INET};
-    char *line = NULL;
+    char name[4096], *line = NULL;
     size_t capacity = 0;
+    ssize_t length;
     if (count != 4 || inet_pton(AF_INET, arguments[1], &address.sin_addr) != 1) {
         fprintf(stderr, "usage: owner ADDRESS PORT FILE\n");
         return 2;
     }
     address.sin_port = htons((uint16_t)atoi(arguments[2]));
     file = arguments[3];
-    read_file();
+    snprintf(name, sizeof name, "%s.journal", file);
+    check(name, enip_journal_open(name, settle, NULL, &journal));
     int device = socket(AF_INET, SOCK_STREAM, 0);
     FILE *lines = fdopen(device, "r");
     if (lines == NULL || connect(device, (struct sockaddr *)&address, sizeof address) != 0) {
         perror(arguments[1]);
         return 1;
     }
-    while (getline(&line, &capacity, lines) > 0)
-        take(device, line);
+    check(name, enip_journal_connect(journal, send_bytes, &device));
+    while ((length = getline(&line, &capacity, lines)) > 0)
+        take(line, (size_t)length);
     return 0;
 }

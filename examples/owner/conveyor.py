@@ -1,76 +1,87 @@
 """The owner of a conveyor: executes the commands of the device that conveyor.toml describes.
 
     enip serve conveyor.toml 127.0.0.1:44818 --owner 127.0.0.1:44900
-    python3 conveyor.py 127.0.0.1 44900 FILE
+    PYTHONPATH=../../library/python python3 conveyor.py 127.0.0.1 44900 FILE
 
-FILE has the last command and the position that it moves to, and is written before the conveyor moves. If this program
-is killed, the device hands the command over again, and FILE has it already: the conveyor moves once. FILE also has the
-life of the device's command ledger: a device that starts anew counts its tickets from 1 again, in another life.
+FILE stands for the machine: it has the position. FILE.journal has what this program must remember, so that each command
+moves the conveyor once, also if this program or the device is killed. The module enip.owner, which keeps it, is in
+library/python (in the archive, python; in Debian's package libenip-dev, /usr/share/libenip-dev/python).
 """
-import json
 import os
 import socket
 import struct
 import sys
 
+from enip.owner import Journal
+
 POSITION, END, INVALID_PARAMETER = 2, 10_000, 0x20
+
+
+class Machine:
+    """The motor and the encoder of the conveyor."""
+
+    def __init__(self, file):
+        self.file = file
+
+    def position(self):
+        if not os.path.exists(self.file):
+            return 0
+        with open(self.file) as encoder:
+            return int(encoder.read())
+
+    def drive(self, target):
+        """Drives to a position. If the conveyor is there, it does not move."""
+        with open(self.file + ".new", "w") as encoder:
+            encoder.write("%d\n" % target)
+        os.replace(self.file + ".new", self.file)
+        print("at", target, flush=True)
 
 
 class Conveyor:
     def __init__(self, file):
-        self.file, self.life, self.ticket, self.position = file, None, 0, 0
-        if os.path.exists(file):
-            with open(file) as kept:
-                self.life, self.ticket, self.position = json.load(kept)
+        self.machine, self.journal = Machine(file), Journal(file + ".journal", self.settle)
 
-    def begin(self, life):
-        """Begins a session with the device in this life."""
-        if life != self.life:
-            self.life, self.ticket = life, 0
+    def execute(self, command):
+        target = self.machine.position() + struct.unpack("<i", command.data)[0]
+        self.journal.begin(command, struct.pack("<q", target))
+        self.journal.done(command, *self.move_to(target))
 
-    def keep(self, ticket, position):
-        with open(self.file + ".new", "w") as kept:
-            json.dump([self.life, ticket, position], kept)
-            kept.flush()
-            os.fsync(kept.fileno())
-        os.replace(self.file + ".new", self.file)
-        self.ticket, self.position = ticket, position
+    def settle(self, command, note):
+        """Settles a command that began before this program was killed: goes on to the position that was noted."""
+        return self.move_to(*struct.unpack("<q", note))
 
-    def move(self, ticket, again, data):
-        """Executes the command of a ticket. Returns its general status and the data of its reply."""
-        if not again or ticket != self.ticket:
-            position = self.position + struct.unpack("<i", data)[0]
-            if not 0 <= position <= END:
-                return INVALID_PARAMETER, b""
-            self.keep(ticket, position)
-        # the motor is driven here, to a position: to drive it there again does nothing
-        print("at", self.position, flush=True)
-        return 0, struct.pack("<i", self.position)
+    def move_to(self, target):
+        """Moves the conveyor. Returns the general status and the data of the reply."""
+        if not 0 <= target <= END:
+            return INVALID_PARAMETER, b""
+        self.machine.drive(target)
+        self.show()
+        return 0, struct.pack("<i", target)
 
+    def show(self):
+        """Writes the position to the device, for clients to read."""
+        where = {"class": 768, "instance": 1, "attribute": POSITION}
+        self.journal.send({"write": {**where, "values": [self.machine.position()]}})
 
-def answers(conveyor, line):
-    """The lines that answer a line of the device."""
-    if "hello" in line:
-        print("owner of", line["hello"]["name"], flush=True)
-        conveyor.begin(line["hello"].get("life"))
-    elif "command" in line:
-        command = line["command"]
-        status, reply = conveyor.move(command["ticket"], command["again"], bytes.fromhex(command["data"]))
-        shown = {"class": 768, "instance": 1, "attribute": POSITION, "values": [conveyor.position]}
-        yield {"write": shown}
-        yield {"done": {"ticket": command["ticket"], "status": status, "data": reply.hex()}}
-    elif "changed" in line:
-        print("speed %d, set by %s" % (line["changed"]["values"][0], line["changed"]["by"]), flush=True)
-    elif "error" in line:
-        print("refused:", line["text"], file=sys.stderr)
+    def receive(self, line):
+        message = self.journal.receive(line)
+        if "hello" in message:
+            print("owner of", message["hello"]["name"], flush=True)
+            self.show()
+        elif "command" in message:
+            self.execute(message["command"])
+        elif "changed" in message:
+            print("speed %d, set by %s" % (message["changed"]["values"][0], message["changed"]["by"]), flush=True)
+        elif "error" in message:
+            print("refused:", message["text"], file=sys.stderr)
 
 
 def main(host, port, file):
     conveyor = Conveyor(file)
     with socket.create_connection((host, int(port))) as stream:
-        for line in stream.makefile(encoding="utf-8"):
-            for answer in answers(conveyor, json.loads(line)):
-                stream.sendall(json.dumps(answer).encode() + b"\n")
+        conveyor.journal.connect(stream.sendall)
+        for line in stream.makefile("rb"):
+            conveyor.receive(line)
 
 
 if __name__ == "__main__":

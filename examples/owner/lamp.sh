@@ -4,7 +4,9 @@
 #     enip serve lamp.toml 127.0.0.1:44818 --owner 127.0.0.1:44900
 #     bash lamp.sh 127.0.0.1 44900
 #
-# A command that is handed over again is executed again: to switch a lamp on twice is to switch it on.
+# It remembers nothing, so it executes a command that comes again once more. The device hands over one command at a time
+# (lamp.toml has no key `ahead`), so that is the last one, and the lamp stays as it is. With a larger `ahead`, the lamp
+# could go through its last states once more. Commands that must not be executed twice need a journal: see conveyor.py.
 set -euo pipefail
 
 # The answers to a command: the attribute that shows the lamp, and the end of the command.

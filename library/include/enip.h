@@ -20,7 +20,7 @@
  *
  * Times are in microseconds from any start, as CLOCK_MONOTONIC gives them.
  *
- * C99 and C++17, x86-64 Linux. Link with -lenip. The library depends on nothing but libc.
+ * C99 and C++17; Linux on x86-64 and on 64-bit ARM. Link with -lenip. The library depends on nothing but libc.
  */
 #ifndef ENIP_H
 #define ENIP_H
@@ -549,7 +549,7 @@ typedef struct enip_once enip_once;
  */
 enum {
     ENIP_LEDGER_SLOTS = 0x02,     /* other originators have all slots */
-    ENIP_LEDGER_NUMBER = 0x0c,    /* a greater number was executed: this one never will be */
+    ENIP_LEDGER_NUMBER = 0x0c,    /* a greater number was executed or queued: this one is not taken any more */
     ENIP_LEDGER_LIFE = 0x10,      /* the device has another life: it was started again */
     ENIP_LEDGER_SIZE = 0x11,      /* the reply does not fit: the connection's T->O size is too small */
     ENIP_LEDGER_ORIGINATOR = 0x16 /* the originator has no slot (Get_Last) */
@@ -619,7 +619,8 @@ ENIP_API int enip_once_receive(enip_once *once, const void *reply, size_t length
 
 /*
  * Gives up the pending command: it is executed once or not at all. Once a later command is done, it will not be
- * executed any more. ENIP_OK; ENIP_ABSENT if no command is pending; ENIP_MISUSE.
+ * executed any more, unless it is in the queue of the device.
+ * ENIP_OK; ENIP_ABSENT if no command is pending; ENIP_MISUSE.
  */
 ENIP_API int enip_once_abandon(enip_once *once);
 

@@ -10,7 +10,7 @@ import zipfile
 from pathlib import Path
 
 FOLDER = Path(__file__).resolve().parent
-FILES = ["enip/__init__.py", "enip/py.typed"]
+FILES = ["enip/__init__.py", "enip/owner.py", "enip/py.typed"]
 # The time of all files in a package: the first that a zip file can have.
 YEAR = 1980
 PROJECT = (FOLDER / "pyproject.toml").read_text("utf-8")

@@ -8,16 +8,22 @@ from pathlib import Path
 
 from mutating import layer, libraries, shell
 from mutating.building import TESTS
-from mutating.noticing import LONGEST, in_order, noticed, run, tests_of_check
+from mutating.noticing import LONGEST, in_order, noticed, run
+from mutating.parts import tests_of_check
 from mutating.program import PLACES, Switched
+from mutating.refusal import at_least
 from mutating.rules import errors_in, errors_in_value, returned_by
 from mutating.sources import TOP, Sources, libraries_of
 
 SCRIPTS = "tests/scripts"
+# It has no fewer parts than these.
+LEAST_PARTS = 30
 # The tests of the libraries. Here each of them runs once, as a part of one program.
 TRIED = "tests/tried"
 # The seconds that the slowest of them take together.
 LONGEST_TESTS = 60
+# There are no fewer errors that were looked at than these.
+LEAST_REVIEWED = 20
 # The file that lists what the compiler refused.
 REFUSED = "refused"
 NOTICED, UNNOTICED, EQUAL = "noticed", "UNNOTICED", "equal by construction"
@@ -26,9 +32,12 @@ NOTICED, UNNOTICED, EQUAL = "noticed", "UNNOTICED", "equal by construction"
 class Program:
     """The functions, constants and texts of the program that no clause tells."""
 
-    def __init__(self, folder):
+    # There are no fewer errors than these.
+    LEAST = 5_000
+
+    def __init__(self, folder, tests=None, make=Switched):
         self.folder, self.sources, self.switched, self.numbers = folder, Sources(), None, {}
-        self.reached = {}
+        self.tests, self.make, self.reached = tests or tests_of_check(), make, {}
 
     def errors(self, random):
         found = []
@@ -47,7 +56,7 @@ class Program:
     def planted(self, errors):
         """Those of these errors that can be planted. They are all in one program. A list of those that the compiler
         refuses is kept in the folder."""
-        self.switched = self.switched or Switched(self.folder / "copy", self.sources)
+        self.switched = self.switched or self.make(self.folder / "copy", self.sources)
         refused = self.folder / REFUSED
         known = set(refused.read_text().splitlines()) if refused.exists() else set()
         numbers = {
@@ -70,14 +79,13 @@ class Program:
 
     def unchanged(self):
         """The commands that must pass without an error."""
-        return {test: [TOP / test, self.plain()] for test in tests_of_check()}
+        return {name: test.command(self.plain()) for name, test in self.tests.items()}
 
     def note_reached(self, test):
         """Notes which errors a test reaches: all, if it fails while that is noted."""
-        name = test.replace("/", "-")
-        reached = self.folder / ("reached-" + name)
-        program = self.switched.program(0, self.folder / ("enip-" + name), reached)
-        if run([TOP / test, program], LONGEST)[0] is None:
+        reached = self.folder / ("reached-" + test)
+        program = self.switched.program(0, self.folder / ("enip-" + test), reached)
+        if run(self.tests[test].command(program), LONGEST)[0] is None:
             self.reached[test] = reached.read_bytes()
 
     def reaches(self, test, number):
@@ -86,9 +94,10 @@ class Program:
     def judge(self, error, seconds):
         number = self.numbers[error]
         program = self.switched.program(number, self.folder / ("enip-%d" % number))
-        order, by = [it for it in in_order(tests_of_check(), seconds, error.path) if self.reaches(it, number)], None
+        order, by = [it for it in in_order(self.tests, seconds, error.path) if self.reaches(it, number)], None
         try:
-            by = noticed([(it, [TOP / it, program], [TOP / it, self.plain()]) for it in order], seconds)
+            commands = [(it, *(self.tests[it].command(one) for one in (program, self.plain()))) for it in order]
+            by = noticed(commands, seconds)
         finally:
             if by:
                 program.unlink()
@@ -138,6 +147,8 @@ class Program:
 
 class Layer:
     """The C layer of the library."""
+
+    LEAST = 500
 
     def __init__(self, folder, prefix, program):
         self.folder, self.prefix, self.program, self.layer, self.same = folder, prefix, program, None, set()
@@ -191,6 +202,8 @@ class Layer:
 class Scripts:
     """The scripts at the top. Their tests are the parts of tests/scripts."""
 
+    LEAST = 500
+
     def __init__(self, folder):
         self.folder, self.whole, self.parts, self.reached = folder, None, [], {}
 
@@ -198,12 +211,13 @@ class Scripts:
         return shell.errors_of_scripts(random)
 
     def planted(self, errors):
-        return errors
+        return [it for it in errors if shell.can_be_read(it)]
 
     def unchanged(self):
         self.whole = copied(self.folder / "scripts", None)
         parts = subprocess.run([TOP / SCRIPTS, "--parts"], stdout=subprocess.PIPE, text=True, check=True)
-        self.parts = ["%s %s" % (SCRIPTS, part) for part in parts.stdout.split()]
+        names = at_least(LEAST_PARTS, parts.stdout.split(), "parts of " + SCRIPTS)
+        self.parts = ["%s %s" % (SCRIPTS, it) for it in names]
         return {it: [self.whole / SCRIPTS, it.split()[1]] for it in self.parts}
 
     def note_reached(self, test):
@@ -266,4 +280,5 @@ def reviewed():
     path = TOP / "tests/data/planted_equal.tsv"
     lines = path.read_text().splitlines() if path.exists() else []
     fields = [it.split("\t") for it in lines if it and not it.startswith("#")]
+    at_least(LEAST_REVIEWED, fields, "errors of planted_equal.tsv")
     return {tuple(it[:3]): it[3] for it in fields}

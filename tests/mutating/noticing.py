@@ -2,60 +2,68 @@
 import contextlib
 import os
 import re
+import shutil
 import signal
 import subprocess
 import threading
 import time
 from collections import Counter
 
+from mutating.refusal import at_least
 from mutating.sources import TOP
 
-# tests/memory also runs the proved tests, which are next to the proved program alone.
-NOT_RUN = ("memory",)
 NO_RESULT = "no result"
 # What differs between two runs: numbers, and the names of temporary files.
 VARIES = r"/tmp/\S+|\d+"
 # Lines of a test that are no failures.
 LEFT_OUT = re.compile(r"\s*$|this machine|\S+ is not installed$|.*: skipped: |\d+ commands were skipped")
 # A program that runs in a circle is ended long before its test gives it up. None needs so many processor seconds.
-LIMITED = ("bash", "-c", 'ulimit -t 30; exec "$@"', "")
+LIMIT = 'ulimit -t 120; exec "$@"'
+# As root, each run has a network of its own, so that runs at once do not take each other's ports.
+APART = 'ip link set lo up; '
 # The seconds after which a test that has printed no result has failed, next to four times those that it usually takes.
 LONGEST = 120
+# Fewer errors of planted_errors.tsv do not name a test.
+LEAST_FIRST = 250
 # No test is given more seconds than these.
 MOST = 10_000
-
-
-def tests_of_check(top=TOP):
-    """The tests of the built program that ./check runs."""
-    found = re.findall(r'^ *part "[^"]*" (tests/\w+) "\$program"$', (top / "check").read_text(), re.M)
-    return [it for it in found if it.split("/")[1] not in NOT_RUN]
 
 
 def first_tests(path, top=TOP):
     """How often the planted errors of a file, and then of its crate, name a test as the first."""
     alike, crate = Counter(), Counter()
-    for line in (top / "tests/data/planted_errors.tsv").read_text().splitlines():
-        fields = line.split("\t")
-        if len(fields) == 5 and fields[4].strip():
-            test = "tests/" + fields[4].split()[0]
-            alike[test] += fields[0] == path
-            crate[test] += fields[0].split("/")[:2] == path.split("/")[:2]
+    lines = [it.split("\t") for it in (top / "tests/data/planted_errors.tsv").read_text().splitlines()]
+    for fields in at_least(LEAST_FIRST, (it for it in lines if len(it) == 5), "planted errors with a test"):
+        script = "tests/" + fields[4].split()[0]
+        alike[script] += fields[0] == path
+        crate[script] += fields[0].split("/")[:2] == path.split("/")[:2]
     return alike, crate
 
 
 def in_order(tests, seconds, path):
-    """The tests, from the likeliest in each second to the least likely to notice an error of a file. `seconds` lacks
-    those that are left out."""
+    """The names of these tests, from the likeliest in each second to the least likely to notice an error of a file.
+    `seconds` lacks those that are left out."""
     alike, crate = first_tests(path)
-    tests = [it for it in tests if it in seconds]
-    return sorted(tests, key=lambda it: (alike[it] * 5 + crate[it] + 1) / (seconds[it] + 1), reverse=True)
+
+    def likely(name):
+        script = tests[name].script
+        return (alike[script] * 5 + crate[script] + 1) / (seconds[name] + 1)
+
+    return sorted((it for it in tests if it in seconds), key=likely, reverse=True)
+
+
+def limited():
+    """The words before the command of a test."""
+    if os.geteuid() == 0 and all(map(shutil.which, ("unshare", "ip"))):
+        return ["unshare", "-n", "bash", "-c", APART + LIMIT, ""]
+    return ["bash", "-c", LIMIT, ""]
 
 
 def run(command, limit, environment=None):
     """Runs a test up to the first failure that it prints. Returns the line, None if it passes, and the seconds."""
     start = time.monotonic()
     test = subprocess.Popen(
-        [*LIMITED, *command], cwd=TOP, text=True, errors="replace", process_group=0,
+        [*limited(), *command], cwd=TOP, text=True, errors="replace", process_group=0,
         stdin=subprocess.DEVNULL, stdout=subprocess.PIPE, stderr=subprocess.DEVNULL,
         env=dict(os.environ, PYTHONUNBUFFERED="1", PYTHONDONTWRITEBYTECODE="1", **environment or {}),
     )

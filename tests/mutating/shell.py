@@ -63,7 +63,7 @@ def errors_of_scripts(random):
                 depth = ""
             before = line
         found += rules.found
-    return [it for it in found if can_be_read(it)]
+    return found
 
 
 def words(rules, at, line):

@@ -38,7 +38,7 @@ fn names_of(kind: TableKind) -> &'static [&'static str] {
         TableKind::Identity => &["reset"],
         TableKind::Assembly => &["instance", "members", "settable", "lists"],
         TableKind::Ledger => &["originators", "life"],
-        TableKind::Commands => &["queue"],
+        TableKind::Commands => &["queue", "ahead"],
         TableKind::Access => &["read", "write", "per_address", "connections_per_address"],
         TableKind::TcpIp => &[
             "address",

@@ -8,7 +8,7 @@ use crate::own_value_problems::bad_objects;
 use crate::standard_problems::{bad_interface, bad_link, bad_router};
 use attribute_types::number_in;
 use enip_config::NumberKey;
-use enip_config::rules::{INSTANCE, LIFE, ORIGINATORS, QUEUE, Row, TEXT_NUMBERS};
+use enip_config::rules::{AHEAD, INSTANCE, LIFE, ORIGINATORS, QUEUE, Row, TEXT_NUMBERS};
 use toml::{Table, Value};
 
 /// The keys at the top level that have no default.
@@ -231,8 +231,12 @@ fn bad_commands(text: &Table) -> Option<Finding<'static>> {
             Problem::Type("commands", "a table"),
         )),
     };
-    let problem = bad_number(table, QUEUE)?;
-    Some(Finding::new(Location::Commands(QUEUE.name), problem))
+    for row in [QUEUE, AHEAD] {
+        if let Some(problem) = bad_number(table, row) {
+            return Some(Finding::new(Location::Commands(row.name), problem));
+        }
+    }
+    None
 }
 
 fn bad_assemblies(text: &Table) -> Option<Finding<'static>> {

@@ -50,6 +50,8 @@ fn print_lines<W: Write>(
     }
     if let Some(limit) = configuration.queue_limit() {
         writeln!(output, "queue for {limit} commands")?;
+        let ahead = configuration.ahead;
+        writeln!(output, "up to {ahead} commands handed over at once")?;
     }
     print_limits(output, configuration)?;
     match &configuration.access {

@@ -9,4 +9,4 @@ use Rattle.enip_config.specs.Interfaces.{interfaces_of}
 -- Names that could not be read.
 pub unread_interfaces : (described : Members) (fault : LoadFault) → IsBadOrMemory (interfaces_of described) fault → IsUnread described fault
 unread_interfaces described fault (inl memory) = rw memory tt
-unread_interfaces described fault (inr bad) = rw bad.0 (refl, inr (inr (inr (inr (inr (inr (inr (inr (inr (inr (inr (bad.1))))))))))))
+unread_interfaces described fault (inr bad) = rw bad.0 (refl, inr (inr (inr (inr (inr (inr (inr (inr (inr (inr (inr (inl bad.1))))))))))))

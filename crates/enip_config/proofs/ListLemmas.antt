@@ -56,6 +56,7 @@ with_access described c access values same = record {
   assemblies = values.assemblies;
   ledger = values.ledger;
   queue = values.queue;
+  ahead = values.ahead;
   enabled = values.enabled;
   reset = values.reset;
   objects = values.objects;

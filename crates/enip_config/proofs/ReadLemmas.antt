@@ -12,9 +12,9 @@ use Rattle.enip_config.specs.declared.ledger.LedgerConfig.{LedgerConfig}
 use Rattle.config_refusal.specs.declared.fault.ConfigurationRefusal.TheVariants.{Commands}
 use Rattle.config_refusal.specs.declared.fault.LoadFault.TheVariants.{Refused}
 use Rattle.attribute_types.specs.Values.{read_or}
-use Rattle.enip_config.specs.Keys.{originators_row, life_row, number_by, ledger_in, queue_in}
+use Rattle.enip_config.specs.Keys.{originators_row, life_row, number_by, ledger_in, queue_in, ahead_in}
 use Rattle.enip_config.specs.Access.{lists_of, lists_seen, IsBadList}
-use Rattle.enip_config.specs.Documents.{HasValues, IsKnown, IsDescribed, IsFaultOf, IsInRange, IsLedgerInRange, IsQueueInRange, AreSharesInRange, HasRanges}
+use Rattle.enip_config.specs.Documents.{HasValues, IsKnown, IsDescribed, IsFaultOf, IsInRange, IsLedgerInRange, IsQueueInRange, IsAheadInRange, AreSharesInRange, HasRanges}
 use Rattle.enip_config.specs.Documents.{ledger_seen, has_unused_queue}
 use Rattle.enip_config.proofs.Refused.{all_in_range, in_read}
 use Rattle.enip_config.proofs.ShareLemmas.{both_some, shares_in_range}
@@ -59,6 +59,20 @@ queue_read (Some value) (Some n) is =
     map_some (λ limit. Some limit) (queue_in value) (Some n) is λ limit read same.
     in_queue value n (read ∙ same)
 
+-- how many commands are handed over at once
+in_ahead : (value : Data) (n : ℕ) → ahead_in value ≡ Some n → (1 ≤ n) × (n ≤ 256)
+in_ahead (table described) n is = in_read 1 256 (Some 1) (get_member (codes "ahead") described) n (omega arith, omega arith) is
+in_ahead (string text) n is = absurd (none-some _ is)
+in_ahead (integer m) n is = absurd (none-some _ is)
+in_ahead (float x) n is = absurd (none-some _ is)
+in_ahead (boolean b) n is = absurd (none-some _ is)
+in_ahead (datetime moment) n is = absurd (none-some _ is)
+in_ahead (array values) n is = absurd (none-some _ is)
+
+ahead_read : (found : Option Data) (n : ℕ) → read_or (Some 1) ahead_in found ≡ Some n → (1 ≤ n) × (n ≤ 256)
+ahead_read None n is = let same : 1 ≡ n = same_Some 1 n is in (omega (arith, same), omega (arith, same))
+ahead_read (Some value) n is = in_ahead value n is
+
 -- what the lists refuse
 pub refused_by : {T U : Type 0} (bytes : List ℕ) (described : Members) (c : Configuration) (r : Result T LoadFault) (fault : LoadFault)
     (returned : Result U LoadFault) → IsKnown bytes described → HasValues described c → fault_of c.objects ≡ None
@@ -76,6 +90,11 @@ ledger_by described x values = ledger_read (get_member (codes "ledger") describe
 
 pub queue_by : (described : Members) (x : Configuration) → HasValues described x → IsQueueInRange x
 queue_by described x values = queue_read (get_member (codes "commands") described) x.queue values.queue
+
+pub ahead_by : (described : Members) (x : Configuration) → HasValues described x → IsAheadInRange x
+ahead_by described x values =
+    let within = ahead_read (get_member (codes "commands") described) x.ahead values.ahead in
+    record { from = within.0; to = within.1 }
 
 pub shares_by : (described : Members) (x : Configuration) → HasValues described x → AreSharesInRange x
 shares_by described x values = shares_in_range described x values

@@ -21,8 +21,8 @@ use Rattle.enip_config.specs.declared.key.NumberKey.TheVariants.{CounterLimit}
 use Rattle.enip_config.specs.Known.{has_unknown_key}
 use Rattle.enip_config.specs.declared.ledger.LedgerConfig.{LedgerConfig}
 use Rattle.enip_config.specs.Commands.{has_queued}
-use Rattle.enip_config.specs.Keys.{row, originators_row, life_row, queue_row, number_of, name_of, address_of, assemblies_of}
-use Rattle.enip_config.specs.Keys.{ledger_of, queue_of, counter_enabled, reset_of, AssemblySeen}
+use Rattle.enip_config.specs.Keys.{row, originators_row, life_row, queue_row, ahead_row, number_of, name_of, address_of, assemblies_of}
+use Rattle.enip_config.specs.Keys.{ledger_of, queue_of, ahead_of, counter_enabled, reset_of, AssemblySeen}
 use Rattle.cip_application.specs.declared.message_router.MessageRouter.{MessageRouter}
 use Rattle.enip_config.specs.RouterObject.{router_wanted, HasAllObjects}
 use Rattle.enip_config.specs.Interfaces.{interfaces_of, interfaces_seen}
@@ -73,6 +73,7 @@ pub record HasValues (described : Members) (c : Configuration) : Type 0 where
   pub assemblies : assemblies_of described ≡ Some (map assembly_seen c.objects.assemblies.items)
   pub ledger : ledger_of described ≡ Some (option_map ledger_seen c.ledger)
   pub queue : queue_of described ≡ Some c.queue
+  pub ahead : ahead_of described ≡ Some c.ahead
   pub enabled : counter_enabled described ≡ Some c.objects.counter.enabled
   pub reset : reset_of described ≡ Some c.reset
   pub objects : HasAllObjects described (router_in c) c.objects.objects.items
@@ -87,7 +88,7 @@ HasBadValue described =
     ⊎ ((name_of described ≡ None) ⊎ ((address_of described ≡ None) ⊎ ((assemblies_of described ≡ None)
     ⊎ ((ledger_of described ≡ None) ⊎ ((counter_enabled described ≡ None) ⊎ ((all_objects_of described ≡ None)
     ⊎ ((shares_of described ≡ None) ⊎ ((queue_of described ≡ None) ⊎ ((reset_of described ≡ None)
-    ⊎ ((router_wanted described ≡ None) ⊎ (interfaces_of described ≡ None)))))))))))
+    ⊎ ((router_wanted described ≡ None) ⊎ ((interfaces_of described ≡ None) ⊎ (ahead_of described ≡ None))))))))))))
 
 -- why a table whose keys are all known gives no configuration
 abbrev pub IsUnread : Members → LoadFault → Type 0
@@ -162,6 +163,11 @@ IsLedgerInRange c = IfSome c.ledger HasRanges
 -- the queue of the table `commands` is in range, if there is one
 abbrev pub IsQueueInRange : Configuration → Type 0
 IsQueueInRange c = IfSome c.queue (λ n. (queue_row.least ≤ n) × (n ≤ queue_row.greatest))
+
+-- how many commands are handed over at once is in range
+pub record IsAheadInRange (c : Configuration) : Type 0 where
+  pub from : ahead_row.least ≤ c.ahead
+  pub to : c.ahead ≤ ahead_row.greatest
 
 -- the shares of the table `access` are in range, if there is one
 abbrev pub AreSharesInRange : Configuration → Type 0

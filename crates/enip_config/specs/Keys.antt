@@ -63,6 +63,10 @@ life_row = optional (codes "life") 1 0x7fffffffffffffff 1
 abbrev pub queue_row : KeyRow
 queue_row = optional (codes "queue") 1 256 16
 
+-- the key `ahead` of the table `commands`
+abbrev pub ahead_row : KeyRow
+ahead_row = optional (codes "ahead") 1 256 1
+
 abbrev pub row_seen : Row → KeyRow
 row_seen r = record { name = r.name.now; least = r.least; greatest = r.greatest; default = r.default }
 
@@ -176,3 +180,11 @@ queue_in _ = None
 abbrev pub queue_of : Members → Option (Option ℕ)
 queue_of described =
     read_or (Some None) (λ value. option_map (λ limit. Some limit) (queue_in value)) (get_member (codes "commands") described)
+
+-- how many queued commands are handed over and not done at once: 1 if the table `commands` is left out
+abbrev pub ahead_in : Data → Option ℕ
+ahead_in (table described) = number_by ahead_row described
+ahead_in _ = None
+
+abbrev pub ahead_of : Members → Option ℕ
+ahead_of described = read_or (Some 1) ahead_in (get_member (codes "commands") described)

@@ -10,7 +10,7 @@ use Rattle.enip_config.specs.declared.key.NumberKey.TheVariants.{Vendor, DeviceT
 use Rattle.enip_config.specs.declared.key.NumberKey.TheVariants.{Status, State, Port, Peers, Connections, FirstHandle}
 use Rattle.enip_config.specs.declared.key.NumberKey.TheVariants.{FirstId, CounterValue}
 use Rattle.enip_config.specs.declared.key.NumberKey.TheVariants.{CounterLimit}
-use Rattle.enip_config.specs.Keys.{row, instance_row, originators_row, life_row, queue_row}
+use Rattle.enip_config.specs.Keys.{row, instance_row, originators_row, life_row, queue_row, ahead_row}
 use Rattle.enip_config.specs.Objects.{class_row, attribute_row, service_row, reply_row}
 use Rattle.enip_config.specs.StandardObjects.{timeout_row, speed_row, flags_row, type_row, state_row}
 use Rattle.toml.specs.Data.{Data, array, table, Items, no_items, item, Members, no_members, member}
@@ -65,7 +65,7 @@ keys_of Counter = map (λ key. (row key).name) (CounterValue ∷ CounterLimit �
 keys_of Identity = codes "reset" ∷ []
 keys_of Assembly = instance_row.name ∷ codes "settable" ∷ codes "members" ∷ codes "lists" ∷ []
 keys_of Ledger = originators_row.name ∷ life_row.name ∷ []
-keys_of Commands = queue_row.name ∷ []
+keys_of Commands = queue_row.name ∷ ahead_row.name ∷ []
 keys_of Access = codes "read" ∷ codes "write" ∷ codes "per_address" ∷ codes "connections_per_address" ∷ []
 keys_of TcpIp =
     codes "address" ∷ codes "mask" ∷ codes "gateway" ∷ codes "name_servers" ∷ codes "domain" ∷ codes "host"

@@ -4,11 +4,11 @@ ghost use Rattle.std.specs.Prelude.{◌≡◌, IfOk, IfErr, Some};
 ghost use Rattle.std.specs.List.{list_any};
 ghost use Rattle.toml.specs.View.{view, table_view};
 ghost use Rattle.enip_config.specs.Commands.{has_queued, is_queued};
-ghost use Rattle.enip_config.specs.Keys.{queue_in, queue_of};
+ghost use Rattle.enip_config.specs.Keys.{queue_in, queue_of, ahead_in, ahead_of};
 ghost use Rattle.attribute_types.specs.Values.{IsBad};
 ghost use Rattle.enip_config.specs.Documents.{IsUnread};
 
-use crate::key::QUEUE;
+use crate::key::{AHEAD, DEFAULT_AHEAD, QUEUE};
 use crate::values::number_by;
 use attribute_types::{BAD_VALUE, value_of};
 use cip_application::{ObjectConfig, ServiceConfig, ServiceKind};
@@ -35,6 +35,28 @@ fn queue_in(value: &Value) -> Result<u16, LoadFault>
         return Err(BAD_VALUE);
     };
     number_by(table, QUEUE)
+}
+
+/// Reads how many queued commands are handed over and not done at once.
+pub(crate) fn ahead_of(text: &Table) -> Result<u16, LoadFault>
+    ensures read { IfOk result (λ ahead. ahead_of (table_view text.now) ≡ Some ahead) }
+    ensures refused { IfErr result (IsUnread (table_view text.now)) }
+{
+    match value_of(text, "commands") {
+        None => Ok(DEFAULT_AHEAD),
+        Some(value) => ahead_in(value),
+    }
+}
+
+/// Reads a value as a table `commands`: how many commands are handed over at once.
+fn ahead_in(value: &Value) -> Result<u16, LoadFault>
+    ensures read { IfOk result (λ ahead. ahead_in (view value.now) ≡ Some ahead) }
+    ensures refused { IfErr result (IsBad (ahead_in (view value.now))) }
+{
+    let Value::Table(table) = value else {
+        return Err(BAD_VALUE);
+    };
+    number_by(table, AHEAD)
 }
 
 /// Whether any of these objects has a queued service.

@@ -6,13 +6,13 @@ ghost use Rattle.toml.specs.View.{table_view};
 ghost use Rattle.cip_objects.specs.Configuration.{fault_of};
 ghost use Rattle.enip_config.specs.Access.{lists_of, lists_seen, IsBadList};
 ghost use Rattle.enip_config.specs.Commands.{queue_limit};
-ghost use Rattle.enip_config.specs.Documents.{IsDescribed, IsFaultOf, IsInRange, IsLedgerInRange, IsQueueInRange};
+ghost use Rattle.enip_config.specs.Documents.{IsDescribed, IsFaultOf, IsInRange, IsLedgerInRange, IsQueueInRange, IsAheadInRange};
 ghost use Rattle.enip_config.specs.Documents.{AreSharesInRange, IsUnread, HasValues, has_unused_queue};
 ghost use Rattle.enip_config.specs.Numbers.{HasIdentity, HasCounter, HasLimits};
 
 use crate::access::{shares_of, with_lists};
 use crate::assemblies::assemblies_of;
-use crate::commands::{has_queued, queue_of};
+use crate::commands::{ahead_of, has_queued, queue_of};
 use crate::interfaces::{NamedInterfaces, interfaces_of};
 use crate::key::{DEFAULT_QUEUE, NumberKey};
 use crate::known::has_unknown_key;
@@ -29,7 +29,8 @@ use std::alloc::Global;
 use toml::Table;
 
 /// A device as a configuration describes it: its objects, the address and port that it reports, its limits, its
-/// command ledger if it has one, how many queued commands can wait, and the types of its own attributes.
+/// command ledger if it has one, how many queued commands can wait, how many of them its owner has in hand, and the types
+/// of its own attributes.
 ///
 /// ```
 /// const DEVICE: &[u8] = b"vendor = 1
@@ -68,6 +69,8 @@ pub struct Configuration {
     pub ledger: Option<LedgerConfig>,
     /// How many queued commands can wait, 1 to 256, by the table `commands`. `None` if it is left out.
     pub queue: Option<u16>,
+    /// How many queued commands are handed over and not done at once, 1 to 256, by the table `commands`.
+    pub ahead: u16,
     /// Who may connect and who may change something, if the configuration says so. Otherwise everybody may.
     pub access: Option<Access>,
     /// The network interfaces of the system from which values are read when the device is started.
@@ -90,6 +93,7 @@ impl Drop for Configuration {
             first_id: _,
             ledger: _,
             queue: _,
+            ahead: _,
             access: _,
             interfaces: _,
             attribute_types: _,
@@ -111,6 +115,7 @@ impl Configuration {
         ensures in_range { IfOk result IsInRange }
         ensures ledger { IfOk result IsLedgerInRange }
         ensures queue { IfOk result IsQueueInRange }
+        ensures ahead { IfOk result IsAheadInRange }
         ensures shares { IfOk result AreSharesInRange }
         ensures refused { IfErr result (IsFaultOf bytes.now) }
     {
@@ -148,6 +153,7 @@ impl Configuration {
             first_id: _,
             ledger: _,
             queue: _,
+            ahead: _,
             access: _,
             interfaces: _,
             attribute_types: _,
@@ -193,6 +199,7 @@ impl Configuration {
             first_id,
             ledger,
             queue,
+            ahead,
             access,
             interfaces,
             attribute_types,
@@ -209,6 +216,7 @@ impl Configuration {
             first_id,
             ledger,
             queue,
+            ahead,
             access,
             interfaces,
             attribute_types,
@@ -234,6 +242,7 @@ impl Configuration {
         let address = address_of(text)?;
         let ledger = ledger_of(text)?;
         let queue = queue_of(text)?;
+        let ahead = ahead_of(text)?;
         let access = shares_of(text)?;
         let name = name_of(text)?;
         let interfaces = interfaces_of(text)?;
@@ -264,6 +273,7 @@ impl Configuration {
             first_id: limits.first_id,
             ledger,
             queue,
+            ahead,
             access,
             interfaces,
             attribute_types,

@@ -101,4 +101,5 @@ value = "ready"
 #
 # [commands]                   # the queue of the device, for services with queued = true
 # queue = 16                   # how many commands can wait in it: 1 to 256; default 16
+# ahead = 1                    # how many the owner gets before the first of them is done: 1 to 256; default 1
 "#;

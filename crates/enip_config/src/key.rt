@@ -15,6 +15,10 @@ const GREATEST_UDINT: u64 = 0xffff_ffff;
 /// How many queued commands can wait, unless the key `queue` says otherwise (our choice).
 pub(crate) const DEFAULT_QUEUE: u16 = 16;
 
+/// How many queued commands are handed over and not done at once, unless the key `ahead` says otherwise (our choice): an
+/// owner that has one command at a time can tell after a crash which one it was.
+pub(crate) const DEFAULT_AHEAD: u16 = 1;
+
 /// A key whose value is a number, at the top level or in the table `counter`.
 #[derive(Clone, Copy, Debug)]
 pub enum NumberKey {
@@ -165,6 +169,14 @@ pub const QUEUE: Row = Row {
     least: 1,
     greatest: 256,
     default: Some(DEFAULT_QUEUE as u64),
+};
+
+/// The key `ahead` of the table `commands`.
+pub const AHEAD: Row = Row {
+    name: "ahead",
+    least: 1,
+    greatest: 256,
+    default: Some(DEFAULT_AHEAD as u64),
 };
 
 impl NumberKey {

@@ -11,8 +11,8 @@ ghost use Rattle.enip_config.specs.Known.{has_other_keys_in_objects, object_has_
 ghost use Rattle.enip_config.specs.Known.{is_unknown_in_object};
 
 use crate::key::{
-    ATTRIBUTE_NUMBER, CLASS, FLAGS, INACTIVITY_TIMEOUT, INSTANCE, INTERFACE_STATE, INTERFACE_TYPE,
-    LIFE, NumberKey, ORIGINATORS, QUEUE, REPLY, SERVICE_NUMBER, SPEED,
+    AHEAD, ATTRIBUTE_NUMBER, CLASS, FLAGS, INACTIVITY_TIMEOUT, INSTANCE, INTERFACE_STATE,
+    INTERFACE_TYPE, LIFE, NumberKey, ORIGINATORS, QUEUE, REPLY, SERVICE_NUMBER, SPEED,
 };
 use toml::{Table, Value};
 
@@ -82,7 +82,7 @@ impl TableKind {
                 || name == "members"
                 || name == "lists",
             TableKind::Ledger => ORIGINATORS.is_named(name) || LIFE.is_named(name),
-            TableKind::Commands => QUEUE.is_named(name),
+            TableKind::Commands => QUEUE.is_named(name) || AHEAD.is_named(name),
             TableKind::Access => is_access_key(name),
             TableKind::TcpIp => is_tcp_ip_key(name),
             TableKind::EthernetLink => is_link_key(name),

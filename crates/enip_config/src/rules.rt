@@ -9,8 +9,8 @@ pub use crate::access::{MOST_CONNECTIONS, MOST_PEERS};
 pub use crate::commands::{has_queued_service, is_queued};
 pub use crate::interfaces::{has, is_interface_name};
 pub use crate::key::{
-    ATTRIBUTE_NUMBER, CLASS, FLAGS, INACTIVITY_TIMEOUT, INSTANCE, INTERFACE_STATE, INTERFACE_TYPE,
-    LIFE, ORIGINATORS, QUEUE, REPLY, Row, SERVICE_NUMBER, SPEED,
+    AHEAD, ATTRIBUTE_NUMBER, CLASS, FLAGS, INACTIVITY_TIMEOUT, INSTANCE, INTERFACE_STATE,
+    INTERFACE_TYPE, LIFE, ORIGINATORS, QUEUE, REPLY, Row, SERVICE_NUMBER, SPEED,
 };
 pub use crate::known::{TEXT_NUMBERS, TableKind, has_key};
 pub use crate::standard::is_text;

@@ -1,7 +1,7 @@
 -- Commands that are handed over, over every list of steps.
 use Rattle.std.proofs.Common.{◌≡◌, ℕ, zero, suc, ◌+◌, ◌<◌, ◌≤◌, ◌==◌, ◌||◌, max, nat_lt, nat_le, Bool, true, false, not, List, [], ◌∷◌, ◌++◌, length, map}
 use Rattle.std.proofs.Common.{Option, Some, None, refl, sym, ap, subst, ◌∙◌, ◌⊎◌, inl, inr, append_assoc, append-nil, arith}
-use Rattle.std.specs.Prelude.{⊤}
+use Rattle.std.specs.Prelude.{⊤, if◌then◌else◌}
 use Rattle.std.specs.List.{filter, list_any, AllByRecursion}
 use Rattle.std.specs.Option.{option_map}
 use Rattle.std.proofs.lemmas.Bool.{eqb-true, eq-eqb, ne_eqb, or_cases, or_parts, or_from, or_left, or_right, lt-ltb, le-ltb, ltb-true, ltb-false, le-leb, lt-leb, leb-true, false≢true, cases_lt, cases_order}
@@ -10,13 +10,13 @@ use Rattle.std.proofs.lemmas.List.{map-append}
 use Rattle.std.proofs.lemmas.List.Folds.{list_any-append}
 use Rattle.enip_owner.specs.declared.hand_over.HandOver.{HandOver}
 use Rattle.enip_owner.specs.declared.hand_over.HandedOver.{HandedOver}
-use Rattle.enip_owner.specs.HandOvers.{first_above, handed_over, next_in, with_handed, after_next, with_new_session, Desk, DeskStep, Pushes, Finishes, Hands, Begins}
+use Rattle.enip_owner.specs.HandOvers.{first_above, next_ticket, in_hand, handed_over, next_in, with_handed, after_next, with_new_session, Desk, DeskStep, Pushes, Finishes, Hands, Begins}
 use Rattle.enip_owner.specs.HandOvers.{without, desk_after, as_list, handed_in, desk_after_all, all_handed, tickets, RisesAbove, AreBelow, IsDesk, IsOneSession}
-use Rattle.enip_owner.specs.HandOvers.{hands, has_ticket, greatest_handed, order_law, session_law, none_skipped_law, again_law, done_law}
+use Rattle.enip_owner.specs.HandOvers.{hands, has_ticket, greatest_handed, order_law, none_skipped_law, again_law, done_law}
 
 -- ---- lists of tickets
 
-found_at : (ticket other : ℕ) (waiting : List ℕ) → has_ticket (other ∷ waiting) ticket ≡ true
+pub found_at : (ticket other : ℕ) (waiting : List ℕ) → has_ticket (other ∷ waiting) ticket ≡ true
     → (other ≡ ticket) ⊎ (has_ticket waiting ticket ≡ true)
 found_at ticket other waiting is =
     elim (or_cases (other == ticket) (has_ticket waiting ticket) is) [
@@ -24,7 +24,7 @@ found_at ticket other waiting is =
       | inr later ↦ inr later
     ]
 
-above_all : (least ticket : ℕ) (waiting : List ℕ) → RisesAbove least waiting → has_ticket waiting ticket ≡ true → least < ticket
+pub above_all : (least ticket : ℕ) (waiting : List ℕ) → RisesAbove least waiting → has_ticket waiting ticket ≡ true → least < ticket
 above_all least ticket [] rises is = absurd (false≢true is)
 above_all least ticket (other ∷ waiting) rises is =
     elim (found_at ticket other waiting is) [
@@ -32,7 +32,7 @@ above_all least ticket (other ∷ waiting) rises is =
       | inr later ↦ omega (arith, rises.0, above_all other ticket waiting rises.1 later)
     ]
 
-below_all : (most ticket : ℕ) (waiting : List ℕ) → AreBelow most waiting → has_ticket waiting ticket ≡ true → ticket < most
+pub below_all : (most ticket : ℕ) (waiting : List ℕ) → AreBelow most waiting → has_ticket waiting ticket ≡ true → ticket < most
 below_all most ticket [] below is = absurd (false≢true is)
 below_all most ticket (other ∷ waiting) below is =
     elim (found_at ticket other waiting is) [
@@ -40,7 +40,7 @@ below_all most ticket (other ∷ waiting) below is =
       | inr later ↦ below_all most ticket waiting below.1 later
     ]
 
-no_such : (most ticket : ℕ) (waiting : List ℕ) → AreBelow most waiting → most ≤ ticket → has_ticket waiting ticket ≡ false
+pub no_such : (most ticket : ℕ) (waiting : List ℕ) → AreBelow most waiting → most ≤ ticket → has_ticket waiting ticket ≡ false
 no_such most ticket [] below over = refl
 no_such most ticket (other ∷ waiting) below over =
     or_from (other == ticket) (has_ticket waiting ticket) (ne_eqb other ticket (λ same. omega (arith, same, below.0, over)))
@@ -59,11 +59,11 @@ below_more : (next : ℕ) (waiting : List ℕ) → AreBelow next waiting → Are
 below_more next [] below = (omega arith, tt)
 below_more next (other ∷ waiting) below = (omega (arith, below.0), below_more next waiting below.1)
 
-below_wider : (next most : ℕ) (waiting : List ℕ) → next ≤ most → AreBelow next waiting → AreBelow most waiting
+pub below_wider : (next most : ℕ) (waiting : List ℕ) → next ≤ most → AreBelow next waiting → AreBelow most waiting
 below_wider next most [] under below = tt
 below_wider next most (other ∷ waiting) under below = (omega (arith, under, below.0), below_wider next most waiting under below.1)
 
-below_joined : (most : ℕ) (front back : List ℕ) → AreBelow most front → AreBelow most back → AreBelow most (front ++ back)
+pub below_joined : (most : ℕ) (front back : List ℕ) → AreBelow most front → AreBelow most back → AreBelow most (front ++ back)
 below_joined most [] back below too = too
 below_joined most (other ∷ front) back below too = (below.0, below_joined most front back below.1 too)
 
@@ -117,9 +117,9 @@ gone_from gone (other ∷ waiting) = gone_at gone other waiting (other == gone) 
 
 -- ---- the first ticket that is greater
 
-record IsFirst (ticket : ℕ) (waiting : List ℕ) (first : ℕ) : Type 0 where
-  over : ticket < first
-  waits : has_ticket waiting first ≡ true
+pub record IsFirst (ticket : ℕ) (waiting : List ℕ) (first : ℕ) : Type 0 where
+  pub over : ticket < first
+  pub waits : has_ticket waiting first ≡ true
 
 first_at : (ticket other first : ℕ) (waiting : List ℕ) (greater : Bool) → nat_lt ticket other ≡ greater
     → first_above ticket (other ∷ waiting) ≡ Some first → (first_above ticket waiting ≡ Some first → IsFirst ticket waiting first)
@@ -135,10 +135,19 @@ first_at ticket other first waiting false is found more =
       waits = or_right (other == first) (has_ticket waiting first) later.waits;
     }
 
-first_is : (ticket : ℕ) (waiting : List ℕ) (first : ℕ) → first_above ticket waiting ≡ Some first → IsFirst ticket waiting first
+pub first_is : (ticket : ℕ) (waiting : List ℕ) (first : ℕ) → first_above ticket waiting ≡ Some first → IsFirst ticket waiting first
 first_is ticket [] first found = absurd (none-some first found)
 first_is ticket (other ∷ waiting) first found =
     first_at ticket other first waiting (nat_lt ticket other) refl found (first_is ticket waiting first)
+
+-- The ticket that is handed over next is the first one that is greater.
+chosen : (may : Bool) (found : Option ℕ) (first : ℕ) → (if may then found else None) ≡ Some first → found ≡ Some first
+chosen true found first is = is
+chosen false found first is = absurd (none-some first is)
+
+pub next_first : (h : HandOver) (waiting : List ℕ) (first : ℕ) → next_ticket h waiting ≡ Some first
+    → first_above h.handed waiting ≡ Some first
+next_first h waiting first is = chosen (nat_lt (in_hand h waiting) h.ahead) (first_above h.handed waiting) first is
 
 -- A waiting ticket before the first one is not greater.
 earlier_at : (ticket other first least one : ℕ) (waiting : List ℕ) (greater : Bool) → nat_lt ticket other ≡ greater
@@ -177,37 +186,10 @@ in_order d [] one = tt
 in_order d (Pushes ∷ steps) one = in_order (desk_after d Pushes) steps one
 in_order d (Finishes ticket ∷ steps) one = in_order (desk_after d (Finishes ticket)) steps one
 in_order d (Hands ∷ steps) one =
-    order_hand d (first_above d.hand_over.handed d.waiting) steps (λ ticket is. (first_is d.hand_over.handed d.waiting ticket is).over)
+    order_hand d (next_ticket d.hand_over d.waiting) steps
+    (λ ticket is. (first_is d.hand_over.handed d.waiting ticket (next_first d.hand_over d.waiting ticket is)).over)
     (λ next. in_order next steps one)
 in_order d (Begins ∷ steps) one = absurd one
-
--- ---- a new session
-
--- No ticket is greater than this one.
-abbrev AreUpTo : ℕ → List ℕ → Type 0
-AreUpTo most waiting = AreBelow (most + 1) waiting
-
-passes_front : (ticket next : ℕ) (front back : List ℕ) → AreUpTo ticket front → ticket < next
-    → first_above ticket (front ++ next ∷ back) ≡ Some next
-passes_front ticket next [] back up over = rw (lt-ltb ticket next over) refl
-passes_front ticket next (other ∷ front) back up over =
-    rw (le-ltb ticket other (omega (arith, up.0))) (passes_front ticket next front back up.1 over)
-
-hands_rest : (d : Desk) (front back : List ℕ) → d.waiting ≡ front ++ back → AreUpTo d.hand_over.handed front
-    → RisesAbove d.hand_over.handed back → tickets (all_handed d (hands (length back))) ≡ back
-hands_rest d front [] is up rises = refl
-hands_rest d front (next ∷ back) is up rises =
-    let found : first_above d.hand_over.handed d.waiting ≡ Some next =
-    ap (first_above d.hand_over.handed) is ∙ passes_front d.hand_over.handed next front back up rises.0 in
-    let after : Desk = record d { hand_over = record d.hand_over { handed = next } } in
-    let parts : d.waiting ≡ (front ++ next ∷ []) ++ back = is ∙ sym (append_assoc front (next ∷ []) back) in
-    let up_to : AreUpTo next (front ++ next ∷ []) =
-    below_joined (next + 1) front (next ∷ [])
-    (below_wider (d.hand_over.handed + 1) (next + 1) front (omega (arith, rises.0)) up) (omega arith, tt) in
-    rw found (ap (λ (ts : List ℕ). next ∷ ts) (hands_rest after (front ++ next ∷ []) back parts up_to rises.1))
-
-pub session_gets_all : session_law
-session_gets_all d is = hands_rest (desk_after d Begins) [] d.waiting refl tt is.rises
 
 -- ---- a command that is done
 
@@ -229,10 +211,10 @@ not_kept : (gone ticket : ℕ) (waiting : List ℕ) (there : Bool) → has_ticke
 not_kept gone ticket waiting true is none = absurd (false≢true (sym none ∙ kept gone ticket waiting is))
 not_kept gone ticket waiting false is none = is
 
-not_handed : (d : Desk) (ticket one : ℕ) → has_ticket d.waiting ticket ≡ false → first_above d.hand_over.handed d.waiting ≡ Some one
+not_handed : (d : Desk) (ticket one : ℕ) → has_ticket d.waiting ticket ≡ false → next_ticket d.hand_over d.waiting ≡ Some one
     → (one == ticket) ≡ false
 not_handed d ticket one gone is =
-    let waits = (first_is d.hand_over.handed d.waiting one is).waits in
+    let waits = (first_is d.hand_over.handed d.waiting one (next_first d.hand_over d.waiting one is)).waits in
     ne_eqb one ticket (λ same. false≢true (sym gone ∙ ap (has_ticket d.waiting) (sym same) ∙ waits))
 
 never_again : (d : Desk) (ticket : ℕ) (steps : List DeskStep) → ticket < d.next → has_ticket d.waiting ticket ≡ false
@@ -244,7 +226,7 @@ never_again d ticket (Finishes other ∷ steps) old gone =
     never_again (desk_after d (Finishes other)) ticket steps old
     (not_kept other ticket d.waiting (has_ticket (without other d.waiting) ticket) refl gone)
 never_again d ticket (Hands ∷ steps) old gone =
-    hand_none d.hand_over ticket (first_above d.hand_over.handed d.waiting) (all_handed (desk_after d Hands) steps)
+    hand_none d.hand_over ticket (next_ticket d.hand_over d.waiting) (all_handed (desk_after d Hands) steps)
     (λ one is. not_handed d ticket one gone is) (never_again (desk_after d Hands) ticket steps old gone)
 never_again d ticket (Begins ∷ steps) old gone = never_again (desk_after d Begins) ticket steps old gone
 
@@ -255,19 +237,19 @@ none_after_done d ticket steps desk old = never_again (desk_after d (Finishes ti
 
 -- A waiting command was handed over, among those of the past or by a ticket up to `greatest`, exactly if its ticket is
 -- not greater than `reach`.
-record IsKnown (greatest reach next : ℕ) (past waiting : List ℕ) : Type 0 where
-  rises : RisesAbove 0 waiting
-  below : AreBelow next waiting
-  begun : greatest < next
-  reached : reach < next
-  before : AreBelow next past
-  known : (ticket : ℕ) → has_ticket waiting ticket ≡ true → nat_le ticket reach ≡ (nat_le ticket greatest || has_ticket past ticket)
+pub record IsKnown (greatest reach next : ℕ) (past waiting : List ℕ) : Type 0 where
+  pub rises : RisesAbove 0 waiting
+  pub below : AreBelow next waiting
+  pub begun : greatest < next
+  pub reached : reach < next
+  pub before : AreBelow next past
+  pub known : (ticket : ℕ) → has_ticket waiting ticket ≡ true → nat_le ticket reach ≡ (nat_le ticket greatest || has_ticket past ticket)
 
 or_none : (b : Bool) → b ≡ (b || false)
 or_none true = refl
 or_none false = refl
 
-nothing_yet : (greatest next : ℕ) (waiting : List ℕ) → RisesAbove 0 waiting → AreBelow next waiting → greatest < next
+pub nothing_yet : (greatest next : ℕ) (waiting : List ℕ) → RisesAbove 0 waiting → AreBelow next waiting → greatest < next
     → IsKnown greatest greatest next [] waiting
 nothing_yet greatest next waiting rises below under = record {
   rises = rises;
@@ -385,30 +367,32 @@ abbrev IsKnownEver : ℕ → List ℕ → Desk → Type 0
 IsKnownEver greatest past d = IsKnown greatest (greatest_handed d.hand_over) d.next past d.waiting
 
 -- The same, by the greatest ticket that was handed over in this session.
-abbrev IsKnownNow : ℕ → List ℕ → Desk → Type 0
+abbrev pub IsKnownNow : ℕ → List ℕ → Desk → Type 0
 IsKnownNow greatest past d = IsKnown greatest d.hand_over.handed d.next past d.waiting
 
 abbrev past_with : List ℕ → Option ℕ → List ℕ
 past_with past None = past
 past_with past (Some one) = past ++ one ∷ []
 
-ever_hand : (greatest : ℕ) (past : List ℕ) (d : Desk) (first : Option ℕ) → first_above d.hand_over.handed d.waiting ≡ first
+ever_hand : (greatest : ℕ) (past : List ℕ) (d : Desk) (first : Option ℕ) → next_ticket d.hand_over d.waiting ≡ first
     → IsKnownEver greatest past d → IsKnownEver greatest (past_with past first) (record d { hand_over = with_handed d.hand_over first })
 ever_hand greatest past d None is k = k
 ever_hand greatest past d (Some one) is k =
-    let over : d.hand_over.handed < one = (first_is d.hand_over.handed d.waiting one is).over in
+    let found : first_above d.hand_over.handed d.waiting ≡ Some one = next_first d.hand_over d.waiting one is in
+    let over : d.hand_over.handed < one = (first_is d.hand_over.handed d.waiting one found).over in
     let reach : max (max d.hand_over.earlier d.hand_over.handed) one ≡ max d.hand_over.earlier one = omega (arith, over) in
     subst (λ (n : ℕ). IsKnown greatest n d.next (past ++ one ∷ []) d.waiting) reach
-    (known_hand greatest (greatest_handed d.hand_over) d.next d.hand_over.handed one past d.waiting k (omega arith) is)
+    (known_hand greatest (greatest_handed d.hand_over) d.next d.hand_over.handed one past d.waiting k (omega arith) found)
 
-now_hand : (greatest : ℕ) (past : List ℕ) (d : Desk) (first : Option ℕ) → first_above d.hand_over.handed d.waiting ≡ first
+now_hand : (greatest : ℕ) (past : List ℕ) (d : Desk) (first : Option ℕ) → next_ticket d.hand_over d.waiting ≡ first
     → IsKnownNow greatest past d → IsKnownNow greatest (past_with past first) (record d { hand_over = with_handed d.hand_over first })
 now_hand greatest past d None is k = k
 now_hand greatest past d (Some one) is k =
-    let over : d.hand_over.handed < one = (first_is d.hand_over.handed d.waiting one is).over in
+    let found : first_above d.hand_over.handed d.waiting ≡ Some one = next_first d.hand_over d.waiting one is in
+    let over : d.hand_over.handed < one = (first_is d.hand_over.handed d.waiting one found).over in
     let reach : max d.hand_over.handed one ≡ one = omega (arith, over) in
     subst (λ (n : ℕ). IsKnown greatest n d.next (past ++ one ∷ []) d.waiting) reach
-    (known_hand greatest d.hand_over.handed d.next d.hand_over.handed one past d.waiting k (omega arith) is)
+    (known_hand greatest d.hand_over.handed d.next d.hand_over.handed one past d.waiting k (omega arith) found)
 
 past_joined : (past : List ℕ) (h : HandOver) (first : Option ℕ) (others : List HandedOver)
     → past_with past first ++ tickets others ≡ past ++ tickets (as_list (option_map (handed_over h) first) ++ others)
@@ -424,7 +408,7 @@ known_ever greatest past d (Finishes gone ∷ steps) k =
     known_ever greatest past (desk_after d (Finishes gone)) steps
     (known_finish greatest (greatest_handed d.hand_over) d.next gone past d.waiting k)
 known_ever greatest past d (Hands ∷ steps) k =
-    let first : Option ℕ = first_above d.hand_over.handed d.waiting in
+    let first : Option ℕ = next_ticket d.hand_over d.waiting in
     subst (λ (p : List ℕ). IsKnownEver greatest p (desk_after_all (desk_after d Hands) steps))
     (past_joined past d.hand_over first (all_handed (desk_after d Hands) steps))
     (known_ever greatest (past_with past first) (desk_after d Hands) steps (ever_hand greatest past d first refl k))
@@ -432,7 +416,7 @@ known_ever greatest past d (Begins ∷ steps) k =
     let reach : greatest_handed d.hand_over ≡ max (max d.hand_over.earlier d.hand_over.handed) 0 = omega arith in
     known_ever greatest past (desk_after d Begins) steps (subst (λ (n : ℕ). IsKnown greatest n d.next past d.waiting) reach k)
 
-known_now : (greatest : ℕ) (past : List ℕ) (d : Desk) (steps : List DeskStep) → IsOneSession steps → IsKnownNow greatest past d
+pub known_now : (greatest : ℕ) (past : List ℕ) (d : Desk) (steps : List DeskStep) → IsOneSession steps → IsKnownNow greatest past d
     → IsKnownNow greatest (past ++ tickets (all_handed d steps)) (desk_after_all d steps)
 known_now greatest past d [] one k = subst (λ (p : List ℕ). IsKnownNow greatest p d) (sym (append-nil past)) k
 known_now greatest past d (Pushes ∷ steps) one k =
@@ -441,7 +425,7 @@ known_now greatest past d (Finishes gone ∷ steps) one k =
     known_now greatest past (desk_after d (Finishes gone)) steps one
     (known_finish greatest d.hand_over.handed d.next gone past d.waiting k)
 known_now greatest past d (Hands ∷ steps) one k =
-    let first : Option ℕ = first_above d.hand_over.handed d.waiting in
+    let first : Option ℕ = next_ticket d.hand_over d.waiting in
     subst (λ (p : List ℕ). IsKnownNow greatest p (desk_after_all (desk_after d Hands) steps))
     (past_joined past d.hand_over first (all_handed (desk_after d Hands) steps))
     (known_now greatest (past_with past first) (desk_after d Hands) steps one (now_hand greatest past d first refl k))
@@ -465,12 +449,12 @@ record IsHanded (h : HandOver) (waiting : List ℕ) (handed : HandedOver) : Type
   found : first_above h.handed waiting ≡ Some handed.ticket
   again : handed.again ≡ nat_le handed.ticket h.earlier
 
-handed_from : (h : HandOver) (waiting : List ℕ) (first : Option ℕ) (handed : HandedOver) → first_above h.handed waiting ≡ first
+handed_from : (h : HandOver) (waiting : List ℕ) (first : Option ℕ) (handed : HandedOver) → next_ticket h waiting ≡ first
     → option_map (handed_over h) first ≡ Some handed → IsHanded h waiting handed
 handed_from h waiting None handed found is = absurd (none-some handed is)
 handed_from h waiting (Some ticket) handed found is =
     let same : handed_over h ticket ≡ handed = same_Some (handed_over h ticket) handed is in
-    subst (λ (x : HandedOver). IsHanded h waiting x) same (record { found = found; again = refl })
+    subst (λ (x : HandedOver). IsHanded h waiting x) same (record { found = next_first h waiting ticket found; again = refl })
 
 pub marked_again : again_law
 marked_again d steps handed desk is =
@@ -478,7 +462,7 @@ marked_again d steps handed desk is =
     let greatest : ℕ = greatest_handed d.hand_over in
     let k = known_ever greatest [] d steps
     (nothing_yet greatest d.next d.waiting desk.rises desk.below (omega (arith, desk.earlier, desk.handed))) in
-    let h = handed_from end.hand_over end.waiting (first_above end.hand_over.handed end.waiting) handed refl is in
+    let h = handed_from end.hand_over end.waiting (next_ticket end.hand_over end.waiting) handed refl is in
     let first = first_is end.hand_over.handed end.waiting handed.ticket h.found in (
       first.waits,
       h.again ∙ same_again end.hand_over.earlier end.hand_over.handed handed.ticket first.over ∙ k.known handed.ticket first.waits,

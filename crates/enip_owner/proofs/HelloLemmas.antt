@@ -79,9 +79,11 @@ objects_tokens detail h =
 hello_of_life : (life : Option ℕ) (detail : Detail) (h : HelloEvent) → h.life ≡ life
     → hello_head h ++ (flat_map (λ o. json_tokens (object_json detail o)) h.objects.now ++ end_array ∷ end_object ∷ end_object ∷ [])
     ≡ json_tokens (hello_json detail h)
-hello_of_life None detail h is = rw is (ap (λ l. device_tokens h ++ l) (objects_tokens detail h))
+hello_of_life None detail h is =
+    rw is (ap (λ l. device_tokens h ++ key (codes "ahead") ∷ number (decimal h.ahead) ∷ l) (objects_tokens detail h))
 hello_of_life (Some life) detail h is =
-    rw is (ap (λ l. device_tokens h ++ key (codes "life") ∷ number (decimal life) ∷ l) (objects_tokens detail h))
+    rw is (ap (λ l. device_tokens h ++ key (codes "life") ∷ number (decimal life) ∷ key (codes "ahead") ∷ number (decimal h.ahead) ∷ l)
+    (objects_tokens detail h))
 
 pub hello_tokens : (detail : Detail) (h : HelloEvent)
     → hello_head h ++ (flat_map (λ o. json_tokens (object_json detail o)) h.objects.now ++ end_array ∷ end_object ∷ end_object ∷ [])

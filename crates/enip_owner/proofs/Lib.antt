@@ -1,5 +1,6 @@
 pub mod StreamLemmas
 pub mod HandOverLemmas
+pub mod AheadLemmas
 pub mod ValueLemmas
 pub mod TokenLemmas
 pub mod ReadingLemmas

@@ -1,5 +1,5 @@
 -- Which of the waiting commands an owner is handed next.
-use Rattle.std.specs.Prelude.{◌≡◌, ◌<◌, ◌≤◌, ℕ, zero, suc, ◌+◌, ◌-◌, ◌^◌, ◌==◌, ◌||◌, max, min, nat_lt, nat_le, Bool, true, false, not, if◌then◌else◌, List, [], ◌∷◌, ◌++◌, length, map, ⊤}
+use Rattle.std.specs.Prelude.{◌≡◌, ◌<◌, ◌≤◌, ℕ, zero, suc, ◌+◌, ◌-◌, ◌^◌, ◌==◌, ◌||◌, max, min, nat_lt, nat_le, Bool, true, false, not, if◌then◌else◌, List, [], ◌∷◌, ◌++◌, length, map, take, ⊤}
 use Rattle.std.specs.Prelude.{Option, Some, None}
 use Rattle.std.specs.Option.{option_map}
 use Rattle.std.specs.List.{find, filter, list_any, AllByRecursion}
@@ -14,19 +14,28 @@ first_above ticket waiting = find (λ other. nat_lt ticket other) waiting
 abbrev pub handed_over : HandOver → ℕ → HandedOver
 handed_over h ticket = record { ticket = ticket; again = nat_le ticket h.earlier }
 
+-- How many commands the owner has in hand: they wait, and were handed over in this session, since tickets are handed over
+-- in their order.
+abbrev pub in_hand : HandOver → List ℕ → ℕ
+in_hand h waiting = length (filter (λ ticket. nat_le ticket h.handed) waiting)
+
+-- The ticket that is handed over next, of those that wait: none while the owner has `ahead` in hand.
+abbrev pub next_ticket : HandOver → List ℕ → Option ℕ
+next_ticket h waiting = if nat_lt (in_hand h waiting) h.ahead then first_above h.handed waiting else None
+
 -- The command that is handed over next, of those that wait.
 abbrev pub next_in : HandOver → List ℕ → Option HandedOver
-next_in h waiting = option_map (handed_over h) (first_above h.handed waiting)
+next_in h waiting = option_map (handed_over h) (next_ticket h waiting)
 
 abbrev pub with_handed : HandOver → Option ℕ → HandOver
 with_handed h None = h
 with_handed h (Some ticket) = record h { handed = ticket }
 
 abbrev pub after_next : HandOver → List ℕ → HandOver
-after_next h waiting = with_handed h (first_above h.handed waiting)
+after_next h waiting = with_handed h (next_ticket h waiting)
 
 abbrev pub with_new_session : HandOver → HandOver
-with_new_session h = record { earlier = max h.earlier h.handed; handed = 0 }
+with_new_session h = record { ahead = h.ahead; earlier = max h.earlier h.handed; handed = 0 }
 
 -- The greatest ticket before this one. There are tickets of 32 bits alone.
 abbrev pub earlier_than : ℕ → ℕ
@@ -119,11 +128,47 @@ abbrev pub order_law : Type 0
 order_law =
     (d : Desk) (steps : List DeskStep) → IsOneSession steps → RisesAbove d.hand_over.handed (tickets (all_handed d steps))
 
--- A new session is handed all commands that wait, in order.
+-- A new session is handed the first commands that wait, in order: as many as the owner may have in hand.
 abbrev pub session_law : Type 0
 session_law =
     (d : Desk) → IsDesk d
-    → tickets (all_handed (desk_after d Begins) (hands (length d.waiting))) ≡ d.waiting
+    → tickets (all_handed (desk_after d Begins) (hands (length d.waiting))) ≡ take d.hand_over.ahead d.waiting
+
+-- The commands that wait and were handed over in a session, so far.
+abbrev pub in_hand_after : Desk → List DeskStep → List ℕ
+in_hand_after d steps =
+    filter (has_ticket (tickets (all_handed (desk_after d Begins) steps))) (desk_after_all (desk_after d Begins) steps).waiting
+
+-- In a session, of the commands that were handed over and are not done there are at most `ahead`.
+abbrev pub ahead_law : Type 0
+ahead_law =
+    (d : Desk) (steps : List DeskStep) → IsDesk d → IsOneSession steps → length (in_hand_after d steps) ≤ d.hand_over.ahead
+
+-- The commands that wait and were not handed over in a session, so far.
+abbrev pub left_after : Desk → List DeskStep → List ℕ
+left_after d steps =
+    filter (λ ticket. not (has_ticket (tickets (all_handed (desk_after d Begins) steps)) ticket))
+    (desk_after_all (desk_after d Begins) steps).waiting
+
+-- In a session, the first command that waits and was not handed over is the next one, as soon as fewer than `ahead` are in
+-- hand.
+abbrev pub soon_law : Type 0
+soon_law =
+    (d : Desk) (steps : List DeskStep) (ticket : ℕ) (others : List ℕ) → IsDesk d → IsOneSession steps
+    → length (in_hand_after d steps) < d.hand_over.ahead → left_after d steps ≡ ticket ∷ others
+    → tickets (handed_in (desk_after_all (desk_after d Begins) steps) Hands) ≡ ticket ∷ []
+
+-- No command that is handed over again comes behind one that is new.
+abbrev pub are_new : List HandedOver → Type 0
+are_new handed = AllByRecursion (λ (h : HandedOver). h.again ≡ false) handed
+
+abbrev pub MarkedFirst : List HandedOver → Type 0
+MarkedFirst [] = ⊤
+MarkedFirst (h ∷ handed) = (h.again ≡ false → are_new handed) × MarkedFirst handed
+
+-- In a session, commands that were handed over before, maybe before a restart, come first.
+abbrev pub marked_first_law : Type 0
+marked_first_law = (d : Desk) (steps : List DeskStep) → IsOneSession steps → MarkedFirst (all_handed d steps)
 
 -- In a session, a waiting command was handed over exactly if its ticket is not greater than the last one that was. So no
 -- command is skipped.

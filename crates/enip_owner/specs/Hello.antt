@@ -60,7 +60,8 @@ hello_json detail h =
     (member (codes "serial") (count h.serial)
     (member (codes "name") (json.string h.name.now)
     (with_life h.life
-    (member (codes "objects") (array (items_of (map (object_json detail) h.objects.now))) no_members))))))
+    (member (codes "ahead") (count h.ahead)
+    (member (codes "objects") (array (items_of (map (object_json detail) h.objects.now))) no_members)))))))
 
 -- Whether a line has at most 64 KiB.
 abbrev pub fits : Json → Bool
@@ -108,4 +109,5 @@ device_tokens h =
 
 -- The device, up to its objects.
 abbrev pub hello_head : HelloEvent → List Token
-hello_head h = device_tokens h ++ (life_tokens h.life ++ key (codes "objects") ∷ begin_array ∷ [])
+hello_head h =
+    device_tokens h ++ (life_tokens h.life ++ key (codes "ahead") ∷ number (decimal h.ahead) ∷ key (codes "objects") ∷ begin_array ∷ [])

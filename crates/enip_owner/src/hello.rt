@@ -51,6 +51,8 @@ pub struct HelloEvent<'a, 'b, 'c> {
     pub name: &'a str,
     /// The life of its command ledger, which tells apart the tickets of two runs. `None` if it has no ledger.
     pub life: Option<u64>,
+    /// How many queued commands it hands over before the first of them is done.
+    pub ahead: u16,
     /// The objects.
     pub objects: &'c [DescribedObject<'a, 'b>],
 }
@@ -78,10 +80,11 @@ pub(crate) enum Detail {
 ///     serial: 42,
 ///     name: "Demo",
 ///     life: Some(9),
+///     ahead: 1,
 ///     objects: &[conveyor],
 /// })?;
-/// // {"hello":{"vendor":1,"product_code":7,"serial":42,"name":"Demo","life":9,"objects":[{"class":768,"instance":1,
-/// // "name":"conveyor","attributes":[{"attribute":3,"name":"speed","type":"UINT","data":"dc05"}]}]}}
+/// // {"hello":{"vendor":1,"product_code":7,"serial":42,"name":"Demo","life":9,"ahead":1,"objects":[{"class":768,
+/// // "instance":1,"name":"conveyor","attributes":[{"attribute":3,"name":"speed","type":"UINT","data":"dc05"}]}]}}
 /// ```
 ///
 /// # Errors
@@ -146,6 +149,7 @@ fn write_device(
             Part::Number("serial", u64::from(hello.serial)),
             Part::Text("name", hello.name),
             Part::MaybeNumber("life", hello.life),
+            Part::Number("ahead", u64::from(hello.ahead)),
             Part::ListAt("objects"),
         ],
     )

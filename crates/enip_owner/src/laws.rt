@@ -8,7 +8,7 @@ ghost use Rattle.json.specs.Tree.{json_tokens};
 ghost use Rattle.enip_lines.specs.InputLines.{has_newline};
 ghost use Rattle.enip_owner.specs.declared.owner_fault.OwnerFault.{OwnerFault};
 ghost use Rattle.enip_owner.specs.Events.{IsLineOf};
-ghost use Rattle.enip_owner.specs.HandOvers.{order_law, session_law, none_skipped_law, again_law, done_law};
+ghost use Rattle.enip_owner.specs.HandOvers.{order_law, session_law, ahead_law, soon_law, marked_first_law, none_skipped_law, again_law, done_law};
 ghost use Rattle.enip_owner.specs.Requests.{Request, Says};
 ghost use Rattle.enip_owner.specs.Streams.{Line, no_line, lines_of, lines_of_pieces};
 
@@ -37,9 +37,25 @@ pub fn commands_are_handed_over_in_order()
     ensures { order_law }
 {}
 
-/// A new session is handed all commands that wait, in order.
-pub fn sessions_get_all_that_wait()
+/// A new session is handed the first commands that wait, in order: as many as the owner may have in hand.
+pub fn sessions_get_the_first_that_wait()
     ensures { session_law }
+{}
+
+/// In a session the owner has at most `ahead` commands in hand: handed over, and not done.
+pub fn at_most_ahead_are_in_hand()
+    ensures { ahead_law }
+{}
+
+/// In a session the first command that waits and was not handed over is the next one, as soon as fewer than `ahead` are in
+/// hand.
+pub fn next_is_handed_over_as_soon_as_it_may()
+    ensures { soon_law }
+{}
+
+/// In a session, commands that were handed over before, maybe before a restart, come before those that are new.
+pub fn marked_commands_come_first()
+    ensures { marked_first_law }
 {}
 
 /// In a session no command that waits is skipped.

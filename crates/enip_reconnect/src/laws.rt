@@ -1,8 +1,9 @@
 //! What follows for an adapter and an originator over TCP connections, over every list of events.
 //!
 //! The functions do nothing: each one's clause is the law. A list of events says which commands are given, when TCP
-//! connections begin and break, when frames are sent, and how many bytes arrive where and when. Commands are
-//! unconnected requests. The device's life begins with an empty ledger, and lasts.
+//! connections begin and break, when frames are sent, and how many bytes arrive where and when. Commands are unconnected
+//! requests. The device's life begins with an empty ledger, and lasts; it has no queue and no Reset, and writes nothing
+//! itself. The originator is of no group.
 
 ghost use Rattle.enip_reconnect.specs.Laws.{messages_law, worlds_law, journal_law, rising_law, given_law};
 ghost use Rattle.enip_reconnect.specs.Laws.{accepted_law, accepted_once_law, never_again_law};
@@ -47,7 +48,7 @@ pub fn accepted_once()
 {}
 
 /// Once a reply to a number was accepted, only greater numbers are executed, however the run goes on. So a command that
-/// was abandoned before it was executed at most once, and never will be again.
+/// was abandoned before was executed at most once, and will not be executed any more. (The device has no queue.)
 pub fn never_again()
     ensures { never_again_law }
 {}

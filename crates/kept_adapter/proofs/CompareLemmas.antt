@@ -1,16 +1,18 @@
 -- Entries that are compared one after the other.
 use Rattle.std.proofs.Common.{◌≡◌, ◌≢◌, ℕ, zero, suc, ◌+◌, ◌<◌, ◌≤◌, List, [], ◌∷◌, ◌++◌, length, take, drop, get_or}
 use Rattle.std.proofs.Common.{Option, Some, Bool, true, false, eqb, add-one, refl, sym, ap, ◌∙◌, subst, arith, ◌⊎◌, inl, inr}
-use Rattle.std.specs.Prelude.{slice_get, option_map, IfNone}
+use Rattle.std.specs.Prelude.{slice_get, option_map, IfNone, ◌-◌, ◌==◌, nat_lt, nat_le, if◌then◌else◌}
+use Rattle.std.proofs.lemmas.Bool.{false≢true, leb-true}
+use Rattle.std.proofs.lemmas.Option.{slice_get_past}
 use Rattle.std.proofs.lemmas.Bool.Decides.{eqb_tells}
 use Rattle.cip_ledger.specs.Ledger.{LedgerState}
 use Rattle.cip_owner.specs.Queue.{QueueState}
 use Rattle.enip_keep.specs.declared.entry.Entry.{Entry}
 use Rattle.enip_keep.specs.Kept.{Kept, pair_of, pairs_of}
 use Rattle.cip_objects.specs.Contents.{Contents}
-use Rattle.device_state.specs.QueueEntries.{QUEUE_ENTRIES}
+use Rattle.device_state.specs.QueueEntries.{PLACES, QUEUE_ENTRIES, bytes_of_command, bytes_of_result, queue_bytes}
 use Rattle.kept_adapter.specs.Saved.{first_of, saved_objects, saved_ledger, saved_queue, saved_device}
-use Rattle.kept_adapter.specs.Saved.{first_entries, first_queue_entries, ENTRIES}
+use Rattle.kept_adapter.specs.Saved.{first_entries, first_queue_entries, is_free, ENTRIES}
 use Rattle.kept_adapter.proofs.SavingLemmas.{take_pairs}
 
 some_is : {A : Type 0} (x y : A) → ◌≡◌ {A = Option A} (Some x) (Some y) → x ≡ y
@@ -226,3 +228,19 @@ pub all_of_queue : {A : Type 0} (now : A → QueueState) (queue : Option A) (q :
 all_of_queue now queue q t all is both =
     subst (λ o. (t ≡ true → all ≡ saved_queue (option_map now o)) × (all ≡ saved_queue (option_map now o) → t ≡ true))
     (sym is) both
+
+-- ---- a free place has no bytes
+
+free_at : (q : QueueState) (index : ℕ) (first : Bool) → nat_lt index PLACES ≡ first
+    → (if first then nat_le (length q.waiting) index else nat_le (length q.results) (index - PLACES)) ≡ true
+    → (if first then bytes_of_command (slice_get q.waiting index) else bytes_of_result (slice_get q.results (index - PLACES))) ≡ []
+free_at q index true is free = ap bytes_of_command (slice_get_past q.waiting index (leb-true (length q.waiting) index free))
+free_at q index false is free =
+    ap bytes_of_result (slice_get_past q.results (index - PLACES) (leb-true (length q.results) (index - PLACES) free))
+
+free_by : (q : QueueState) (number : ℕ) (first : Bool) → (number == 0) ≡ first → is_free q number ≡ true → queue_bytes q number ≡ []
+free_by q number true is free = absurd (false≢true (rw is at free))
+free_by q number false is free = rw is (free_at q (number - 1) (nat_lt (number - 1) PLACES) refl (rw is at free))
+
+pub free_is_empty : (q : QueueState) (number : ℕ) → is_free q number ≡ true → queue_bytes q number ≡ []
+free_is_empty q number free = free_by q number (number == 0) refl free

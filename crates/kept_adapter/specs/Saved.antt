@@ -1,10 +1,10 @@
 -- What is kept of an adapter: the entries of device_state, under keys that stay the same.
-use Rattle.std.specs.Prelude.{ℕ, zero, suc, List, [], ◌∷◌, ◌++◌, map, Option, Some, None, slice_get}
+use Rattle.std.specs.Prelude.{ℕ, zero, suc, ◌-◌, ◌==◌, ◌&&◌, not, nat_lt, nat_le, if◌then◌else◌, Bool, List, [], ◌∷◌, ◌++◌, length, map, Option, Some, None, slice_get}
 use Rattle.cip_bytes.specs.Numbers.{le}
 use Rattle.cip_ledger.specs.Ledger.{SlotState, LedgerState}
 use Rattle.cip_objects.specs.Contents.{Contents}
 use Rattle.cip_owner.specs.Queue.{QueueState}
-use Rattle.device_state.specs.QueueEntries.{QUEUE_ENTRIES, queue_bytes}
+use Rattle.device_state.specs.QueueEntries.{PLACES, QUEUE_ENTRIES, queue_bytes}
 use Rattle.device_state.specs.Saved.{Entry, saved, slot_bytes, state_of}
 use Rattle.enip_adapter.specs.Calls.{AdapterState}
 use Rattle.enip_keep.specs.Kept.{Kept}
@@ -48,6 +48,13 @@ saved_ledger (Some ledger) = first_entries ledger ENTRIES
 -- The first entries of the queue, so many.
 abbrev pub first_queue_entries : QueueState → ℕ → Kept
 first_queue_entries queue count = first_of queue_key (queue_bytes queue) count
+
+-- Whether the entry with this number is that of a place that no command and no result has.
+abbrev pub is_free : QueueState → ℕ → Bool
+is_free q number =
+    not (number == 0)
+    && (if nat_lt (number - 1) PLACES then nat_le (length q.waiting) (number - 1)
+    else nat_le (length q.results) (number - 1 - PLACES))
 
 -- The next ticket, and each of the places that a queue has at most.
 abbrev pub saved_queue : Option QueueState → Kept

@@ -4,13 +4,13 @@ ghost use Rattle.device_state.specs.QueueEntries.{QUEUE_ENTRIES, queue_bytes};
 ghost use Rattle.enip_keep.specs.Kept.{Kept, pair_of, pairs_of};
 ghost use Rattle.kept_adapter.specs.Keys.{ledger_key, queue_key};
 ghost use Rattle.kept_adapter.specs.Saved.{first_entries, ledger_bytes, saved_ledger, saved_objects, ENTRIES};
-ghost use Rattle.kept_adapter.specs.Saved.{first_queue_entries, saved_queue};
+ghost use Rattle.kept_adapter.specs.Saved.{first_queue_entries, is_free, saved_queue};
 
 use crate::keys::{ledger_key, queue_key};
 use crate::saving::write_ledger_bytes;
 use cip_ledger::{Ledger, MOST_ORIGINATORS};
 use cip_objects::{Objects, ReplyBuf};
-use cip_owner::Queue;
+use cip_owner::{QUEUE_LIMIT, Queue};
 use device_state::{QUEUE_ENTRIES, saved_entry, write_queue_entry};
 use enip_keep::Entry;
 
@@ -90,21 +90,41 @@ fn are_all_of_queue(queue: &Queue, entries: &[Entry]) -> bool
     if entries.len() != usize::from(QUEUE_ENTRIES) {
         return false;
     }
+    let mut bytes = ReplyBuf::new();
     for number in 0..QUEUE_ENTRIES {
-        if !is_of_queue(queue, number, &entries[usize::from(number)]) {
+        if !is_of_queue(queue, number, &entries[usize::from(number)], &mut bytes) {
             return false;
         }
     }
     true
 }
 
-/// Whether this is the entry of a queue with this number.
-fn is_of_queue(queue: &Queue, number: u16, entry: &Entry) -> bool
+/// Whether this is the entry of a queue with this number. `bytes` is the memory for its content.
+fn is_of_queue(queue: &Queue, number: u16, entry: &Entry, bytes: &mut ReplyBuf) -> bool
     ensures { IsTrue result ↔ (pair_of entry.now ≡ (queue_key number, queue_bytes queue.now number)) }
 {
-    let mut bytes = ReplyBuf::new();
-    write_queue_entry(queue, number, &mut bytes);
-    is_entry(entry, queue_key(number), &bytes)
+    // Most places are free: their content is not written.
+    if is_free(queue, number) {
+        return is_entry(entry, queue_key(number), &[]);
+    }
+    write_queue_entry(queue, number, bytes);
+    is_entry(entry, queue_key(number), bytes)
+}
+
+/// Whether the entry of a queue with this number is that of a place that no command and no result has.
+fn is_free(queue: &Queue, number: u16) -> bool
+    ensures { result ≡ is_free queue.now number }
+{
+    if number == 0 {
+        return false;
+    }
+    let index = usize::from(number - 1);
+    let most = usize::from(QUEUE_LIMIT);
+    if index < most {
+        index >= queue.waiting_count()
+    } else {
+        index - most >= queue.result_count()
+    }
 }
 
 /// Whether these are the entries of a ledger.
@@ -114,8 +134,15 @@ fn are_all_of_ledger(objects: &Objects, ledger: &Ledger, entries: &[Entry]) -> b
     if entries.len() != usize::from(MOST_ORIGINATORS) + 1 {
         return false;
     }
+    let mut bytes = ReplyBuf::new();
     for number in 0..MOST_ORIGINATORS + 1 {
-        if !is_of_ledger(objects, ledger, number, &entries[usize::from(number)]) {
+        if !is_of_ledger(
+            objects,
+            ledger,
+            number,
+            &entries[usize::from(number)],
+            &mut bytes,
+        ) {
             return false;
         }
     }
@@ -123,15 +150,20 @@ fn are_all_of_ledger(objects: &Objects, ledger: &Ledger, entries: &[Entry]) -> b
 }
 
 /// Whether this is the entry of a ledger with this number: that of the life is 0, and those of the slots are numbered
-/// from 1. That of a free slot is empty.
-fn is_of_ledger(objects: &Objects, ledger: &Ledger, number: u16, entry: &Entry) -> bool
+/// from 1. That of a free slot is empty. `bytes` is the memory for its content.
+fn is_of_ledger(
+    objects: &Objects,
+    ledger: &Ledger,
+    number: u16,
+    entry: &Entry,
+    bytes: &mut ReplyBuf,
+) -> bool
     ensures { IsTrue result ↔ (pair_of entry.now ≡ (ledger_key number, ledger_bytes ledger.now number)) }
 {
     let key = ledger_key(number);
     if usize::from(number) > ledger.slot_count() {
         return is_entry(entry, key, &[]);
     }
-    let mut bytes = ReplyBuf::new();
-    write_ledger_bytes(objects, ledger, number, &mut bytes);
-    is_entry(entry, key, &bytes)
+    write_ledger_bytes(objects, ledger, number, bytes);
+    is_entry(entry, key, bytes)
 }

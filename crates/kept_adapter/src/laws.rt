@@ -68,7 +68,7 @@ pub fn servers_restart<W: Wire + Drop>()
 
 /// Over restarts that go on with the ledger, no number of an originator is executed twice, and the numbers rise, unless
 /// the originator's slot is freed in between. So it is of an adapter that starts from nothing, over any calls and any
-/// restarts with as many slots.
+/// restarts with as many slots and as large a queue.
 pub fn once_over_restarts()
     ensures once { once_over_restarts_law }
     ensures rising { rising_over_restarts_law }

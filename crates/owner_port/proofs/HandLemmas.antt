@@ -6,7 +6,8 @@ use Rattle.std.proofs.lemmas.Option.{none-some, same_Some}
 use Rattle.cip_owner.specs.Queue.{QueueState, QueuedCommand, command_of, command_ticket}
 use Rattle.enip_owner.specs.declared.hand_over.HandOver.{HandOver}
 use Rattle.enip_owner.specs.declared.hand_over.HandedOver.{HandedOver}
-use Rattle.enip_owner.specs.HandOvers.{first_above, handed_over, next_in, after_next, with_handed}
+use Rattle.enip_owner.specs.HandOvers.{first_above, next_ticket, handed_over, next_in, after_next, with_handed}
+use Rattle.enip_owner.proofs.HandOverLemmas.{next_first}
 use Rattle.owner_port.specs.declared.senders.Sender.{Sender}
 use Rattle.owner_port.specs.declared.session.Session.{Session}
 use Rattle.owner_port.specs.Handing.{waits_law, AreAllHanded, NoneLeft, Hands, IsCommandSent}
@@ -44,8 +45,9 @@ first_of (Some ticket) h handed is =
 
 pub waits : waits_law
 waits queue h handed is =
-    found-at queue.waiting h.handed handed.ticket
-    (first_of (first_above h.handed (map command_ticket queue.waiting)) h handed is)
+    let next : next_ticket h (map command_ticket queue.waiting) ≡ Some handed.ticket =
+    first_of (next_ticket h (map command_ticket queue.waiting)) h handed is in
+    found-at queue.waiting h.handed handed.ticket (next_first h (map command_ticket queue.waiting) handed.ticket next)
 
 -- ---- each hand-over leaves fewer
 
@@ -125,7 +127,7 @@ pub none_left : (queue : QueueState) (known : List Sender) (waiting : List ℕ) 
 none_left queue known waiting h last s result next after is =
     let none : next_in h waiting ≡ None = sym next ∙ is in
     subst (λ (l : HandOver). AreAllHanded queue known waiting h s l s)
-    (sym (after ∙ stays_by h (first_above h.handed waiting) none)) (NoneLeft h s none)
+    (sym (after ∙ stays_by h (next_ticket h waiting) none)) (NoneLeft h s none)
 
 -- One is handed over, and then the others.
 pub one_more : (queue : QueueState) (known : List Sender) (waiting : List ℕ) (h after last : HandOver) (s between new : Session)
@@ -136,11 +138,11 @@ one_more queue known waiting h after last s between new result handed space next
     Hands h last s between new handed space (sym next ∙ is) sent
     (subst (λ (l : HandOver). AreAllHanded queue known waiting l between last new) later more)
 
-fewer-from : (h : HandOver) (waiting : List ℕ) (first : Option ℕ) (handed : HandedOver) → first_above h.handed waiting ≡ first
+fewer-from : (h : HandOver) (waiting : List ℕ) (first : Option ℕ) (handed : HandedOver) → next_ticket h waiting ≡ first
     → option_map (handed_over h) first ≡ Some handed
     → left_above (with_handed h first).handed waiting < left_above h.handed waiting
 fewer-from h waiting None handed found is = absurd (none-some handed is)
-fewer-from h waiting (Some first) handed found is = fewer h.handed first waiting found
+fewer-from h waiting (Some first) handed found is = fewer h.handed first waiting (next_first h waiting first found)
 
 -- So fewer are left.
 pub fewer_left : (h after : HandOver) (waiting : List ℕ) (result : Option HandedOver) (handed : HandedOver)
@@ -148,7 +150,7 @@ pub fewer_left : (h after : HandOver) (waiting : List ℕ) (result : Option Hand
     → left_above after.handed waiting < left_above h.handed waiting
 fewer_left h after waiting result handed next is later =
     subst (λ (l : HandOver). left_above l.handed waiting < left_above h.handed waiting) (sym later)
-    (fewer-from h waiting (first_above h.handed waiting) handed refl (sym next ∙ is))
+    (fewer-from h waiting (next_ticket h waiting) handed refl (sym next ∙ is))
 
 -- ---- tickets that are collected
 

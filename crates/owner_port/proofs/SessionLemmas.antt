@@ -5,14 +5,18 @@ use Rattle.std.specs.declared.net.ip_addr.IpAddr.{IpAddr}
 use Rattle.enip_adapter.specs.Calls.{AdapterState}
 use Rattle.enip_adapter.specs.declared.endings.EndedConnection.{EndedConnection}
 use Rattle.enip_owner.specs.declared.event_fault.EventFault.{EventFault}
+use Rattle.enip_owner.specs.declared.hello.HelloEvent.{HelloEvent}
+use Rattle.enip_owner.specs.Events.{IsWritten}
+use Rattle.enip_owner.specs.Hello.{hello_json, hello_detail}
 use Rattle.owner_port.specs.declared.attribute_table.TypedAttribute.{TypedAttribute}
+use Rattle.owner_port.specs.declared.device_table.DeviceTable.{DeviceTable}
 use Rattle.owner_port.specs.declared.output.TheConstants.{OUTPUT_LIMIT}
 use Rattle.owner_port.specs.declared.senders.Sender.{Sender}
 use Rattle.owner_port.specs.declared.session.Session.{Session}
 use Rattle.owner_port.specs.declared.set_count.SetCount.{SetCount}
 use Rattle.owner_port.specs.Ports.{AreReported, contents_in}
 use Rattle.owner_port.specs.Senders.{AreNoted, IsNoted}
-use Rattle.owner_port.specs.Sessions.{is_open, with_line, sent, IsSent, AreSent, IsSetReported, IsEndReported, AreEndsReported}
+use Rattle.owner_port.specs.Sessions.{is_open, with_line, sent, IsSent, AreSent, IsSetReported, IsEndReported, AreEndsReported, IsDescribed, IsHelloLine}
 use Rattle.owner_port.specs.Sets.{sets_since, with_reported, count_of, tallies_in, AreCounted}
 
 -- A line that is queued does not change the number of the owner's last line.
@@ -70,3 +74,9 @@ noted_more first ticket by old between new past so_far more =
     let count : ticket + 1 - first ≡ suc (ticket - first) = omega arith in
     let same : first + (ticket - first) ≡ ticket = omega arith in
     rw count (between, so_far, subst (λ t. IsNoted t by between new) (sym same) more)
+
+-- The first line of the device.
+pub written_hello : (table : DeviceTable) (life : Option ℕ) (e : HelloEvent) (r : Result (Vec ℕ Global) EventFault)
+    → IsDescribed table life e → IsWritten (hello_json (hello_detail e) e) r → IsHelloLine table life r
+written_hello table life e (Ok line) described written = (e, described, written)
+written_hello table life e (Err fault) described written = tt

@@ -38,7 +38,7 @@ IsCommandSent queue known handed old new =
     IsCommandFoundSent known handed.again (command_of handed.ticket queue.waiting) old new
 
 -- Commands are queued one after the other, each by `next_in`, and then no more are: there is none that was not handed over
--- in this session, or its line may not fit.
+-- in this session, the owner has as many in hand as it may, or the line of the next one may not fit.
 pub data AreAllHanded (queue : QueueState) (known : List Sender) (waiting : List ℕ) : HandOver → Session → HandOver → Session → Type 0 where
   Full : (h : HandOver) (s : Session) → has_space s ≡ false → AreAllHanded queue known waiting h s h s
   NoneLeft : (h : HandOver) (s : Session) → next_in h waiting ≡ None → AreAllHanded queue known waiting h s h s

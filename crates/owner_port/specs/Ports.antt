@@ -115,12 +115,12 @@ pub record IsNewPort (table : DeviceTable) (timeout : ℕ) (a : AdapterState) (n
   pub counts : new.counts.sets.items ≡ map (new_count (tallies_in a)) table.settable.items
   pub resets : new.counts.resets ≡ resets_of a
   pub senders : IsNobody (queue_in a) new.senders
-  pub hand_over : new.hand_over ≡ record { earlier = earlier_than (next_in (queue_in a)); handed = 0 }
+  pub hand_over : new.hand_over ≡ record { ahead = table.ahead; earlier = earlier_than (next_in (queue_in a)); handed = 0 }
   pub lines : new.lines ≡ no_line
   pub session : new.session ≡ no_session
   pub questions : IsNoQuestions timeout new.questions
 
--- A session begins, with all commands that wait.
+-- A session begins, and commands are handed over from the first that waits.
 pub record IsBegun (a : AdapterState) (old new : OwnerPort) : Type 0 where
   pub lines : new.lines ≡ no_line
   pub hand_over : new.hand_over ≡ with_new_session old.hand_over

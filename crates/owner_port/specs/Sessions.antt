@@ -224,6 +224,7 @@ pub record IsDescribed (table : DeviceTable) (life : Option ℕ) (e : HelloEvent
   pub serial_is : e.serial ≡ table.serial
   pub name_is : e.name.now ≡ string_bytes table.name
   pub life_is : e.life ≡ life
+  pub ahead_is : e.ahead ≡ table.ahead
 
 -- The first line of the device.
 abbrev pub IsHelloLine : DeviceTable → Option ℕ → Result (Vec ℕ Global) EventFault → Type 0

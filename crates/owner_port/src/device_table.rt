@@ -30,6 +30,8 @@ pub struct DeviceTable {
     pub(crate) product_code: u16,
     pub(crate) serial: u32,
     pub(crate) name: String,
+    /// How many queued commands its owner has in hand at most.
+    pub(crate) ahead: u16,
     objects: Vec<TableObject>,
     pub(crate) types: Vec<TypedAttribute>,
     pub(crate) settable: Vec<AttributeRef>,
@@ -43,6 +45,7 @@ impl Drop for DeviceTable {
             product_code: _,
             serial: _,
             name: _,
+            ahead: _,
             objects: _,
             types: _,
             settable: _,
@@ -78,6 +81,7 @@ impl DeviceTable {
         ensures settable { IfOk result (λ table. table.settable.items ≡ settable_in configuration.now.objects) }
         ensures types { IfOk result (λ table. table.types.items ≡ types_in configuration.now) }
         ensures identity { IfOk result (HasIdentity configuration.now.objects) }
+        ensures ahead { IfOk result (λ table. table.ahead ≡ configuration.now.ahead) }
     {
         let config = &configuration.objects;
         let settable = settable_in(alloc, config)?;
@@ -88,6 +92,7 @@ impl DeviceTable {
             product_code: config.product_code,
             serial: config.serial,
             name: String::from_str(alloc, config.name.as_str())?,
+            ahead: configuration.ahead,
             objects,
             types,
             settable,
@@ -124,6 +129,7 @@ impl DeviceTable {
                 serial: self.serial,
                 name: self.name.as_str(),
                 life,
+                ahead: self.ahead,
                 objects: objects.as_slice(),
             },
         )

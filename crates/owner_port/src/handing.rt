@@ -13,8 +13,8 @@ use cip_owner::{Queue, WaitingCommand};
 use enip_owner::{CommandEvent, HandOver, HandedOver, write_command};
 use std::alloc::{AllocError, Global};
 
-/// Queues the commands that wait and were not handed over in this session, in their order, as far as they fit.
-/// `tickets` is the memory for their tickets.
+/// Queues the commands that wait and were not handed over in this session, in their order, as far as they fit and the
+/// owner may have more in hand. `tickets` is the memory for their tickets.
 pub(crate) fn hand_waiting(
     alloc: Global,
     queue: &Queue,
@@ -57,7 +57,8 @@ fn collect_from(queue: &Queue, index: usize, tickets: &mut Vec<u32>) -> Result<(
     collect_from(queue, index + 1, tickets)
 }
 
-/// Queues the commands with these tickets that were not handed over in this session, as far as they fit.
+/// Queues the commands with these tickets that were not handed over in this session, as far as they fit and the owner may
+/// have more in hand.
 fn hand_all(
     alloc: Global,
     queue: &Queue,

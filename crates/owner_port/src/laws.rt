@@ -34,7 +34,7 @@ pub fn refused_lines_change_nothing<W: Wire>()
         IsAnswered types line waiting before (answers.Value a) left after → (left ≡ waiting) × (after ≡ before) }
 {}
 
-/// A reply of the owner is given once, and to no request but the one that the owner was asked.
+/// A reply of the owner is given once, and only to a request that asks the same as the one that the owner was asked.
 pub fn replies_are_given_once()
     ensures once { given_once_law }
     ensures asked { given_to_asked_law }

@@ -99,7 +99,7 @@ impl OwnerPort {
             resets: adapter.resets(),
         };
         let senders = Senders::new(alloc, usize::from(QUEUE_LIMIT), queue)?;
-        let hand_over = HandOver::restarted(senders.next);
+        let hand_over = HandOver::restarted(table.ahead, senders.next);
         let lines = LineBuffer::new(alloc)?;
         let session = Session::new(alloc)?;
         let questions = Questions::new(alloc, owner_timeout)?;
@@ -174,8 +174,8 @@ impl OwnerPort {
         self.session.output.drop_front(size);
     }
 
-    /// An owner has connected. Its session begins: with `hello`, or with the token if there is one. It is handed all
-    /// commands that wait, those that an earlier owner was handed as well.
+    /// An owner has connected. Its session begins: with `hello`, or with the token if there is one. It is handed the
+    /// commands that wait from the first one on, those that an earlier owner was handed as well.
     pub fn begin(&mut self, adapter: &Adapter)
         ensures begun { IsBegun adapter.now self.old self.new }
         ensures seen { (device : Device) → HasSeen self.old device → HasSeen self.new device }
@@ -315,7 +315,8 @@ impl OwnerPort {
     }
 
     /// Reports the connections that ended since the last call, and queues the commands that wait and were not handed
-    /// over in this session, in their order, as far as they fit. Call it after each round.
+    /// over in this session, in their order, as far as they fit and the owner may have more in hand. Call it after each
+    /// round.
     ///
     /// If there is no session, or its token has not come, nothing is reported of what happens.
     pub fn hand_over(&mut self, adapter: &Adapter)

@@ -8,8 +8,8 @@ pub fn same_entries()
     ensures { same_law }
 {}
 
-/// The bytes that `save` writes are read as what they were written from, and an adapter that starts from them is the
-/// one that starts from what is kept of the adapter that was saved.
+/// The bytes of a saved state are read as that state, and its entries are what is kept of the adapter with its command in
+/// doubt. By the clauses of `start`, the adapter that starts from them is the one that starts from these entries.
 pub fn saved_is_started()
     ensures { start_law }
 {}

@@ -86,6 +86,29 @@ fn queues(rt: HostRuntime) -> Result<(), Fail> {
     check(&rt, alloc, &greatest, Some(256), Some(256))
 }
 
+/// How many commands are handed over at once: as configured, or 1.
+#[test]
+fn ahead(rt: HostRuntime) -> Result<(), Fail> {
+    let alloc = rt.alloc();
+    let rows = [
+        ("", 1),
+        ("[commands]\n", 1),
+        ("[commands]\nqueue = 7\n", 1),
+        ("[commands]\nahead = 1\n", 1),
+        ("[commands]\nahead = 256\nqueue = 7\n", 256),
+    ];
+    for (table, wanted) in &rows {
+        let text = joined(alloc, &[FRONT, QUEUED, table])?;
+        assert_eq!(rt; Configuration::from_bytes(alloc, &text)?.ahead, *wanted);
+    }
+    for table in ["ahead = 0\n", "ahead = 257\n", "ahead = \"1\"\n"] {
+        let text = joined(alloc, &[FRONT, QUEUED, "[commands]\n", table])?;
+        let refused = LoadFault::Refused(ConfigurationRefusal::BadValue);
+        assert!(rt; Configuration::from_bytes(alloc, &text).err() == Some(refused));
+    }
+    Ok(())
+}
+
 /// A table `commands` without a queued service is refused, and the object has no Get_Result.
 #[test]
 fn unused_queue(rt: HostRuntime) -> Result<(), Fail> {

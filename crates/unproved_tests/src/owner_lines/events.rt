@@ -202,13 +202,14 @@ fn hello(rt: HostRuntime) -> Result<(), Fail> {
         serial: 42,
         name: "Demo",
         life: Some(1_700_000_000_000_000),
+        ahead: 256,
         objects: &[conveyor, lamp],
     };
     let line = told(rt.alloc(), write_hello(rt.alloc(), &device))?;
     assert_eq!(rt;
         line.as_str(),
         "{\"hello\":{\"vendor\":1,\"product_code\":7,\"serial\":42,\"name\":\"Demo\",\
-         \"life\":1700000000000000,\"objects\":[\
+         \"life\":1700000000000000,\"ahead\":256,\"objects\":[\
          {\"class\":768,\"instance\":1,\"name\":\"conveyor\",\"attributes\":[\
          {\"attribute\":3,\"name\":\"speed\",\"type\":\"UINT\",\"data\":\"dc05\"},\
          {\"attribute\":4,\"type\":\"SHORT_STRING[32]\",\"data\":\"00\"}]},\
@@ -222,7 +223,7 @@ fn hello(rt: HostRuntime) -> Result<(), Fail> {
     let line = told(rt.alloc(), write_hello(rt.alloc(), &bare))?;
     assert_eq!(rt;
         line.as_str(),
-        "{\"hello\":{\"vendor\":1,\"product_code\":7,\"serial\":42,\"name\":\"Demo\",\"objects\":[]}}\n"
+        "{\"hello\":{\"vendor\":1,\"product_code\":7,\"serial\":42,\"name\":\"Demo\",\"ahead\":256,\"objects\":[]}}\n"
     );
     Ok(())
 }
@@ -252,6 +253,7 @@ fn large_hello(alloc: Global, attributes: usize, bytes: usize) -> Result<String,
         serial: 42,
         name: "Demo",
         life: None,
+        ahead: 1,
         objects: &[object],
     };
     told(alloc, write_hello(alloc, &device))
@@ -272,7 +274,7 @@ fn large_devices(rt: HostRuntime) -> Result<(), Fail> {
     let without_attributes = large_hello(rt.alloc(), 2000, 500)?;
     assert_eq!(rt;
         without_attributes.as_str(),
-        "{\"hello\":{\"vendor\":1,\"product_code\":7,\"serial\":42,\"name\":\"Demo\",\"objects\":[\
+        "{\"hello\":{\"vendor\":1,\"product_code\":7,\"serial\":42,\"name\":\"Demo\",\"ahead\":1,\"objects\":[\
          {\"class\":768,\"instance\":1}]}}\n"
     );
     Ok(())

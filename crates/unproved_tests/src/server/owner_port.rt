@@ -61,7 +61,8 @@ queued = true
 
 /// The first line of this device.
 const HELLO: &str =
-    "{\"hello\":{\"vendor\":4660,\"product_code\":7,\"serial\":16909060,\"name\":\"Demo\",\"objects\":[\
+    "{\"hello\":{\"vendor\":4660,\"product_code\":7,\"serial\":16909060,\"name\":\"Demo\",\
+\"ahead\":1,\"objects\":[\
 {\"class\":4,\"instance\":101,\"attributes\":[{\"attribute\":3,\"type\":\"BYTES[2]\",\"data\":\"0000\"}]},\
 {\"class\":768,\"instance\":1,\"name\":\"conveyor\",\"attributes\":[\
 {\"attribute\":3,\"type\":\"UINT\",\"data\":\"dc05\"},\

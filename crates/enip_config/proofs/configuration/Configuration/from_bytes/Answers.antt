@@ -1,7 +1,7 @@
 use Rattle.std.proofs.Common.{rules}
 use Rattle.toml.specs.View.{table_view}
 use Rattle.enip_config.proofs.Refused.{refused_by_objects}
-use Rattle.enip_config.proofs.ReadLemmas.{described_by, refused_by, refused_by_queue, in_range_by, ledger_by, queue_by, shares_by}
+use Rattle.enip_config.proofs.ReadLemmas.{described_by, refused_by, refused_by_queue, in_range_by, ledger_by, queue_by, ahead_by, shares_by}
 use Rattle.enip_config.proofs.configuration.Configuration.from_bytes.Goals as goal
 
 pub returns-in-Some-clause-refused : goal.returns-in-Some-clause-refused
@@ -31,6 +31,9 @@ returns-clause-ledger c = ledger_by (table_view c.in-Ok.table) c.in_ok-configura
 
 pub returns-clause-queue : goal.returns-clause-queue
 returns-clause-queue c = queue_by (table_view c.in-Ok.table) c.in_ok-configuration.configuration c.in_ok-configuration.ensures.read
+
+pub returns-clause-ahead : goal.returns-clause-ahead
+returns-clause-ahead c = ahead_by (table_view c.in-Ok.table) c.in_ok-configuration.configuration c.in_ok-configuration.ensures.read
 
 pub returns-clause-shares : goal.returns-clause-shares
 returns-clause-shares c = shares_by (table_view c.in-Ok.table) c.in_ok-configuration.configuration c.in_ok-configuration.ensures.read

@@ -13,6 +13,7 @@ returns-clause-read c = record {
   assemblies = c.in_ok-assemblies.ensures.read;
   ledger = c.in_ok-ledger.ensures.read;
   queue = c.in_ok-queue.ensures.read;
+  ahead = c.in_ok-ahead.ensures.read;
   enabled = c.in_ok-counter.ensures.read.enabled;
   reset = c.in_ok-reset.ensures.read;
   objects = subst (λ (router : MessageRouter). HasAllObjects (table_view c.args.text.now) router c.in_ok-objects.objects.items) c.router_of.ensures c.in_ok-objects.ensures.read;
