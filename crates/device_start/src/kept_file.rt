@@ -1,22 +1,30 @@
 //! FILE of `--keep`: how it is opened, and why it is refused.
 //!
-//! `FILE.round` is locked first, so one process uses FILE at a time. FILE is made only if neither of them says that there
-//! was a state before.
+//! FILE is looked at first, so that nothing is made beside one that is refused. Then `FILE.round` is locked, so one process
+//! uses FILE at a time. FILE is made only if neither of them says that there was a state before.
 
 ghost use Rattle.std.specs.Prelude.{◌≡◌, IfOk, true, false};
+ghost use Rattle.device_start.specs.Starting.{fault_of_open, fault_at_start, fault_while_served};
 
 use crate::file_identity::FileIdentity;
-use enip_cli::{LastRound, OsArg, RoundFile, can_update, option_file_name, resolved};
-use enip_common::{CommandError, Fault, NamedReason, Reason};
-use enip_keep::{KeepError, Keeper, Numbered, RoundNote};
-use enip_keep_sqlite::{RowsUser, make_file, with_rows};
+use crate::judgement::{OpenFault, judged, named};
+use enip_cli::{LastRound, OsArg, RoundFile, front_of, is_link, option_file_name, resolved};
+use enip_common::{CommandError, Fault, NamedReason, Reason, StateFile, StorageReason};
+use enip_faults::ProgramFault;
+use enip_keep::{KeepError, Keeper, Numbered, RoundNote, StorageFault};
+use enip_keep_sqlite::{RowsUser, begins_as_kept, make_file, names_table, with_rows};
 use sqlite::Unknown;
 use std::alloc::Global;
-use std::fs::metadata;
 use std::io::{self, ErrorKind};
 
-/// The bytes of the header of a database. (SQLite, Database File Format.)
-const HEADER: u64 = 100;
+/// What FILE is, by its first bytes.
+#[derive(Clone, Copy, PartialEq, Eq)]
+enum Found {
+    Nothing,
+    /// A part of a database that was being made.
+    Unfinished,
+    Database,
+}
 
 /// FILE, once it is open.
 #[derive(Drop)]
@@ -40,31 +48,50 @@ pub struct FileNote {
 
 impl FileNote {
     /// What notes the numbers of rounds, the last of which is this one, next to the database at a path.
-    fn new(rt: &HostRuntime, path: &str, file: RoundFile, noted: u64) -> io::Result<FileNote> {
+    fn new(
+        rt: &HostRuntime,
+        path: &str,
+        file: RoundFile,
+        noted: u64,
+    ) -> Result<FileNote, OpenFault> {
         let alloc = rt.alloc();
         Ok(FileNote {
             alloc,
             file,
-            database: FileIdentity::of(rt, String::from_str(alloc, path)?)?,
-            log: FileIdentity::of(rt, format!(in alloc; "{path}-wal")?)?,
+            database: identity(rt, StateFile::File, String::from_str(alloc, path)?)?,
+            log: identity(rt, StateFile::Log, format!(in alloc; "{path}-wal")?)?,
             noted,
         })
+    }
+}
+
+/// The file that this name leads to, which is this one of a state.
+fn identity(rt: &HostRuntime, file: StateFile, name: String) -> Result<FileIdentity, OpenFault> {
+    match FileIdentity::of(rt, name) {
+        Ok(identity) => Ok(identity),
+        Err(error) => Err(OpenFault::of_system(file, error)),
     }
 }
 
 impl RoundNote for FileNote {
     ghost noted = { λ n. n.noted };
 
-    fn note(&mut self, round: u64) -> bool {
+    fn note(&mut self, round: u64) -> Result<(), StorageFault> {
         // what is written to a file that was removed is not there after a restart
-        if !self.database.is_there() || !self.log.is_there() {
-            return false;
+        if !self.database.is_there() {
+            return Err(StorageFault::Removed);
         }
-        if self.file.write(self.alloc, round).is_err() {
-            return false;
+        if !self.log.is_there() {
+            return Err(StorageFault::LogRemoved);
         }
-        self.noted = round;
-        true
+        match self.file.write(self.alloc, round) {
+            Ok(()) => {
+                self.noted = round;
+                Ok(())
+            }
+            Err(error) if error.kind() == ErrorKind::StorageFull => Err(StorageFault::NoteFull),
+            Err(_) => Err(StorageFault::NoteFailed),
+        }
     }
 }
 
@@ -73,15 +100,6 @@ pub trait FileUser<R> {
     /// Goes on with the open file. Its rows are up, unless what they keep is in doubt.
     fn run<K: Keeper + Drop>(self, rt: &HostRuntime, opened: OpenFile<K>) -> R
         requires { K.doubt opened.rows ≡ 0 → K.is_up opened.rows };
-}
-
-/// Why a locked file is not opened.
-#[derive(Drop)]
-pub enum OpenFault {
-    /// Its database is not one of a state, or it cannot be read.
-    Rows(KeepError),
-    /// It cannot be found out which files they are.
-    Files(io::Error),
 }
 
 /// FILE, once `FILE.round` is locked, and before its database is opened.
@@ -115,7 +133,7 @@ impl LockedFile {
         };
         match with_rows(rt, path, Unknown, opening) {
             Ok(result) => result,
-            Err(error) => Err(OpenFault::Rows(error)),
+            Err(fault) => Err(judged(rt.alloc(), path, fault)),
         }
     }
 }
@@ -137,16 +155,9 @@ impl<'p, R, U: FileUser<R> + Drop> RowsUser<Result<R, OpenFault>> for Opening<'p
             last,
             user,
         } = self;
-        match FileNote::new(rt, path, round, last) {
-            Ok(note) => Ok(user.run(rt, OpenFile { rows, note, last })),
-            Err(error) => Err(OpenFault::Files(error)),
-        }
+        let note = FileNote::new(rt, path, round, last)?;
+        Ok(user.run(rt, OpenFile { rows, note, last }))
     }
-}
-
-/// Whether a file can be a database: it is as long as the header. A shorter one would be opened as a new database.
-fn has_header(rt: &HostRuntime, path: &str) -> bool {
-    metadata(rt, path).is_ok_and(|found| found.len() >= HEADER)
 }
 
 /// FILE, as the arguments name it.
@@ -204,44 +215,79 @@ impl<'a> KeptFile<'a> {
     ///
     /// # Errors
     ///
-    /// If another process uses the file, or if it is not a state. It is left as it is then.
+    /// If another process uses the file, if it is not a state, or if it cannot be used. It is left as it is then, and
+    /// nothing is made beside one that is refused.
     pub fn locked(self, rt: &HostRuntime, args: &[OsArg]) -> Result<LockedFile, CommandError<'a>> {
         let name = resolved(rt.alloc(), option_file_name(args, "--keep", self.name))?;
         let Ok(path) = str::from_utf8(&name) else {
             return Err(CommandError::of_reason(Reason::Named(self.name, NamedReason::NotText)));
         };
         let path = String::from_str(rt.alloc(), path)?;
-        let (round, last) = self.lock_rounds(rt, &name, path.as_str())?;
-        Ok(LockedFile { path, round, last })
+        match self.lock_rounds(rt, path.as_str()) {
+            Ok((round, last)) => Ok(LockedFile { path, round, last }),
+            Err(fault) => Err(self.not_opened(fault)),
+        }
     }
 
-    /// Locks `FILE.round`, and makes the database if there was none before. Returns `FILE.round`, and the number of the last
-    /// round, as it has it.
-    fn lock_rounds(
-        self,
-        rt: &HostRuntime,
-        name: &[u8],
-        path: &str,
-    ) -> Result<(RoundFile, u64), CommandError<'a>> {
+    /// Looks at FILE, locks `FILE.round`, and makes the database if there was none before. Returns `FILE.round`, and the
+    /// number of the last round, as it has it.
+    fn lock_rounds(self, rt: &HostRuntime, path: &str) -> Result<(RoundFile, u64), OpenFault> {
         let alloc = rt.alloc();
-        let exists = self.exists(name)?;
-        let file = self.lock(alloc, name)?;
-        let last = self.last_round(alloc, &file, exists)?;
-        if exists && last > 0 && !has_header(rt, path) {
-            return Err(self.state_refused(Reason::Named(self.name, NamedReason::NotAState)));
+        let found = self.look(alloc, path)?;
+        let round = lock(alloc, path)?;
+        let last = self.last_round(alloc, &round, found)?;
+        if last == 0 || found == Found::Nothing {
+            match make_file(rt, path, Unknown) {
+                Ok(()) => {}
+                Err(fault) => return Err(judged(alloc, path, fault)),
+            }
         }
-        if last == 0 || !exists {
-            make_file(rt, path, Unknown).map_err(|error| self.refused(error))?;
-        }
-        Ok((file, last))
+        Ok((round, last))
     }
 
-    /// The error of a locked file that is not opened.
-    pub fn not_opened(self, fault: OpenFault) -> CommandError<'a> {
-        match fault {
-            OpenFault::Rows(error) => self.refused(error),
-            OpenFault::Files(error) => CommandError::of_system(self.name, error),
+    /// Looks at FILE before anything is made beside it.
+    fn look(self, alloc: Global, path: &str) -> Result<Found, OpenFault> {
+        let page = front_of(alloc, path.as_bytes()).map_err(|error| OpenFault::of_system(
+            StateFile::File,
+            error,
+        ))?;
+        let Some(page) = page else {
+            return self.missing(path);
+        };
+        let has_round = RoundFile::is_there(alloc, path.as_bytes()).map_err(
+            |error| OpenFault::of_system(StateFile::Round, error),
+        )?;
+        if !begins_as_kept(page.as_slice()) {
+            // what is left of a first start is at most a byte, or has a log beside it
+            return if has_round && (page.len() <= 1 || has_log(alloc, path)?) {
+                Ok(Found::Unfinished)
+            } else {
+                Err(OpenFault::NotAState)
+            };
         }
+        if has_round {
+            return Ok(Found::Database);
+        }
+        if !names_table(page.as_slice()) && !has_log(alloc, path)? {
+            return Err(OpenFault::NotAState);
+        }
+        if self.accepts_older {
+            Ok(Found::Database)
+        } else {
+            Err(OpenFault::NoLastRound)
+        }
+    }
+
+    /// There is no FILE.
+    fn missing(self, path: &str) -> Result<Found, OpenFault> {
+        if is_link(path.as_bytes()) {
+            return Err(OpenFault::Storage(StateFile::File, StorageReason::Dangling));
+        }
+        if !self.is_made {
+            let error = io::Error::from(ErrorKind::NotFound);
+            return Err(OpenFault::of_system(StateFile::File, error));
+        }
+        Ok(Found::Nothing)
     }
 
     /// Goes on after the last round of an open file.
@@ -265,49 +311,24 @@ impl<'a> KeptFile<'a> {
         }
     }
 
-    /// Whether there is such a file.
-    fn exists(self, bytes: &[u8]) -> Result<bool, CommandError<'a>> {
-        match can_update(bytes) {
-            Ok(false) if !self.is_made => {
-                let error = io::Error::from(ErrorKind::NotFound);
-                Err(CommandError::of_system(self.name, error))
-            }
-            Ok(exists) => Ok(exists),
-            Err(error) => Err(CommandError::of_system(self.name, error)),
-        }
-    }
-
-    /// Locks `FILE.round`.
-    fn lock(self, alloc: Global, bytes: &[u8]) -> Result<RoundFile, CommandError<'a>> {
-        match RoundFile::try_lock(alloc, bytes) {
-            Ok(Some(file)) => Ok(file),
-            Ok(None) => Err(CommandError::of_reason(Reason::Named(self.name, NamedReason::InUse))),
-            Err(error) => Err(CommandError::of_system(self.name, error)),
-        }
-    }
-
     /// The number of the last round, as `FILE.round` has it: 0 before the first one.
-    fn last_round(
-        self,
-        alloc: Global,
-        file: &RoundFile,
-        exists: bool,
-    ) -> Result<u64, CommandError<'a>> {
+    fn last_round(self, alloc: Global, file: &RoundFile, found: Found) -> Result<u64, OpenFault> {
         let last = file
             .read()
-            .map_err(|error| CommandError::of_system(self.name, error))?;
+            .map_err(|error| OpenFault::of_system(StateFile::Round, error))?;
+        let exists = found == Found::Database;
         match last {
+            LastRound::Number(0) if found == Found::Unfinished => Ok(0),
+            _ if found == Found::Unfinished => Err(OpenFault::NotAState),
             LastRound::Number(number) if exists || number == 0 || self.accepts_older => Ok(number),
-            LastRound::Number(number) => Err(self.lost(number)),
+            LastRound::Number(number) => Err(OpenFault::Older(number)),
             LastRound::New if !exists => {
                 file.write(alloc, 0)
-                    .map_err(|error| CommandError::of_system(self.name, error))?;
+                    .map_err(|error| OpenFault::of_system(StateFile::Round, error))?;
                 Ok(0)
             }
             LastRound::New | LastRound::Damaged if self.accepts_older => Ok(1),
-            LastRound::New | LastRound::Damaged => {
-                Err(self.state_refused(Reason::NoLastRound(self.name)))
-            }
+            LastRound::New | LastRound::Damaged => Err(OpenFault::NoLastRound),
         }
     }
 
@@ -325,44 +346,84 @@ impl<'a> KeptFile<'a> {
         let mut keeper = keeper;
         if !self.accepts_older {
             if !keeper.is_whole() {
-                return Err(self.state_refused(Reason::Named(self.name, NamedReason::NotAState)));
+                return Err(self.not_opened(OpenFault::NotAState));
             }
             if keeper.round() < last {
-                return Err(self.lost(last - keeper.round()));
+                return Err(self.not_opened(OpenFault::Older(last - keeper.round())));
             }
         }
         keeper.skip_to(last);
         Ok(keeper)
     }
 
-    /// FILE lacks so many rounds.
-    fn lost(self, rounds: u64) -> CommandError<'a> {
-        self.state_refused(Reason::Older(self.name, rounds))
+    /// Why a call of the keeper failed at the start.
+    pub(crate) fn refused(self, error: KeepError) -> CommandError<'a>
+        ensures { result.fault ≡ fault_at_start error }
+    {
+        self.not_opened(OpenFault::of_start(error))
     }
 
-    /// Why a call of the keeper failed at the start.
-    pub(crate) fn refused(self, error: KeepError) -> CommandError<'a> {
-        match error {
-            KeepError::Memory => CommandError::of_memory(),
-            KeepError::Refused => self.state_refused(Reason::Named(
-                self.name,
-                NamedReason::OtherDevice,
-            )),
-            KeepError::Storage | KeepError::Stopped | KeepError::Foreign => {
-                self.state_refused(Reason::Named(self.name, NamedReason::NotAState))
-            }
-        }
+    /// The error of a file that is not opened.
+    pub fn not_opened(self, fault: OpenFault) -> CommandError<'a>
+        ensures { result.fault ≡ fault_of_open fault }
+    {
+        let name = self.name;
+        let (fault, reason) = match fault {
+            OpenFault::Memory => (Fault::Run(ProgramFault::Memory), Reason::Memory),
+            OpenFault::InUse => (
+                Fault::Run(ProgramFault::Device),
+                Reason::Named(name, NamedReason::InUse),
+            ),
+            OpenFault::NotAState => (Fault::State, Reason::Named(name, NamedReason::NotAState)),
+            OpenFault::OtherDevice => (Fault::State, Reason::Named(name, NamedReason::OtherDevice)),
+            OpenFault::NoLastRound => (Fault::State, Reason::NoLastRound(name)),
+            OpenFault::Older(rounds) => (Fault::State, Reason::Older(name, rounds)),
+            OpenFault::Storage(file, why) => (Fault::Storage, Reason::Storage(name, file, why)),
+        };
+        CommandError::new(fault, reason)
     }
 
     /// A round could not be kept, so nothing is served any longer.
-    pub fn not_kept(self, error: KeepError) -> CommandError<'a> {
-        match error {
-            KeepError::Memory => CommandError::of_memory(),
-            _ => CommandError::of_reason(Reason::Named(self.name, NamedReason::NotKept)),
-        }
+    pub fn not_kept(self, error: KeepError) -> CommandError<'a>
+        ensures { result.fault ≡ fault_while_served error }
+    {
+        let (fault, reason) = match error {
+            KeepError::Memory => (Fault::Run(ProgramFault::Memory), Reason::Memory),
+            KeepError::Storage(fault) => {
+                let (file, why) = named(fault);
+                (Fault::Storage, Reason::NotKept(self.name, file, why))
+            }
+            KeepError::Stopped | KeepError::Foreign | KeepError::Refused => (
+                Fault::Storage,
+                Reason::NotKept(self.name, StateFile::File, StorageReason::Failed),
+            ),
+        };
+        CommandError::new(fault, reason)
     }
+}
 
-    fn state_refused(self, reason: Reason<'a>) -> CommandError<'a> {
-        CommandError::new(Fault::State, reason)
+/// Whether the database at a path has a log.
+fn has_log(alloc: Global, path: &str) -> Result<bool, OpenFault> {
+    let log = format!(in alloc; "{path}-wal")?;
+    match front_of(alloc, log.as_bytes()) {
+        Ok(front) => Ok(front.is_some_and(|bytes| !bytes.is_empty())),
+        Err(error) => Err(OpenFault::of_system(StateFile::Log, error)),
+    }
+}
+
+/// Locks `FILE.round`, for the FILE at a path.
+fn lock(alloc: Global, path: &str) -> Result<RoundFile, OpenFault> {
+    match RoundFile::try_lock(alloc, path.as_bytes()) {
+        Ok(Some(file)) => Ok(file),
+        Ok(None) => Err(OpenFault::InUse),
+        Err(error) => Err(OpenFault::of_system(file_or_folder(error.kind()), error)),
+    }
+}
+
+/// What is missing if `FILE.round` cannot be made for this reason.
+fn file_or_folder(kind: ErrorKind) -> StateFile {
+    match kind {
+        ErrorKind::NotFound | ErrorKind::NotADirectory => StateFile::Folder,
+        _ => StateFile::Round,
     }
 }

@@ -9,6 +9,7 @@
 #![tactic(auto)]
 
 mod file_identity;
+mod judgement;
 mod kept_file;
 mod kept_start;
 mod kept_values;
@@ -16,7 +17,8 @@ mod reported_address;
 mod start;
 mod system;
 
-pub use kept_file::{FileNote, FileUser, KeptFile, LockedFile, OpenFault, OpenFile};
+pub use judgement::OpenFault;
+pub use kept_file::{FileNote, FileUser, KeptFile, LockedFile, OpenFile};
 pub use kept_start::{print_kept_values, start_kept};
 pub use kept_values::KeptValues;
 pub use reported_address::{Elsewhere, ReportedAddress, listen_of, warn_of_address};

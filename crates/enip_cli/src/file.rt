@@ -61,12 +61,40 @@ fn read_front(alloc: Global, name: &[u8], most: u64) -> io::Result<Vec<u8>> {
     Ok(bytes)
 }
 
-/// Whether there is a file of this name, of whatever kind.
+/// Whether there is a file of this name, of whatever kind, or something that is not opened for reading and writing.
 pub fn exists(name: &[u8]) -> bool {
-    File::open(name).is_ok()
+    match File::open_to_update(name) {
+        Ok(_) => true,
+        Err(error) => !matches!(error.kind(), ErrorKind::NotFound | ErrorKind::NotADirectory),
+    }
 }
 
-/// Whether there is a file of this name. It can be read and written.
+/// The most bytes that are looked at of a file.
+pub const FRONT: usize = 4_096;
+
+/// The first bytes of the file of this name, up to [`FRONT`] of them. A pipe counts as empty. `None` if there is no such
+/// file. It can be read and written, and stays as it is.
+///
+/// # Errors
+///
+/// That of the system, if there is something of this name that cannot be read and written.
+pub fn front_of(alloc: Global, name: &[u8]) -> io::Result<Option<Vec<u8>>> {
+    let file = match File::open_to_update(name) {
+        Ok(file) => file,
+        Err(error) if error.kind() == ErrorKind::NotFound => return Ok(None),
+        Err(error) => return Err(error),
+    };
+    let mut front = [0; FRONT];
+    let count = match file.read_at_start(&mut front) {
+        Ok(count) => count,
+        Err(error) if error.kind() == ErrorKind::NotSeekable => 0,
+        Err(error) => return Err(error),
+    };
+    let front = Vec::from_slice(alloc, &front[..count])?;
+    Ok(Some(front))
+}
+
+/// Whether there is a file of this name. It can be read and written, and stays as it is.
 ///
 /// # Errors
 ///
@@ -77,6 +105,24 @@ pub fn can_update(name: &[u8]) -> io::Result<bool> {
         Err(error) if error.kind() == ErrorKind::NotFound => Ok(false),
         Err(error) => Err(error),
     }
+}
+
+/// Opens a file of this name for reading and writing, and makes an empty one if there is none.
+///
+/// # Errors
+///
+/// That of the system, if the file cannot be opened or made.
+pub fn open_or_make(name: &[u8]) -> io::Result<()> {
+    match File::open_or_create(name) {
+        Ok(_) => Ok(()),
+        Err(error) => Err(error),
+    }
+}
+
+/// Whether this name is that of a symbolic link.
+pub fn is_link(name: &[u8]) -> bool {
+    let mut target = [0; 1];
+    os::readlink(name, &mut target) >= 0
 }
 
 /// The descriptors of the standard streams are below this one.

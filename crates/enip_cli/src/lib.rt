@@ -28,8 +28,8 @@ mod texts;
 pub use command_line::{OsArg, os_args};
 pub use commands::{PROGRAM, program};
 pub use file::{
-    arguments_after, can_update, exists, option_file_name, read_file, read_option_file,
-    reserve_streams,
+    FRONT, arguments_after, can_update, exists, front_of, is_link, open_or_make, option_file_name,
+    read_file, read_option_file, reserve_streams,
 };
 pub use line_commands::line_command;
 pub use locked_file::{LockedFile, resolved};

@@ -7,8 +7,8 @@
 //! the line of two rounds before, so a power cut in the middle of that spoils neither the line of the round before nor
 //! what it says. Each line has its number twice, so half of a line is none.
 
-use crate::file::{File, checked};
-use crate::locked_file::{folder_of, resolved, with_suffix};
+use crate::file::{File, can_update, checked};
+use crate::locked_file::{folder_of, with_suffix};
 use std::alloc::Global;
 use std::io::{self, ErrorKind};
 
@@ -48,13 +48,24 @@ pub struct RoundFile {
 }
 
 impl RoundFile {
-    /// Locks `FILE.round`, which is created if there is none. `None` if another process uses it.
+    /// Whether `FILE.round` is there, for the FILE of this name.
+    ///
+    /// # Errors
+    ///
+    /// That of the system, if there is something of its name that cannot be read and written.
+    pub fn is_there(alloc: Global, name: &[u8]) -> io::Result<bool> {
+        let name = with_suffix(alloc, name, ROUND)?;
+        can_update(name.as_slice())
+    }
+
+    /// Locks `FILE.round`, for the FILE of this name, which is [`resolved`](crate::resolved). It is created if there is
+    /// none. `None` if another process uses it.
     ///
     /// # Errors
     ///
     /// That of the system, if the file cannot be opened, created or locked.
     pub fn try_lock(alloc: Global, name: &[u8]) -> io::Result<Option<RoundFile>> {
-        let name = with_suffix(alloc, resolved(alloc, name)?.as_slice(), ROUND)?;
+        let name = with_suffix(alloc, name, ROUND)?;
         let file = File::open_or_create(name.as_slice())?;
         match file.try_lock() {
             Ok(()) => {

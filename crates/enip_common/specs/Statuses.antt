@@ -8,12 +8,13 @@ use Rattle.enip_faults.specs.declared.replay_failure.ReplayFailure.TheVariants a
 use Rattle.enip_faults.specs.Statuses.{exit_status as run_status, request_failure_status, once_refusal_status}
 use Rattle.enip_common.specs.declared.fault.Fault.{Fault}
 use Rattle.enip_common.specs.declared.fault.Fault.TheVariants.{Configuration as Refused, Setup, Run, Value}
-use Rattle.enip_common.specs.declared.fault.Fault.TheVariants.{Once, CommandFile, Request, State}
+use Rattle.enip_common.specs.declared.fault.Fault.TheVariants.{Once, CommandFile, Request, State, Storage}
 
 -- The exit status of a fault.
 abbrev pub exit_status : Fault → ℕ
 exit_status (Refused check) = 3
 exit_status State = 3
+exit_status Storage = 5
 exit_status Setup = 6
 exit_status Value = 2
 exit_status (Once refusal) = once_refusal_status refusal

@@ -30,6 +30,9 @@ pub enum Fault {
     /// The file of `--keep` is refused.
     #[error("state")]
     State,
+    /// The file of `--keep`, one beside it, or its folder cannot be used. A later start may succeed.
+    #[error("storage")]
+    Storage,
     /// A line of a command file is refused: its number, from 1.
     #[error("line {0}")]
     CommandFile(u64),
@@ -49,6 +52,7 @@ impl Fault {
             Fault::Configuration(_) | Fault::State => 3,
             Fault::Setup => ReplayFailure::Setup.exit_status(),
             Fault::CommandFile(_) => 4,
+            Fault::Storage => 5,
             Fault::Run(fault) => fault.exit_status(),
             Fault::Request(failure) => failure.exit_status(),
         }

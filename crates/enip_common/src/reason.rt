@@ -27,6 +27,12 @@ pub enum Reason<'a> {
     /// The system reports an error of a file, a stream or an address.
     #[error("{0}: {1}")]
     System(&'a str, SystemError),
+    /// A file that is kept under this name, or its folder, cannot be used.
+    #[error("{}: {}", StateFileName(*.0, *.1), .2)]
+    Storage(&'a str, StateFile, StorageReason),
+    /// What has changed could not be kept there.
+    #[error("{}: could not be written ({}), so the last requests were not answered", StateFileName(*.0, *.1), .2)]
+    NotKept(&'a str, StateFile, StorageReason),
     /// The device at the address did not answer within so many seconds.
     #[error("{0}: no answer within {1} s")]
     TimedOut(&'a str, &'a str),
@@ -153,9 +159,63 @@ pub enum NamedReason {
     /// A part of the command ledger is not used.
     #[error("the command ledger starts empty, in a new life")]
     NewLife,
-    /// What has changed could not be kept.
-    #[error("could not be written, so the last requests were not answered")]
-    NotKept,
+}
+
+/// A file that is kept under the name FILE, or the folder that it is in.
+#[derive(Clone, Copy, Debug, PartialEq, Eq)]
+pub enum StateFile {
+    /// FILE itself.
+    File,
+    /// `FILE-wal`, its newest changes.
+    Log,
+    /// `FILE.round`, the number of its last round.
+    Round,
+    /// `FILE.lock`, which is locked while FILE is used.
+    Lock,
+    Folder,
+}
+
+/// A name, and which of its files is meant.
+#[derive(Clone, Copy)]
+struct StateFileName<'a>(&'a str, StateFile);
+
+impl fmt::Display for StateFileName<'_> {
+    fn fmt<W: fmt::Write>(&self, f: &mut fmt::Formatter<W>) -> fmt::Result {
+        let name = self.0;
+        match self.1 {
+            StateFile::File => f.write_str(name),
+            StateFile::Log => write!(f, "{name}-wal"),
+            StateFile::Round => write!(f, "{name}.round"),
+            StateFile::Lock => write!(f, "{name}.lock"),
+            StateFile::Folder => write!(f, "the folder of {name}"),
+        }
+    }
+}
+
+/// Why a file that is kept cannot be used.
+#[derive(Clone, Copy, Debug, Error)]
+pub enum StorageReason {
+    /// There is no space left.
+    #[error("no space left")]
+    Full,
+    /// A read, a write or a sync failed, and nobody says why.
+    #[error("a read or a write failed")]
+    Failed,
+    /// It cannot be opened or created, and nobody says why.
+    #[error("cannot be opened")]
+    CannotOpen,
+    /// The name leads to another file than before, or to none.
+    #[error("removed or replaced")]
+    Removed,
+    /// What is read is damaged.
+    #[error("damaged")]
+    Damaged,
+    /// The name is that of a symbolic link.
+    #[error("a symbolic link to no file")]
+    Dangling,
+    /// The system says why.
+    #[error("{0}")]
+    System(SystemError),
 }
 
 /// Why a command refuses a configuration.
@@ -316,7 +376,9 @@ impl Drop for CommandError<'_> {
 
 impl<'a> CommandError<'a> {
     /// An error with this fault and this reason.
-    pub fn new(fault: Fault, reason: Reason<'a>) -> CommandError<'a> {
+    pub fn new(fault: Fault, reason: Reason<'a>) -> CommandError<'a>
+        ensures { result.fault ≡ fault }
+    {
         CommandError {
             fault,
             reason,

@@ -10,7 +10,7 @@ HasFailed before after = min (before + 1) (2 ^ 64 - 1) ≤ after
 -- Memory was refused, or the storage failed or refused between these two counts.
 abbrev pub IsCause : ℕ → ℕ → KeepError → Type 0
 IsCause before after Memory = ⊤
-IsCause before after Storage = HasFailed before after
+IsCause before after (Storage fault) = HasFailed before after
 IsCause before after Stopped = ⊥
 IsCause before after Foreign = ⊥
 IsCause before after Refused = ⊥
@@ -18,7 +18,7 @@ IsCause before after Refused = ⊥
 -- The same, or the device was refused what is kept.
 abbrev pub IsStartCause : Type 0 → ℕ → ℕ → KeepError → Type 0
 IsStartCause IsRefused before after Memory = ⊤
-IsStartCause IsRefused before after Storage = HasFailed before after
+IsStartCause IsRefused before after (Storage fault) = HasFailed before after
 IsStartCause IsRefused before after Stopped = ⊥
 IsStartCause IsRefused before after Foreign = ⊥
 IsStartCause IsRefused before after Refused = IsRefused

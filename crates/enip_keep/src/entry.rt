@@ -12,6 +12,32 @@ pub struct Entry {
     pub bytes: Vec<u8>,
 }
 
+/// Why a storage failed or refused.
+#[derive(Clone, Copy, Debug, PartialEq, Eq, Error)]
+pub enum StorageFault {
+    /// There is no space left for the entries.
+    #[error("no space left")]
+    Full,
+    /// A call failed.
+    #[error("the storage failed")]
+    Failed,
+    /// Something that was kept is damaged.
+    #[error("the storage is damaged")]
+    Damaged,
+    /// What keeps the entries was removed or replaced.
+    #[error("the storage was removed or replaced")]
+    Removed,
+    /// What keeps the newest changes was removed or replaced.
+    #[error("the log of the storage was removed or replaced")]
+    LogRemoved,
+    /// There is no space left where the number of the round is noted.
+    #[error("no space left for the number of the round")]
+    NoteFull,
+    /// The number of the round could not be noted.
+    #[error("the number of the round was not noted")]
+    NoteFailed,
+}
+
 /// Why a call of a keeper, a device or a server failed.
 #[derive(Clone, Copy, Debug, PartialEq, Eq, Error)]
 pub enum KeepError {
@@ -19,8 +45,8 @@ pub enum KeepError {
     #[error("out of memory")]
     Memory,
     /// The storage failed or refused, as a full disk does.
-    #[error("the storage failed")]
-    Storage,
+    #[error("{0}")]
+    Storage(StorageFault),
     /// An earlier call failed: the server serves no more until the next start.
     #[error("stopped by an earlier failure")]
     Stopped,

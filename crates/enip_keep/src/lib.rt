@@ -36,7 +36,7 @@ mod server;
 mod tally;
 
 pub use device::Device;
-pub use entry::{Entry, KeepError};
+pub use entry::{Entry, KeepError, StorageFault};
 pub use keeper::{Keeper, Restart};
 pub use lives::{Event, live};
 pub use memory::MemoryKeeper;

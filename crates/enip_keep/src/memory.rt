@@ -4,7 +4,7 @@ ghost use Rattle.enip_keep.specs.Causes.{HasFailed};
 ghost use Rattle.enip_keep.specs.Kept.{pairs_of};
 
 use crate::entries::{copy_all, set_all};
-use crate::{Entry, KeepError, Keeper, Restart};
+use crate::{Entry, KeepError, Keeper, Restart, StorageFault};
 use std::alloc::Global;
 
 /// A keeper in memory, for tests and simulations. It can be told to fail.
@@ -98,7 +98,7 @@ impl Keeper for MemoryKeeper {
 
     fn load(&mut self, alloc: Global) -> Result<Vec<Entry>, KeepError> {
         if self.count_call() {
-            return Err(KeepError::Storage);
+            return Err(KeepError::Storage(StorageFault::Failed));
         }
         let mut all = Vec::new(alloc);
         copy_all(alloc, &self.entries, &mut all)?;
@@ -114,7 +114,7 @@ impl Keeper for MemoryKeeper {
             self.entries = changed;
         }
         if fails {
-            Err(KeepError::Storage)
+            Err(KeepError::Storage(StorageFault::Failed))
         } else {
             Ok(())
         }
@@ -124,7 +124,7 @@ impl Keeper for MemoryKeeper {
 impl Restart for MemoryKeeper {
     fn restart(&mut self) -> Result<(), KeepError> {
         if self.count_call() {
-            return Err(KeepError::Storage);
+            return Err(KeepError::Storage(StorageFault::Failed));
         }
         self.is_up = true;
         Ok(())

@@ -1,6 +1,6 @@
 //! A keeper that also keeps the number of the last round and a checksum, and has the number noted elsewhere.
 ghost use Rattle.std.specs.Prelude.{◌≡◌, ◌⊎◌, ◌≤◌, ◌+◌, ◌-◌, ◌^◌, ℕ, All, min, true, Err};
-ghost use Rattle.std.specs.Prelude.{IsTrue, IfOk, IfErr, OnOk};
+ghost use Rattle.std.specs.Prelude.{IfOk, IfErr, OnOk};
 ghost use Rattle.enip_keep.specs.declared.entry.KeepError.TheVariants.{Storage};
 ghost use Rattle.enip_keep.specs.Causes.{IsCause};
 ghost use Rattle.enip_keep.specs.Kept.{Kept, pairs_of, set_all, IsKeepable};
@@ -8,7 +8,7 @@ ghost use Rattle.enip_keep.specs.Rounds.{without_round, round_in, round_bytes_in
 
 use crate::entries::set_all;
 use crate::rounds::{ROUND_KEY, are_of_device, is_whole, round_entry, round_in, with_entry};
-use crate::{Entry, KeepError, Keeper, Restart};
+use crate::{Entry, KeepError, Keeper, Restart, StorageFault};
 use std::alloc::Global;
 
 /// Notes the number of the last round, in a file beside that of the keeper for example. If the keeper's storage loses
@@ -17,9 +17,13 @@ pub trait RoundNote {
     // The number that was noted last.
     ghost noted: { Self → ℕ };
 
-    /// Notes a number in place of the last one. Returns whether it will survive a crash.
-    fn note(&mut self, round: u64) -> bool
-        ensures { IsTrue result → noted self.new ≡ round };
+    /// Notes a number in place of the last one. Once this returns `Ok`, it survives every crash.
+    ///
+    /// # Errors
+    ///
+    /// Why it was not noted.
+    fn note(&mut self, round: u64) -> Result<(), StorageFault>
+        ensures { OnOk result (noted self.new ≡ round) };
 }
 
 /// A keeper that numbers its commits: it keeps the number of the last one and a checksum with the entries of the
@@ -113,14 +117,14 @@ impl<K: Keeper + Drop, N: RoundNote + Drop> Numbered<K, N> {
 }
 
 impl<K: Keeper + Drop, N: RoundNote + Drop> Numbered<K, N> {
-    /// Counts a failure.
-    fn fail(&mut self) -> Result<(), KeepError>
-        ensures failed { result ≡ Err Storage }
+    /// Counts a failure, and returns it.
+    fn fail(&mut self, fault: StorageFault) -> Result<(), KeepError>
+        ensures failed { result ≡ Err (Storage fault) }
         ensures faults { self.old.faults ≤ self.new.faults }
         ensures counted { self.new ≡ record self.old { faults = min (self.old.faults + 1) (2 ^ 64 - 1) } }
     {
         self.faults = self.faults.saturating_add(1);
-        Err(KeepError::Storage)
+        Err(KeepError::Storage(fault))
     }
 }
 
@@ -177,7 +181,7 @@ impl<K: Keeper + Drop, N: RoundNote + Drop> Keeper for Numbered<K, N> {
             ≤ K.faults self.new.keeper + self.new.faults }
     {
         if !are_of_device(changes) {
-            return self.fail();
+            return self.fail(StorageFault::Failed);
         }
         let round = self.round.saturating_add(1);
         set_all(self.alloc, &mut self.entries, changes)?;
@@ -185,10 +189,10 @@ impl<K: Keeper + Drop, N: RoundNote + Drop> Keeper for Numbered<K, N> {
         commit_with(self.alloc, &mut self.keeper, changes, own)?;
         self.round = round;
         self.is_whole = true;
-        if !self.note.note(round) {
-            return self.fail();
+        match self.note.note(round) {
+            Ok(()) => Ok(()),
+            Err(fault) => self.fail(fault),
         }
-        Ok(())
     }
 }
 

@@ -31,8 +31,8 @@ failed_within a a' b b' low high failed = grind (arith, low, high, failed)
 pub cause_within : (IsBroken IsBefore IsForeign IsOther : Type 0) (a a' b b' : ℕ) (e : KeepError) → a' ≤ a → b ≤ b' → (IsBroken → IsBefore) → (IsForeign → IsOther)
     → IsRowCause IsBroken IsForeign a b e → IsRowCause IsBefore IsOther a' b' e
 cause_within IsBroken IsBefore IsForeign IsOther a a' b b' Memory low high broken foreign cause = cause
-cause_within IsBroken IsBefore IsForeign IsOther a a' b b' Storage low high broken foreign (inl cause) = inl (broken cause)
-cause_within IsBroken IsBefore IsForeign IsOther a a' b b' Storage low high broken foreign (inr cause) = inr (failed_within a a' b b' low high cause)
+cause_within IsBroken IsBefore IsForeign IsOther a a' b b' (Storage fault) low high broken foreign (inl cause) = inl (broken cause)
+cause_within IsBroken IsBefore IsForeign IsOther a a' b b' (Storage fault) low high broken foreign (inr cause) = inr (failed_within a a' b b' low high cause)
 cause_within IsBroken IsBefore IsForeign IsOther a a' b b' Stopped low high broken foreign cause = cause
 cause_within IsBroken IsBefore IsForeign IsOther a a' b b' Foreign low high broken foreign cause = foreign cause
 cause_within IsBroken IsBefore IsForeign IsOther a a' b b' Refused low high broken foreign cause = cause
@@ -40,8 +40,8 @@ cause_within IsBroken IsBefore IsForeign IsOther a a' b b' Refused low high brok
 -- nothing was broken, and no row is foreign
 pub plain_cause : (IsBroken IsForeign : Type 0) (a b : ℕ) (e : KeepError) → (IsBroken → ⊥) → (IsForeign → ⊥) → IsRowCause IsBroken IsForeign a b e → IsCause a b e
 plain_cause IsBroken IsForeign a b Memory sound ours cause = cause
-plain_cause IsBroken IsForeign a b Storage sound ours (inl cause) = absurd (sound cause)
-plain_cause IsBroken IsForeign a b Storage sound ours (inr cause) = cause
+plain_cause IsBroken IsForeign a b (Storage fault) sound ours (inl cause) = absurd (sound cause)
+plain_cause IsBroken IsForeign a b (Storage fault) sound ours (inr cause) = cause
 plain_cause IsBroken IsForeign a b Stopped sound ours cause = cause
 plain_cause IsBroken IsForeign a b Foreign sound ours cause = absurd (ours cause)
 plain_cause IsBroken IsForeign a b Refused sound ours cause = cause

@@ -1,12 +1,11 @@
 //! The keeper over a file.
-ghost use Rattle.std.specs.Prelude.{◌≡◌, ◌≤◌, IsTrue, IfOk, IfErr};
-ghost use Rattle.enip_keep.specs.declared.entry.KeepError.TheVariants.{Storage};
+ghost use Rattle.std.specs.Prelude.{◌≡◌, ◌≤◌, length, IsTrue, IfOk};
 ghost use Rattle.sqlite_trees.specs.View.{IsClean};
 ghost use Rattle.sqlite_store.specs.FileStore.{view};
 ghost use Rattle.enip_keep_sqlite.specs.Rows.{IsAtRest};
 
-use crate::Rows;
-use enip_keep::KeepError;
+use crate::fault::{FileFault, fault_of, fault_of_rows};
+use crate::rows::Rows;
 use sqlite::{Connection, FileFrom, FileStore, Start};
 
 /// The table. The key is the rowid, so a row has no column but the bytes.
@@ -15,16 +14,40 @@ const TABLE: &str = "CREATE TABLE kept (key INTEGER PRIMARY KEY, value BLOB NOT 
 /// A query that only a database with such a table accepts.
 const QUERY: &str = "SELECT key, value FROM kept";
 
+/// The bytes of the header of a database, and what it begins with. (SQLite, Database File Format, 1.3.)
+const HEADER: usize = 100;
+
+const MARK: &[u8] = b"SQLite format 3\0";
+
+/// Whether a file that begins with these bytes can have entries: they are at least the header of a database. What makes a
+/// database of a shorter file would take it for a new one.
+pub fn begins_as_kept(front: &[u8]) -> bool
+    ensures { IsTrue result → 100 ≤ length front.now }
+{
+    front.len() >= HEADER && front.strip_prefix(MARK).is_some()
+}
+
+/// Whether the first page of a database has the text of the table. That of a database whose log was never copied into it
+/// need not have it.
+pub fn names_table(page: &[u8]) -> bool
+    ensures { IsTrue result → 71 ≤ length page.now }
+{
+    page.len() >= TABLE.len()
+        && page
+            .windows(TABLE.len())
+            .any(|text| text == TABLE.as_bytes())
+}
+
 /// Makes the file, with an empty table, unless it has a table or a view already.
 ///
 /// # Errors
 ///
-/// `Storage` if the file cannot be opened or written.
-pub fn make_file<S: Start>(rt: &HostRuntime, path: &str, start: S) -> Result<(), KeepError>
-    ensures { IfErr result (λ e. e ≡ Storage) }
-{
-    let Ok(mut connection) = Connection::open_from(rt, path, true, start) else {
-        return Err(KeepError::Storage);
+/// `Full`, `Failed` or `CannotOpen` if the file cannot be opened or written. `Foreign` if it is no database, or a damaged
+/// one. `Memory` if memory is refused.
+pub fn make_file<S: Start>(rt: &HostRuntime, path: &str, start: S) -> Result<(), FileFault> {
+    let mut connection = match Connection::open_from(rt, path, true, start) {
+        Ok(connection) => connection,
+        Err((error, _)) => return Err(fault_of(error)),
     };
     let schema = connection.schema();
     if !schema.tables.is_empty() || !schema.views.is_empty() {
@@ -32,7 +55,7 @@ pub fn make_file<S: Start>(rt: &HostRuntime, path: &str, start: S) -> Result<(),
     }
     match connection.execute(TABLE, &[]) {
         Ok(_) => Ok(()),
-        Err(_) => Err(KeepError::Storage),
+        Err(error) => Err(fault_of(error)),
     }
 }
 
@@ -43,20 +66,24 @@ pub fn make_file<S: Start>(rt: &HostRuntime, path: &str, start: S) -> Result<(),
 ///
 /// # Errors
 ///
-/// `Storage` if the file cannot be opened or read. `Foreign` if it holds anything but such entries. `Memory` if memory
-/// is refused.
+/// `Full`, `Failed` or `CannotOpen` if the file cannot be opened or read, or not be mended. `Foreign` if it holds anything
+/// but such entries. `Memory` if memory is refused.
 pub fn open<S: Start>(
     rt: &HostRuntime,
     path: &str,
     start: S,
-) -> Result<Rows<FileStore<FileFrom<S>>>, KeepError>
+) -> Result<Rows<FileStore<FileFrom<S>>>, FileFault>
     ensures { IfOk result (λ k. IsClean (view k.store) → IsAtRest (view k.store)) }
 {
-    let Ok(mut connection) = Connection::open_from(rt, path, true, start) else {
-        return Err(KeepError::Storage);
+    let mut connection = match Connection::open_from(rt, path, true, start) {
+        Ok(connection) => connection,
+        Err((error, _)) => return Err(fault_of(error)),
     };
-    if connection.prepare(QUERY).is_err() {
-        return Err(KeepError::Foreign);
+    if let Some(error) = connection.prepare(QUERY).err() {
+        return Err(fault_of(error));
     }
-    Rows::over(rt.alloc(), connection.into_store())
+    match Rows::over(rt.alloc(), connection.into_store()) {
+        Ok(rows) => Ok(rows),
+        Err(error) => Err(fault_of_rows(error)),
+    }
 }

@@ -2,8 +2,9 @@
 
 ghost use Rattle.std.specs.Prelude.{◌≡◌};
 
+use crate::fault::FileFault;
 use crate::file::open;
-use enip_keep::{KeepError, Keeper};
+use enip_keep::Keeper;
 use sqlite::Start;
 
 /// What is done with the rows of a file once it is open.
@@ -25,7 +26,7 @@ pub fn with_rows<S: Start, R, U: RowsUser<R> + Drop>(
     path: &str,
     start: S,
     user: U,
-) -> Result<R, KeepError> {
+) -> Result<R, FileFault> {
     match open(rt, path, start) {
         Ok(rows) => Ok(hand_on(rt, rows, user)),
         Err(error) => Err(error),

@@ -7,7 +7,7 @@ ghost use Rattle.enip_keep_sqlite.specs.Causes.{keep_error, IsRowCause};
 ghost use Rattle.enip_keep_sqlite.specs.Pairs.{row_of};
 ghost use Rattle.enip_keep_sqlite.specs.Rows.{IsCalm, Puts};
 
-use enip_keep::{Entry, KeepError};
+use enip_keep::{Entry, KeepError, StorageFault};
 use sqlite_trees::error::StoreError;
 use sqlite_trees::store::Store;
 use sqlite_value::row::Row;
@@ -20,11 +20,11 @@ pub(crate) fn keep_error(error: StoreError) -> KeepError
 {
     match error {
         StoreError::OutOfMemory => KeepError::Memory,
-        StoreError::Io
-        | StoreError::Corrupt
-        | StoreError::Full
-        | StoreError::Broken
-        | StoreError::Unstorable => KeepError::Storage,
+        StoreError::Full => KeepError::Storage(StorageFault::Full),
+        StoreError::Corrupt => KeepError::Storage(StorageFault::Damaged),
+        StoreError::Io | StoreError::Broken | StoreError::Unstorable => {
+            KeepError::Storage(StorageFault::Failed)
+        }
     }
 }
 

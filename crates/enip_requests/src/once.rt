@@ -10,7 +10,7 @@ use crate::request::print_refusal;
 use cip_bytes::StatusText;
 use cip_commander::{CommandOutcome, CommandRefused, Commander};
 use cip_objects::ReplyBuf;
-use enip_cli::{LockedFile, OsArg, exists, option_file_name};
+use enip_cli::{LockedFile, OsArg, exists, front_of, option_file_name};
 use enip_client::ClientFault;
 use enip_commands::{
     LIFE_REQUEST, LedgerRefusal, LifeFault, OnceRefusal, PendingChoice, RequestFailure, WANTS,
@@ -18,7 +18,7 @@ use enip_commands::{
 };
 use enip_common::{
     CLOCK, CommandError, ErrorKeeping, Fault, HostPort, NamedReason, Note, OwnedDigits, Reason,
-    SocketSink, SocketSource, print_reason,
+    SocketSink, SocketSource, StateFile, StorageReason, SystemError, print_reason,
 };
 use remote_device::{Device, Request, error_of_failure};
 use std::io::{self, ErrorKind};
@@ -301,12 +301,13 @@ impl<'a> OnceRun<'a, '_> {
 
     /// Locks the command file. Waits for as long as the timeout if another process uses it.
     fn lock(&self) -> Result<LockedFile, CommandError<'a>> {
+        self.look()?;
         let start = self.now()?;
         for _ in 0..u64::MAX {
             match LockedFile::try_lock(self.rt.alloc(), self.name) {
                 Ok(Some(file)) => return Ok(file),
                 Ok(None) => {}
-                Err(error) => return Err(self.error_of_file(error)),
+                Err(error) => return Err(self.error_of_lock(error)),
             }
             let elapsed = start
                 .elapsed(self.rt)
@@ -326,15 +327,31 @@ impl<'a> OnceRun<'a, '_> {
         ))
     }
 
+    /// Refuses a file that is no command file before another one is made beside it.
+    fn look(&self) -> Result<(), CommandError<'a>> {
+        match front_of(self.rt.alloc(), self.name) {
+            Ok(None) => Ok(()),
+            Ok(Some(text)) => {
+                self.commander_in(text.as_slice())?;
+                Ok(())
+            }
+            Err(error) => Err(self.error_of_file(error)),
+        }
+    }
+
     /// The commander in the command file. `None` if there is no file.
     fn read(&self, file: &LockedFile) -> Result<Option<Commander>, CommandError<'a>> {
-        let text = match file.read(self.rt.alloc()) {
-            Ok(text) => text,
-            Err(error) if error.kind() == ErrorKind::NotFound => return Ok(None),
-            Err(error) => return Err(self.error_of_file(error)),
-        };
-        match read_commander(text.as_slice()) {
-            Ok(commander) => Ok(Some(commander)),
+        match file.read(self.rt.alloc()) {
+            Ok(text) => Ok(Some(self.commander_in(text.as_slice())?)),
+            Err(error) if error.kind() == ErrorKind::NotFound => Ok(None),
+            Err(error) => Err(self.error_of_file(error)),
+        }
+    }
+
+    /// The commander in the text of the command file.
+    fn commander_in(&self, text: &[u8]) -> Result<Commander, CommandError<'a>> {
+        match read_commander(text) {
+            Ok(commander) => Ok(commander),
             Err(fault) => Err(CommandError::new(
                 Fault::CommandFile(fault.line()),
                 Reason::CommandFile(self.options.file, fault.line(), fault),
@@ -391,6 +408,17 @@ impl<'a> OnceRun<'a, '_> {
 
     fn error_of_file(&self, error: io::Error) -> CommandError<'a> {
         CommandError::of_system(self.options.file, error)
+    }
+
+    /// The error of the file that is locked.
+    fn error_of_lock(&self, error: io::Error) -> CommandError<'a> {
+        let file = match error.kind() {
+            ErrorKind::OutOfMemory => return CommandError::of_memory(),
+            ErrorKind::NotFound | ErrorKind::NotADirectory => StateFile::Folder,
+            _ => StateFile::Lock,
+        };
+        let why = StorageReason::System(SystemError(error));
+        CommandError::of_reason(Reason::Storage(self.options.file, file, why))
     }
 
     fn no_file(&self) -> CommandError<'a> {

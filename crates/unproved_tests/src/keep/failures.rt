@@ -1,7 +1,9 @@
 //! A device that counts, over a keeper in memory that fails at each call in turn. A round or a start makes one call of
 //! the keeper to load and one to commit, and a crash makes one more.
 
-use enip_keep::{Device, Entry, Event, KeepError, Keeper, MemoryKeeper, Server, Tally, live};
+use enip_keep::{
+    Device, Entry, Event, KeepError, Keeper, MemoryKeeper, Server, StorageFault, Tally, live,
+};
 use std::alloc::Global;
 use std::process::Abort;
 use std::test::Fail;
@@ -55,7 +57,7 @@ fn check_failed_commit<A: Abort>(rt: &A, alloc: Global, keeps_failed: bool) -> R
     keeper.fail_after(3, keeps_failed);
     let mut server = start(alloc, keeper)?;
     server.round(2, &mut ())?;
-    assert!(rt; server.round(3, &mut ()) == Err(KeepError::Storage));
+    assert!(rt; server.round(3, &mut ()) == Err(KeepError::Storage(StorageFault::Failed)));
     assert!(rt; server.device().sent() == [42].as_slice() && !server.is_serving());
     assert!(rt; server.round(4, &mut ()) == Err(KeepError::Stopped));
     assert!(rt; server.device().sent() == [42].as_slice());
@@ -79,7 +81,9 @@ fn failed_start(rt: HostRuntime) -> Result<(), Fail> {
     for calls in 0..2u64 {
         let mut keeper = MemoryKeeper::new(rt.alloc());
         keeper.fail_after(calls, false);
-        assert!(rt; start(rt.alloc(), keeper).err() == Some(KeepError::Storage));
+        assert!(rt;
+            start(rt.alloc(), keeper).err() == Some(KeepError::Storage(StorageFault::Failed))
+        );
     }
     Ok(())
 }

@@ -1,6 +1,6 @@
 //! A keeper that numbers its commits: what it keeps is whole until a byte of it changes.
 
-use enip_keep::{Entry, Keeper, MemoryKeeper, Numbered, RoundNote};
+use enip_keep::{Entry, Keeper, MemoryKeeper, Numbered, RoundNote, StorageFault};
 use std::alloc::Global;
 use std::test::Fail;
 
@@ -25,9 +25,9 @@ struct MemoryNote {
 impl RoundNote for MemoryNote {
     ghost noted = { λ n. n.noted };
 
-    fn note(&mut self, round: u64) -> bool {
+    fn note(&mut self, round: u64) -> Result<(), StorageFault> {
         self.noted = round;
-        true
+        Ok(())
     }
 }
 

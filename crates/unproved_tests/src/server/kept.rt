@@ -8,7 +8,7 @@ use arrayvec::ArrayVec;
 use cip_objects::{Config, Objects};
 use cip_owner::{NoOwner, OwnRequest};
 use enip_adapter::{Adapter, Limits, Peer};
-use enip_keep::{Device, Entry, KeepError, MemoryKeeper, Server};
+use enip_keep::{Device, Entry, KeepError, MemoryKeeper, Server, StorageFault};
 use enip_server::{
     EVICTION_SILENCE, FrameWire, Gate, HeldWire, NO_IDLE_TIMEOUT, NoWatcher, Peers, Watcher,
 };
@@ -191,7 +191,7 @@ fn no_answer_leaves_if_the_commit_fails(rt: HostRuntime) -> Result<(), Fail> {
         )?;
         assert_eq!(rt;
             server.round(input(1, None, &[0]), &mut NoWatcher),
-            Err(KeepError::Storage)
+            Err(KeepError::Storage(StorageFault::Failed))
         );
         assert_eq!(rt; made.get(), 3);
         // nothing is served any more
@@ -264,7 +264,7 @@ fn what_a_guest_writes_is_kept(rt: HostRuntime) -> Result<(), Fail> {
     guest.data = [5, 6, 7, 8];
     assert_eq!(rt;
         server.round(input(1, None, &[]), &mut guest),
-        Err(KeepError::Storage)
+        Err(KeepError::Storage(StorageFault::Failed))
     );
     server.restart(rt.alloc(), &device)?;
     assert_data(&rt, server.device().peers().adapter(), [1, 2, 3, 4])
@@ -379,7 +379,7 @@ fn a_request_that_waits_is_answered_once_it_is_kept(rt: HostRuntime) -> Result<(
             };
             let outcome = server.round(input, &mut clerk);
             if fails == Some(clerk.round) {
-                assert_eq!(rt; outcome, Err(KeepError::Storage));
+                assert_eq!(rt; outcome, Err(KeepError::Storage(StorageFault::Failed)));
                 assert_eq!(rt; made.get(), 2);
                 break;
             }

@@ -4,8 +4,8 @@ use Rattle.enip_keep.specs.Rounds.{without_round, round_bytes_in, round_bytes, r
 use Rattle.enip_keep.proofs.WholeLemmas.{round_kept, whole_kept}
 use Rattle.enip_keep.proofs.numbered.NumberedKeeper.commit.Goals as goal
 
-pub returns-clause-done : goal.returns-clause-done
-returns-clause-done g c sure =
+pub returns-in-Ok-clause-done : goal.returns-in-Ok-clause-done
+returns-in-Ok-clause-done g c sure =
     let kept = g.K.Keeper.kept in
     let round = c.saturating_add-round.result in
     let device = pairs_of c.set_all.new.entries.items in
@@ -29,5 +29,5 @@ returns-clause-done g c sure =
       held.1,
     )
 
-pub returns-clause-whole : goal.returns-clause-whole
-returns-clause-whole g c sure = sym (returns-clause-done g c sure).0.1.whole
+pub returns-in-Ok-clause-whole : goal.returns-in-Ok-clause-whole
+returns-in-Ok-clause-whole g c sure = sym (returns-in-Ok-clause-done g c sure).0.1.whole
