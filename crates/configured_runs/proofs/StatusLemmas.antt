@@ -12,7 +12,7 @@ use Rattle.enip_faults.specs.declared.replay_failure.ReplayFailure.{ReplayFailur
 use Rattle.enip_faults.specs.declared.replay_failure.ReplayFailure.TheVariants as failures
 use Rattle.enip_replay.specs.Replay.{IsStop}
 use Rattle.enip_common.specs.declared.fault.Fault.{Fault}
-use Rattle.enip_common.specs.declared.fault.Fault.TheVariants.{Configuration as Refused, Setup, Run, Value, Request, Once, CommandFile, State}
+use Rattle.enip_common.specs.declared.fault.Fault.TheVariants.{Configuration as Refused, Setup, Run, Value, Request, Once, CommandFile, State, Storage}
 use Rattle.enip_common.specs.Statuses.{exit_status, fault_of_configuration, fault_of_replay}
 use Rattle.configured_runs.specs.Statuses.{IsStatus, IsReplayStatus, IsFaultOf, IsReplayFaultOf, IsOpeningRefused}
 
@@ -43,6 +43,7 @@ status_of_fault text (Refused check) so = inr (inl refl)
 status_of_fault text Setup so = absurd so
 status_of_fault text Value so = absurd so
 status_of_fault text State so = absurd so
+status_of_fault text Storage so = absurd so
 status_of_fault text (Request failure) so = absurd so
 status_of_fault text (Once refusal) so = absurd so
 status_of_fault text (CommandFile line) so = absurd so
@@ -56,6 +57,7 @@ line_refused text (Refused check) so four = absurd (omega (arith, four))
 line_refused text Setup so four = absurd so
 line_refused text Value so four = absurd so
 line_refused text State so four = absurd so
+line_refused text Storage so four = absurd so
 line_refused text (Request failure) so four = absurd so
 line_refused text (Once refusal) so four = absurd so
 line_refused text (CommandFile line) so four = absurd so
@@ -70,6 +72,7 @@ configuration_refused text (Refused refusal) so three = (refusal, so)
 configuration_refused text Setup so three = absurd so
 configuration_refused text Value so three = absurd so
 configuration_refused text State so three = absurd so
+configuration_refused text Storage so three = absurd so
 configuration_refused text (Request failure) so three = absurd so
 configuration_refused text (Once refusal) so three = absurd so
 configuration_refused text (CommandFile line) so three = absurd so
@@ -83,6 +86,7 @@ of_fault text (Refused check) so = so
 of_fault text Setup so = absurd so
 of_fault text Value so = absurd so
 of_fault text State so = absurd so
+of_fault text Storage so = absurd so
 of_fault text (Request failure) so = absurd so
 of_fault text (Once refusal) so = absurd so
 of_fault text (CommandFile line) so = absurd so
@@ -110,6 +114,7 @@ status_of_replay_fault text (Refused check) so = inl (status_of_fault text (Refu
 status_of_replay_fault text Setup so = inr refl
 status_of_replay_fault text Value so = absurd so
 status_of_replay_fault text State so = absurd so
+status_of_replay_fault text Storage so = absurd so
 status_of_replay_fault text (Request failure) so = absurd so
 status_of_replay_fault text (Once refusal) so = absurd so
 status_of_replay_fault text (CommandFile line) so = absurd so
@@ -120,6 +125,7 @@ replay_line_refused text (Refused check) so four = line_refused text (Refused ch
 replay_line_refused text Setup so four = absurd (omega (arith, four))
 replay_line_refused text Value so four = absurd so
 replay_line_refused text State so four = absurd so
+replay_line_refused text Storage so four = absurd so
 replay_line_refused text (Request failure) so four = absurd so
 replay_line_refused text (Once refusal) so four = absurd so
 replay_line_refused text (CommandFile line) so four = absurd so
@@ -131,6 +137,7 @@ replay_configuration_refused text (Refused check) so three = configuration_refus
 replay_configuration_refused text Setup so three = absurd (omega (arith, three))
 replay_configuration_refused text Value so three = absurd so
 replay_configuration_refused text State so three = absurd so
+replay_configuration_refused text Storage so three = absurd so
 replay_configuration_refused text (Request failure) so three = absurd so
 replay_configuration_refused text (Once refusal) so three = absurd so
 replay_configuration_refused text (CommandFile line) so three = absurd so
@@ -147,6 +154,7 @@ replay_setup text (Refused check) so six = absurd (omega (arith, six))
 replay_setup text Setup so six = so
 replay_setup text Value so six = absurd so
 replay_setup text State so six = absurd so
+replay_setup text Storage so six = absurd so
 replay_setup text (Request failure) so six = absurd so
 replay_setup text (Once refusal) so six = absurd so
 replay_setup text (CommandFile line) so six = absurd so

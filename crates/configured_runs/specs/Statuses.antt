@@ -7,7 +7,7 @@ use Rattle.enip_faults.specs.declared.fault.ProgramFault.TheVariants as program
 use Rattle.enip_replay.specs.Replay.{IsOpeningRefused as refuses_opening}
 use Rattle.enip_common.specs.declared.fault.Fault.{Fault}
 use Rattle.enip_common.specs.declared.fault.Fault.TheVariants.{Configuration as Refused, Setup, Run, Value}
-use Rattle.enip_common.specs.declared.fault.Fault.TheVariants.{Once, CommandFile, Request, State}
+use Rattle.enip_common.specs.declared.fault.Fault.TheVariants.{Once, CommandFile, Request, State, Storage}
 
 -- The exit statuses of `enip answer`, once its arguments are accepted.
 abbrev pub IsStatus : ℕ → Type 0
@@ -24,6 +24,7 @@ IsFaultOf text (Refused refusal) = IsRefused text refusal
 IsFaultOf text Setup = ⊥
 IsFaultOf text Value = ⊥
 IsFaultOf text State = ⊥
+IsFaultOf text Storage = ⊥
 IsFaultOf text (Once refusal) = ⊥
 IsFaultOf text (CommandFile line) = ⊥
 IsFaultOf text (Request failure) = ⊥
