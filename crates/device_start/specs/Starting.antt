@@ -1,5 +1,4 @@
 -- How the program ends if FILE of `--keep` is not used.
-use Rattle.std.specs.Prelude.{◌≡◌}
 use Rattle.enip_common.specs.declared.fault.Fault.{Fault}
 use Rattle.enip_common.specs.declared.fault.Fault.TheVariants.{Run, State, Storage}
 use Rattle.enip_faults.specs.declared.fault.ProgramFault.TheVariants as program
@@ -13,14 +12,14 @@ use Rattle.device_start.specs.declared.judgement.OpenFault.TheVariants as openin
 abbrev pub fault_of_open : OpenFault → Fault
 fault_of_open opening.Memory = Run program.Memory
 fault_of_open opening.InUse = Run program.Device
-fault_of_open (opening.Storage file why) = Storage
+fault_of_open (opening.Storage _ _) = Storage
 fault_of_open other = State
 
 -- A call of the keeper failed at the start.
 abbrev pub fault_at_start : KeepError → Fault
 fault_at_start keeping.Memory = Run program.Memory
 fault_at_start (keeping.Storage storage.Damaged) = State
-fault_at_start (keeping.Storage other) = Storage
+fault_at_start (keeping.Storage _) = Storage
 fault_at_start other = State
 
 -- A round could not be kept.
