@@ -4,7 +4,8 @@
 // RULES is a list of `NAME PEER FIRST COUNT KIND NUMBER;`. A rule applies to the calls of this name on the socket of the
 // PEER-th accepted connection, or on any socket if PEER is 0. Of these it takes COUNT calls from the FIRST one on, or all
 // if COUNT is 0. KIND is e: the call fails with this error; n: it transfers at most this many bytes; r: it is not made,
-// and returns this number; p: it is not made, and returns success at once; k: the program is killed before it.
+// and returns this number; p: it is not made, and returns success at once; k: the program is killed before it; a: it is
+// made, and the clock is so many seconds ahead.
 #define _GNU_SOURCE
 #include <dlfcn.h>
 #include <errno.h>
@@ -235,7 +236,12 @@ int setsockopt(int socket, int level, int name, const void *value, socklen_t len
 // Does not use dlsym, since a sanitizer may read the clock during it.
 int clock_gettime(clockid_t clock, struct timespec *time) {
     long answer;
-    return answers(rule_of("clock", -1), &answer) ? (int)answer : (int)syscall(SYS_clock_gettime, clock, time);
+    struct rule *r = rule_of("clock", -1);
+    int is_ahead = r && r->kind == 'a';
+    if (!is_ahead && answers(r, &answer)) return (int)answer;
+    int status = (int)syscall(SYS_clock_gettime, clock, time);
+    if (is_ahead && status == 0) time->tv_sec += r->number;
+    return status;
 }
 
 int nanosleep(const struct timespec *time, struct timespec *left) {

@@ -18,7 +18,7 @@ def unchanged(areas, errors, jobs):
     tests = [(areas[name], *it) for name in names for it in areas[name].unchanged().items()]
 
     def measured(area, test, command):
-        line, took = run(command, LONGEST)
+        line, took = run(command, LONGEST, is_whole=True)
         if line is None:
             seconds[test] = took
             area.note_reached(test)

@@ -15,6 +15,10 @@ from mutating.sources import TOP
 NO_RESULT = "no result"
 # What differs between two runs: numbers, and the names of temporary files.
 VARIES = r"/tmp/\S+|\d+"
+# The last line of a test that passes.
+PASSED = re.compile(r"[1-9]\d* passed, 0 failed\n")
+# What tests that passed without an error have printed before that line, without what differs: it is no failure.
+SAID = set()
 # Lines of a test that are no failures.
 LEFT_OUT = re.compile(r"\s*$|this machine|\S+ is not installed$|.*: skipped: |\d+ commands were skipped")
 # A program that runs in a circle is ended long before its test gives it up. None needs so many processor seconds.
@@ -59,8 +63,9 @@ def limited():
     return ["bash", "-c", LIMIT, ""]
 
 
-def run(command, limit, environment=None):
-    """Runs a test up to the first failure that it prints. Returns the line, None if it passes, and the seconds."""
+def run(command, limit, environment=None, is_whole=False):
+    """Runs a test up to the first failure that it prints. Returns the line, None if it passes, and the seconds. A whole
+    run goes on to the end of the test: if that passes, what it printed is no failure from then on."""
     start = time.monotonic()
     test = subprocess.Popen(
         [*limited(), *command], cwd=TOP, text=True, errors="replace", process_group=0,
@@ -70,9 +75,11 @@ def run(command, limit, environment=None):
     late = threading.Timer(limit, end, [test])
     late.start()
     try:
-        line = next((it for it in test.stdout if not LEFT_OUT.match(it)), NO_RESULT + "\n")
-        is_passed = re.fullmatch(r"[1-9]\d* passed, 0 failed\n", line)
-        return None if is_passed else line.rstrip("\n"), time.monotonic() - start
+        lines = list(test.stdout) if is_whole else test.stdout
+        if is_whole and lines and PASSED.fullmatch(lines[-1]):
+            SAID.update(map(unvaried, lines[:-1]))
+        line = next((it for it in lines if not LEFT_OUT.match(it) and unvaried(it) not in SAID), NO_RESULT + "\n")
+        return None if PASSED.fullmatch(line) else line.rstrip("\n"), time.monotonic() - start
     finally:
         late.cancel()
         end(test)
@@ -106,6 +113,11 @@ def noticed(tests, seconds):
     return None
 
 
+def unvaried(line):
+    """A line without numbers and the names of temporary files."""
+    return re.sub(VARIES, "", line)
+
+
 def alike(line, other):
     """Whether two lines are the same, but for numbers and the names of temporary files."""
-    return re.sub(VARIES, "", line) == re.sub(VARIES, "", other) and line != NO_RESULT
+    return unvaried(line) == unvaried(other) and line != NO_RESULT

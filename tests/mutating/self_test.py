@@ -98,11 +98,15 @@ def judging(judgement, folder):
 
 
 def left_out(judgement, program, chosen):
-    """One test that fails without an error is left out, and the others judge."""
-    one = tests_of_check()[TEST]
-    program.tests = {TEST: one._replace(words=(*one.words, TEST_PART)), "one": Part("one", "", "", ("false", PROGRAM))}
+    """One test that fails without an error is left out, and the others judge, also one that prints more than its sum."""
+    one, says = tests_of_check()[TEST], ("printf", "5 of %s\\n1 passed, 0 failed\\n", PROGRAM)
+    program.tests = {
+        TEST: one._replace(words=(*one.words, TEST_PART)),
+        "one": Part("one", "", "", ("false", PROGRAM)),
+        "says": Part("says", "", "", says),
+    }
     seconds = unchanged({"program": program}, chosen, 2)
-    judgement.expect("the tests that judge", list(seconds), [TEST])
+    judgement.expect("the tests that judge", sorted(seconds), ["says", TEST])
     judgement.expect("what they judge", judged({"program": program}, chosen[0], seconds), NOTICED)
 
 

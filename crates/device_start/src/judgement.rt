@@ -1,6 +1,9 @@
 //! Why FILE of `--keep` is not used: what it has is refused, or the system does not give it.
-ghost use Rattle.std.specs.Prelude.{◌≡◌};
-ghost use Rattle.device_start.specs.Starting.{fault_at_start, fault_of_open};
+ghost use Rattle.std.specs.Prelude.{◌≡◌, ◌⊎◌};
+ghost use Rattle.enip_common.specs.declared.fault.Fault.TheVariants.{Run, Storage};
+ghost use Rattle.enip_faults.specs.declared.fault.ProgramFault.TheVariants.{Memory};
+ghost use Rattle.std.specs.IoError.{error_kind};
+ghost use Rattle.device_start.specs.Starting.{fault_at_start, fault_of_open, fault_of_system, IsJudged};
 
 use enip_cli::{can_update, open_or_make};
 use enip_common::{StateFile, StorageReason, SystemError};
@@ -30,7 +33,9 @@ pub enum OpenFault {
 
 impl OpenFault {
     /// The system reports an error of this file.
-    pub(crate) fn of_system(file: StateFile, error: io::Error) -> OpenFault {
+    pub(crate) fn of_system(file: StateFile, error: io::Error) -> OpenFault
+        ensures { fault_of_open result ≡ fault_of_system (error_kind error) }
+    {
         match error.kind() {
             ErrorKind::OutOfMemory => OpenFault::Memory,
             ErrorKind::StorageFull => OpenFault::Storage(file, StorageReason::Full),
@@ -63,7 +68,9 @@ impl From<AllocError> for OpenFault {
 }
 
 /// Why the database at a path is not opened. If nobody says which file the system refuses, they are tried.
-pub(crate) fn judged(alloc: Global, path: &str, fault: FileFault) -> OpenFault {
+pub(crate) fn judged(alloc: Global, path: &str, fault: FileFault) -> OpenFault
+    ensures { IsJudged fault (fault_of_open result) }
+{
     match fault {
         FileFault::Memory => OpenFault::Memory,
         FileFault::InUse => OpenFault::InUse,
@@ -75,7 +82,9 @@ pub(crate) fn judged(alloc: Global, path: &str, fault: FileFault) -> OpenFault {
 }
 
 /// The error of the system for the database at a path, or for its log; this reason if it reports none.
-fn tried(alloc: Global, path: &str, otherwise: StorageReason) -> OpenFault {
+fn tried(alloc: Global, path: &str, otherwise: StorageReason) -> OpenFault
+    ensures { (fault_of_open result ≡ Storage) ⊎ (fault_of_open result ≡ Run Memory) }
+{
     if let Err(error) = can_update(path.as_bytes()) {
         return OpenFault::of_system(StateFile::File, error);
     }

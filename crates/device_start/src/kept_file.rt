@@ -1,7 +1,8 @@
 //! FILE of `--keep`: how it is opened, and why it is refused.
 //!
-//! FILE is looked at first, so that nothing is made beside one that is refused. Then `FILE.round` is locked, so one process
-//! uses FILE at a time. FILE is made only if neither of them says that there was a state before.
+//! FILE is looked at first, so nothing is made next to one whose first bytes are not those of a state. Then
+//! `FILE.round` is locked, so one process uses FILE at a time. FILE is made only if neither of them says that there was a
+//! state before.
 
 ghost use Rattle.std.specs.Prelude.{◌≡◌, IfOk, true, false};
 ghost use Rattle.device_start.specs.Starting.{fault_of_open, fault_at_start, fault_while_served};
@@ -215,8 +216,8 @@ impl<'a> KeptFile<'a> {
     ///
     /// # Errors
     ///
-    /// If another process uses the file, if it is not a state, or if it cannot be used. It is left as it is then, and
-    /// nothing is made beside one that is refused.
+    /// If another process uses the file, if it is not a state, or if it cannot be used. It is left as it is then. Nothing is
+    /// made next to a file whose first bytes are not those of a state.
     pub fn locked(self, rt: &HostRuntime, args: &[OsArg]) -> Result<LockedFile, CommandError<'a>> {
         let name = resolved(rt.alloc(), option_file_name(args, "--keep", self.name))?;
         let Ok(path) = str::from_utf8(&name) else {

@@ -1,4 +1,6 @@
--- Why a file is not opened.
+-- What a file of entries begins with, and why one is not opened.
+use Rattle.std.specs.Prelude.{ℕ, Bool, ◌&&◌, nat_le, List, codes, length, take}
+use Rattle.std.specs.Str.{bytes_eq}
 use Rattle.sqlite.specs.declared.error.Error.{Error}
 use Rattle.sqlite.specs.declared.error.Error.TheVariants.{SqliteFailure}
 use Rattle.sqlite.specs.declared.error.ErrorCode.{ErrorCode}
@@ -8,6 +10,21 @@ use Rattle.enip_keep.specs.declared.entry.KeepError.TheVariants as keeping
 use Rattle.enip_keep.specs.declared.entry.StorageFault.TheVariants as storage
 use Rattle.enip_keep_sqlite.specs.declared.fault.FileFault.{FileFault}
 use Rattle.enip_keep_sqlite.specs.declared.fault.FileFault.TheVariants.{Memory, Full, Failed, CannotOpen, InUse, Foreign}
+
+-- The bytes of the header of a database, and what it begins with. (SQLite, Database File Format, 1.3.)
+abbrev HEADER_SIZE : ℕ
+HEADER_SIZE = 100
+
+abbrev mark : List ℕ
+mark = codes "SQLite format 3\0"
+
+-- A file that begins with these bytes can be a database.
+abbrev pub begins_as_kept : List ℕ → Bool
+begins_as_kept front = nat_le HEADER_SIZE (length front) && bytes_eq (take (length mark) front) mark
+
+-- The text by which the table is made, which the first page of a database has.
+abbrev pub table_text : List ℕ
+table_text = codes "CREATE TABLE kept (key INTEGER PRIMARY KEY, value BLOB NOT NULL) STRICT"
 
 -- The system's or the library's reason. Any other code is one of a file that holds something else.
 abbrev fault_of_code : ErrorCode → FileFault

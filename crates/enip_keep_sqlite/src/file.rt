@@ -1,11 +1,14 @@
 //! The keeper over a file.
-ghost use Rattle.std.specs.Prelude.{◌≡◌, ◌≤◌, length, IsTrue, IfOk};
+ghost use Rattle.std.specs.Prelude.{◌≡◌, ℕ, Option, IfOk, is_some};
+ghost use Rattle.memchr.specs.Find.{FindsNeedle};
 ghost use Rattle.sqlite_trees.specs.View.{IsClean};
 ghost use Rattle.sqlite_store.specs.FileStore.{view};
+ghost use Rattle.enip_keep_sqlite.specs.Files.{begins_as_kept, table_text};
 ghost use Rattle.enip_keep_sqlite.specs.Rows.{IsAtRest};
 
 use crate::fault::{FileFault, fault_of, fault_of_rows};
 use crate::rows::Rows;
+use memchr::memmem;
 use sqlite::{Connection, FileFrom, FileStore, Start};
 
 /// The table. The key is the rowid, so a row has no column but the bytes.
@@ -22,7 +25,7 @@ const MARK: &[u8] = b"SQLite format 3\0";
 /// Whether a file that begins with these bytes can have entries: they are at least the header of a database. What makes a
 /// database of a shorter file would take it for a new one.
 pub fn begins_as_kept(front: &[u8]) -> bool
-    ensures { IsTrue result → 100 ≤ length front.now }
+    ensures { result ≡ begins_as_kept front.now }
 {
     front.len() >= HEADER && front.strip_prefix(MARK).is_some()
 }
@@ -30,12 +33,9 @@ pub fn begins_as_kept(front: &[u8]) -> bool
 /// Whether the first page of a database has the text of the table. That of a database whose log was never copied into it
 /// need not have it.
 pub fn names_table(page: &[u8]) -> bool
-    ensures { IsTrue result → 71 ≤ length page.now }
+    ensures { (at : Option ℕ) × FindsNeedle page.now table_text 0 at × (result ≡ is_some at) }
 {
-    page.len() >= TABLE.len()
-        && page
-            .windows(TABLE.len())
-            .any(|text| text == TABLE.as_bytes())
+    memmem::find(page, TABLE.as_bytes()).is_some()
 }
 
 /// Makes the file, with an empty table, unless it has a table or a view already.
