@@ -9,6 +9,7 @@ pub mod Answered
 pub mod Executions
 pub mod Doubts
 pub mod Pendings
+pub mod OnePending
 pub mod Lives
 pub mod Forms
 pub mod Words

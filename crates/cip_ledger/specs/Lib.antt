@@ -16,6 +16,7 @@ pub mod Pending
 pub mod Laws
 pub mod DoubtLaws
 pub mod PendingLaws
+pub mod OnePending
 pub mod Runs
 pub mod Reaching
 pub mod Executing

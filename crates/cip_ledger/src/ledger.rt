@@ -284,6 +284,10 @@ impl Ledger {
             let (state, kept) = last_state(slot);
             return Verdict::Repeats(state, kept);
         }
+        // an originator has one pending command at most: 0xd0 (ledger, ours)
+        if slot.is_pending() {
+            return Verdict::Refuses(Status::CommandPending);
+        }
         verdict_on_new(max_size)
     }
 
@@ -351,7 +355,7 @@ impl Ledger {
         answer(GET_LAST, &front, kept, max_size, reply);
     }
 
-    /// Forget: frees the slot of an originator, if its last command has this number.
+    /// Forget: frees the slot of an originator, if its last command has this number and is not pending.
     fn forget(&mut self, data: &[u8], reply: &mut ReplyBuf)
         ensures rule { ActsAlone self.old (services.forget self.old «data».now) FORGET self.new reply.new.items }
     {
@@ -365,8 +369,8 @@ impl Ledger {
             begin(FORGET, Status::Success, reply);
             return;
         };
-        // only the last number is forgotten: 0x0c (ledger, ours)
-        if slot.number() != number {
+        // only the last number is forgotten, and none that is pending: 0x0c (ledger, ours)
+        if slot.number() != number || slot.is_pending() {
             begin(FORGET, Status::ObjectStateConflict, reply);
             return;
         }

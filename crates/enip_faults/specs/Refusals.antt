@@ -14,15 +14,17 @@ ledger_refusal status =
     else if status == 0x0c then answers.NumberPassed
     else if status == 0x10 then answers.OtherLife
     else if status == 0x11 then answers.ReplyTooLarge
+    else if status == 0xd0 then answers.LastPending
     else answers.Other status
 
--- a ledger without a slot for an originator has executed none of its commands
+-- a ledger without a slot for an originator has executed none of its commands, and none after one that is pending
 abbrev pub may_be_executed : LedgerRefusal → Bool
 may_be_executed answers.NoSlot = false
 may_be_executed answers.NoLedger = true
 may_be_executed answers.NumberPassed = true
 may_be_executed answers.OtherLife = true
 may_be_executed answers.ReplyTooLarge = true
+may_be_executed answers.LastPending = false
 may_be_executed (answers.Other status) = true
 
 -- the line of a command file that is refused

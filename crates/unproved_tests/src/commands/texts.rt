@@ -106,6 +106,10 @@ fn of_commands_that_are_executed_once(rt: HostRuntime) -> Result<(), Fail> {
             "the ledger's reply does not fit the connection",
         ),
         (
+            LedgerRefusal::LastPending,
+            "the last command of this originator is still in the queue of the device, which takes no other until it has ended",
+        ),
+        (
             LedgerRefusal::Other(0x0e),
             "the ledger refused the command with general status 0x0e",
         ),
