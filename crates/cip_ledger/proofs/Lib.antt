@@ -16,3 +16,4 @@ pub mod Turns
 pub mod Devices
 pub mod ReachingLemmas
 pub mod ExecutingLemmas
+pub mod SlotListLemmas
