@@ -1,6 +1,6 @@
 -- The slots of a ledger, as the originator's side asks for them and reads them.
-use Rattle.std.specs.Prelude.{ℕ, ◌+◌, ◌-◌, ◌*◌, ◌/◌, ◌%◌, ◌==◌, nat_lt, nat_le, if◌then◌else◌, Option, Some, None, unwrap_or}
-use Rattle.std.specs.Prelude.{List, [], ◌∷◌, ◌++◌, length, drop, slice_get, slice_index, Result, Ok, Err}
+use Rattle.std.specs.Prelude.{ℕ, ◌-◌, ◌*◌, ◌/◌, ◌%◌, ◌==◌, nat_lt, nat_le, if◌then◌else◌, Option, Some, None, unwrap_or}
+use Rattle.std.specs.Prelude.{List, ◌∷◌, ◌++◌, length, drop, slice_get, slice_index, Result, Ok, Err}
 use Rattle.cip_bytes.specs.Numbers.{le, number_at}
 use Rattle.cip_message.specs.Reply.{Reply, reply_service}
 use Rattle.cip_message.specs.declared.reply.ReplyFault.{ReplyFault}

@@ -1,9 +1,9 @@
 //! The slots of a ledger: requests that read and free them, and the replies.
 //! Text: docs/PROTOCOL.md, "The command ledger".
-ghost use Rattle.std.specs.Prelude.{◌≡◌};
+ghost use Rattle.std.specs.Prelude.{◌≡◌, []};
 ghost use Rattle.cip_bytes.specs.Reading.{map_ok};
 ghost use Rattle.cip_message.specs.Reply.{reply_of};
-ghost use Rattle.cip_commander.specs.Slots.{forget_request, last_request, slots_request, parts_of};
+ghost use Rattle.cip_commander.specs.Slots.{request_to, forget_request, last_request, slots_request, parts_of};
 ghost use Rattle.cip_commander.specs.Slots.{content_of, state_of, last_of, counts_of, list_of, slot_count, slot_at};
 
 use arrayvec::ArrayVec;
@@ -94,7 +94,7 @@ pub fn forget_request(originator: u64, number: u32) -> SlotRequest
 
 /// A request for this service of the ledger, without data.
 fn request_to(service: u8) -> SlotRequest
-    ensures { result.items ≡ service ∷ 2 ∷ 0x20 ∷ 0x65 ∷ 0x24 ∷ 1 ∷ [] }
+    ensures { result.items ≡ request_to service [] }
 {
     let mut request = ArrayVec::new();
     request.push(service);
@@ -219,21 +219,21 @@ impl<'a> SlotList<'a> {
 
     /// How many slots of the ledger are taken, with those that are not in the list.
     pub fn taken(self) -> u16
-        ensures { result ≡ self.taken }
+        ensures { result ≡ self.entry.taken }
     {
         self.taken
     }
 
     /// How many slots are in the list.
     pub fn count(self) -> usize
-        ensures { result ≡ slot_count self.entries.now }
+        ensures { result ≡ slot_count self.entry.entries.now }
     {
         self.entries.len() / ENTRY_SIZE
     }
 
     /// A slot of the list, by its index there. `None` past the last one, and for a state that no ledger has.
     pub fn slot(self, index: usize) -> Option<LedgerSlot>
-        ensures { result ≡ slot_at self.entries.now index }
+        ensures { result ≡ slot_at self.entry.entries.now index }
     {
         if self.count() <= index {
             return None;
