@@ -17,3 +17,4 @@ pub mod Turns
 pub mod Devices
 pub mod ReachingLemmas
 pub mod ExecutingLemmas
+pub mod SlotListLemmas

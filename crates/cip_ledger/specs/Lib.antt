@@ -5,6 +5,7 @@ pub mod Kept
 pub mod Requests
 pub mod Services
 pub mod Slots
+pub mod SlotList
 pub mod Standings
 pub mod Status
 pub mod Turn

@@ -1,5 +1,5 @@
 -- The ledger's services, each by its first check that fails.
-use Rattle.std.specs.Prelude.{ℕ, ◌+◌, ◌*◌, ◌==◌, nat_lt, not, Bool, true, ◌&&◌, is_some, if◌then◌else◌, Option, Some}
+use Rattle.std.specs.Prelude.{ℕ, ◌+◌, ◌-◌, ◌*◌, ◌==◌, nat_lt, not, Bool, true, ◌&&◌, is_some, if◌then◌else◌, Option, Some}
 use Rattle.std.specs.Prelude.{None}
 use Rattle.std.specs.Prelude.{List, [], ◌∷◌, ◌++◌, length, drop}
 use Rattle.std.specs.List.{flat_map}
@@ -13,6 +13,7 @@ use Rattle.cip_ledger.specs.declared.service.TheConstants as services
 use Rattle.cip_ledger.specs.Status.{status_number}
 use Rattle.cip_ledger.specs.Ledger.{SlotState, LedgerState, slot_of, is_pending}
 use Rattle.cip_ledger.specs.Requests.{LedgerRequest, Command, command_of}
+use Rattle.cip_ledger.specs.SlotList.{slot_list}
 
 -- the bytes of a reply before its data
 abbrev pub HEAD_SIZE : ℕ
@@ -147,6 +148,14 @@ forget ledger bytes =
     unless (size_fault 12 bytes) refuses
     (forget_in (number_at 0 8 bytes) (number_at 8 4 bytes) (slot_of (number_at 0 8 bytes) ledger.taken))
 
+-- ---- Get_Slots
+
+-- how many slots are taken, and then the slots from the index in the data on, as many as fit
+abbrev pub get_slots : LedgerState → ℕ → List ℕ → Answer
+get_slots ledger max_size bytes =
+    unless (size_fault 2 bytes) refusal
+    (within max_size (success (slot_list (max_size - HEAD_SIZE) (number_at 0 2 bytes) ledger.taken)))
+
 -- ---- attributes
 
 -- slots, taken slots, life
@@ -209,7 +218,8 @@ instance_action ledger max_size request =
     then Replies (single max_size request.data (value_named (ledger_values ledger) request.attribute))
     else (if request.service == services.GET_ATTRIBUTE_LIST
     then Replies (get_attribute_list (ledger_values ledger) max_size request.data)
-    else refuses statuses.ServiceNotSupported))))
+    else (if request.service == services.GET_SLOTS then Replies (get_slots ledger max_size request.data)
+    else refuses statuses.ServiceNotSupported)))))
 
 -- by the instance: 0 is the class itself
 abbrev pub action_of : LedgerState → ℕ → LedgerRequest → Action

@@ -18,12 +18,15 @@ ghost use Rattle.cip_ledger.specs.AttributeValue.{values_in};
 
 mod commands;
 mod executing;
+mod listing;
 
 use crate::attributes::{Attributes, class_value, write_single};
 use crate::doubt::DoubtfulCommand;
 use crate::reply::{DONE, HEAD_SIZE, IN_DOUBT, LONGEST_DONE, PENDING, answer, begin, size_fault};
 use crate::request::{Command, LedgerRequest, SHORT_SIZE, is_do_once};
-use crate::service::{DO_ONCE, FORGET, GET_ATTRIBUTE_LIST, GET_ATTRIBUTE_SINGLE, GET_LAST};
+use crate::service::{
+    DO_ONCE, FORGET, GET_ATTRIBUTE_LIST, GET_ATTRIBUTE_SINGLE, GET_LAST, GET_SLOTS,
+};
 use crate::slot::{KEPT_LIMIT, Slot};
 use crate::slots::{MOST_ORIGINATORS, Slots};
 use crate::status::Status;
@@ -414,6 +417,7 @@ impl Ledger {
                 write_single(value, request.data, max_size, reply);
             }
             GET_ATTRIBUTE_LIST => self.attributes().write_list(request.data, max_size, reply),
+            GET_SLOTS => self.get_slots(request.data, max_size, reply),
             // the ledger does not have this service: 0x08 (objects)
             _ => begin(request.service, Status::ServiceNotSupported, reply),
         }

@@ -113,7 +113,8 @@ module _ (new ledger : LedgerState) (same : HaveSameNumbers new ledger) (max_siz
       (through_if (asked.service == services.FORGET) _ _ _ _
       (forget-through new asked.data ∙ sym (forget-through ledger asked.data))
       (through_if (asked.service == 0x0e) _ _ _ _ refl
-      (through_if (asked.service == 0x03) _ _ _ _ refl refl)))))
+      (through_if (asked.service == 0x03) _ _ _ _ refl
+      (through_if (asked.service == services.GET_SLOTS) _ _ _ _ refl refl))))))
       refl)
 
 -- The same of a request is let through.

@@ -73,6 +73,8 @@ pub(crate) enum Argument {
     ReadTries,
     Pending,
     Abandon,
+    Forget,
+    ForgottenNumber,
     Shell,
 }
 
@@ -147,6 +149,8 @@ impl Argument {
             Argument::ReadTries => &connection_rows::READ_TRIES,
             Argument::Pending => &connection_rows::PENDING,
             Argument::Abandon => &connection_rows::ABANDON,
+            Argument::Forget => &connection_rows::FORGET,
+            Argument::ForgottenNumber => &connection_rows::FORGOTTEN_NUMBER,
             Argument::Shell => &line_rows::SHELL,
         }
     }

@@ -3,8 +3,9 @@
 use crate::arguments::Argument;
 use crate::command_row::CommandRow;
 use crate::device_texts::{
-    DETAILS_DISCOVER, DETAILS_IDENTITY, DETAILS_INSPECT, DETAILS_SERVICES, EXAMPLES_DISCOVER,
-    EXAMPLES_IDENTITY, EXAMPLES_INSPECT, EXAMPLES_SERVICES,
+    DETAILS_DISCOVER, DETAILS_IDENTITY, DETAILS_INSPECT, DETAILS_LEDGER, DETAILS_SERVICES,
+    EXAMPLES_DISCOVER, EXAMPLES_IDENTITY, EXAMPLES_INSPECT, EXAMPLES_LEDGER, EXAMPLES_SERVICES,
+    USAGE_LEDGER,
 };
 use crate::line_texts::{
     DETAILS_ANSWER, DETAILS_REPLAY, DETAILS_SHOW, EXAMPLES_ANSWER, EXAMPLES_REPLAY, EXAMPLES_SHOW,
@@ -220,6 +221,30 @@ pub(crate) static INSPECT: CommandRow = CommandRow {
         Argument::DeviceAddress,
         Argument::Json,
         Argument::Verbose,
+        Argument::Connected,
+        Argument::Route,
+        Argument::ConnectionSerial,
+        Argument::OriginatorSerial,
+        Argument::Size,
+        Argument::Rpi,
+        Argument::SessionMultiplier,
+        Argument::ReadTries,
+        Argument::Timeout,
+        Argument::Deadline,
+    ],
+};
+
+pub(crate) static LEDGER: CommandRow = CommandRow {
+    name: "ledger",
+    about: "List the slots of a command ledger, or free one",
+    usage: Some(USAGE_LEDGER),
+    examples: EXAMPLES_LEDGER,
+    details: DETAILS_LEDGER,
+    arguments: &[
+        Argument::DeviceAddress,
+        Argument::ForgottenNumber,
+        Argument::Forget,
+        Argument::Json,
         Argument::Connected,
         Argument::Route,
         Argument::ConnectionSerial,

@@ -29,6 +29,7 @@ pub(crate) enum CommandName {
     Batch,
     Watch,
     Inspect,
+    Ledger,
     Identity,
     Discover,
     Services,
@@ -40,7 +41,7 @@ pub(crate) enum CommandName {
 }
 
 /// The commands in the order in which the help lists them.
-pub(crate) static COMMANDS: [CommandName; 17] = [
+pub(crate) static COMMANDS: [CommandName; 18] = [
     CommandName::Serve,
     CommandName::Check,
     CommandName::Eds,
@@ -50,6 +51,7 @@ pub(crate) static COMMANDS: [CommandName; 17] = [
     CommandName::Batch,
     CommandName::Watch,
     CommandName::Inspect,
+    CommandName::Ledger,
     CommandName::Identity,
     CommandName::Discover,
     CommandName::Services,
@@ -73,6 +75,7 @@ impl CommandName {
             CommandName::Batch => &command_rows::BATCH,
             CommandName::Watch => &command_rows::WATCH,
             CommandName::Inspect => &command_rows::INSPECT,
+            CommandName::Ledger => &command_rows::LEDGER,
             CommandName::Identity => &command_rows::IDENTITY,
             CommandName::Discover => &command_rows::DISCOVER,
             CommandName::Services => &command_rows::SERVICES,

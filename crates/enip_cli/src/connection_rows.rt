@@ -2,8 +2,8 @@
 
 use crate::argument_row::{ArgumentRow, FLAG, PLAIN};
 use crate::option_texts::{
-    ABANDON_DETAILS, CONNECTION_SERIAL_DETAILS, DEADLINE_DETAILS, MULTIPLIER_DETAILS, ONCE_DETAILS,
-    ORIGINATOR_SERIAL_DETAILS, PENDING_DETAILS, READ_MULTIPLIER_DETAILS, READ_TRIES_DETAILS,
+    ABANDON_DETAILS, CONNECTION_SERIAL_DETAILS, DEADLINE_DETAILS, FORGET_DETAILS,
+    MULTIPLIER_DETAILS, ONCE_DETAILS, ORIGINATOR_SERIAL_DETAILS, PENDING_DETAILS, READ_MULTIPLIER_DETAILS, READ_TRIES_DETAILS,
     ROUTE_DETAILS, RPI_DETAILS, SESSION_MULTIPLIER_DETAILS, SIZE_DETAILS, TRIES_DETAILS,
     WAIT_DETAILS,
 };
@@ -187,4 +187,21 @@ pub(crate) static ABANDON: ArgumentRow = ArgumentRow {
     needs: &["once"],
     is_rare: true,
     ..FLAG
+};
+
+pub(crate) static FORGET: ArgumentRow = ArgumentRow {
+    id: "forget",
+    option: Some("forget"),
+    value_name: Some("FILE"),
+    takes: Takes::File,
+    help: "Free the slot of FILE; with NUMBER, of an originator",
+    details: Some(FORGET_DETAILS),
+    ..PLAIN
+};
+
+pub(crate) static FORGOTTEN_NUMBER: ArgumentRow = ArgumentRow {
+    id: "NUMBER",
+    help: "With --forget, number of the last command of the slot",
+    needs: &["forget"],
+    ..PLAIN
 };

@@ -181,6 +181,13 @@ once or not at all, and send the one in the arguments as a new
 command. If it is left out, send nothing. If there is no answer, do
 not repeat this line: leave out --abandon";
 
+pub(crate) const FORGET_DETAILS: &str = "\
+Free the slot of the originator of FILE, a file of --once without a
+pending command. With NUMBER, the value is not a file but an
+originator, as the list has it, or 0x and up to 16 hexadecimal digits.
+The slot is freed only if its last command has the number of FILE, or
+NUMBER";
+
 pub(crate) const MEMBER_DETAILS: &str = "\
 Member of the attribute, 0 to 65535. The request of `get` is then
 Get_Member 0x18, that of `set` Set_Member 0x19";

@@ -60,6 +60,9 @@ pub enum ArgumentError<'a> {
     /// Two arguments are standard input.
     #[error("the argument '-' cannot be used for '<CONFIG>' and '<SCRIPT>'")]
     InputTwice,
+    /// The value of `--forget` before a number is not an originator.
+    #[error("invalid value '{0}' for '--forget <ORIGINATOR>'\n  [16 hexadecimal digits, as FILE has them, or 0x and up to 16]")]
+    Originator(&'a str),
     /// A required argument is missing.
     #[error("an argument is missing")]
     Missing,

@@ -55,6 +55,14 @@ impl NumberArgument {
         most: 0xffff_ffff,
     };
 
+    /// The number of a command of a ledger.
+    pub const COMMAND_NUMBER: NumberArgument = NumberArgument {
+        id: "NUMBER",
+        usage: "[NUMBER]",
+        least: 0,
+        most: 0xffff_ffff,
+    };
+
     pub const CONNECTION_SERIAL: NumberArgument = NumberArgument {
         id: "connection-serial",
         usage: "--connection-serial <N>",

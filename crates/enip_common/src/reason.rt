@@ -144,6 +144,12 @@ pub enum NamedReason {
     /// The command file has no pending command.
     #[error("no command is pending")]
     NonePending,
+    /// The command file has a pending command.
+    #[error("a command is pending (see --pending and --abandon)")]
+    CommandPending,
+    /// The slot of the ledger is that of another command.
+    #[error("the last command of the slot has another number (see enip ledger)")]
+    OtherNumber,
     /// The device does not know whether it executed the command.
     #[error("the device does not know whether it executed the command, and its owner has to settle that")]
     InDoubt,

@@ -20,6 +20,8 @@ ledger_refusal status =
 -- a ledger without a slot for an originator has executed none of its commands, and none after one that is pending
 abbrev pub may_be_executed : LedgerRefusal → Bool
 may_be_executed answers.NoSlot = false
+may_be_executed answers.SlotsTaken = false
+may_be_executed answers.QueueFull = false
 may_be_executed answers.NoLedger = true
 may_be_executed answers.NumberPassed = true
 may_be_executed answers.OtherLife = true

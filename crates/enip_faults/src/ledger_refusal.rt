@@ -11,6 +11,12 @@ pub enum LedgerRefusal {
     /// 0x02. Nothing has changed.
     #[error("all slots of the command ledger are taken, or its queue of commands is full")]
     NoSlot,
+    /// 0x02, of an originator without a slot, while no slot is free. Nothing has changed.
+    #[error("all slots of the command ledger are taken (see enip ledger and --forget, or configure more originators)")]
+    SlotsTaken,
+    /// 0x02, while a slot is the originator's or free. Nothing has changed.
+    #[error("the device's queue of commands is full (try again later, or configure a larger queue)")]
+    QueueFull,
     /// 0x05.
     #[error("the device has no command ledger")]
     NoLedger,
@@ -53,6 +59,12 @@ impl LedgerRefusal {
     pub fn may_be_executed(self) -> bool
         ensures { result ≡ may_be_executed self }
     {
-        !matches!(self, LedgerRefusal::NoSlot | LedgerRefusal::LastPending)
+        !matches!(
+            self,
+            LedgerRefusal::NoSlot
+                | LedgerRefusal::SlotsTaken
+                | LedgerRefusal::QueueFull
+                | LedgerRefusal::LastPending
+        )
     }
 }

@@ -8,7 +8,10 @@ use crate::once_options::OnceOptions;
 use crate::pauses::next_pause;
 use crate::request::print_refusal;
 use cip_bytes::StatusText;
-use cip_commander::{CommandOutcome, CommandRefused, Commander};
+use cip_commander::{
+    COUNTS_REQUEST, CommandOutcome, CommandRefused, Commander, SlotsFault, last_request, read_counts,
+    read_last,
+};
 use cip_objects::ReplyBuf;
 use enip_cli::{LockedFile, OsArg, exists, front_of, option_file_name};
 use enip_client::ClientFault;
@@ -33,6 +36,9 @@ const LOCK_INTERVAL: u64 = 20;
 
 /// How long to wait before a device is tried again, in milliseconds (ours).
 const RETRY_DELAY: u64 = 100;
+
+/// The general status of Get_Last if the originator has no slot (ours).
+const UNKNOWN_ORIGINATOR: u8 = 0x16;
 
 /// The bytes of a sequence count, which precedes a request on a connection. (Volume 1, transport class 3.)
 const COUNT_SIZE: usize = 2;
@@ -69,6 +75,33 @@ pub(crate) fn run_once<'a>(
         (None, PendingChoice::Abandon) => run.give_up(),
         (None, _) => run.send(&[]),
     }
+}
+
+/// The originator and the last number of a command file, for `enip ledger --forget`. Its last command must not be
+/// pending.
+pub(crate) fn slot_of_file<'a>(
+    rt: &HostRuntime,
+    args: &[OsArg],
+    device: Device<'a>,
+    file: &'a str,
+) -> Result<(u64, u32), CommandError<'a>> {
+    let run = OnceRun {
+        rt,
+        device,
+        address: HostPort::parse(device.address)?,
+        options: OnceOptions::of_file(file),
+        name: option_file_name(args, "--forget", file),
+    };
+    run.require_file()?;
+    let locked = run.lock()?;
+    let Some(commander) = run.read(&locked)? else {
+        return Err(run.no_file());
+    };
+    if commander.pending_request().is_some() {
+        let reason = Reason::Named(file, NamedReason::CommandPending);
+        return Err(CommandError::new(Fault::Once(OnceRefusal::Differs), reason));
+    }
+    Ok((commander.originator(), commander.last_number()))
 }
 
 impl<'a> OnceRun<'a, '_> {
@@ -170,7 +203,10 @@ impl<'a> OnceRun<'a, '_> {
                 let reason = Reason::Named(self.device.address, NamedReason::InDoubt);
                 Err(CommandError::of_reason(reason).with_note(self.unanswered()))
             }
-            CommandOutcome::Refused(status) => Err(self.error_of_ledger(status)),
+            CommandOutcome::Refused(status) => {
+                let refusal = self.refusal_of(commander.originator(), status);
+                Err(self.error_of_ledger(status, refusal))
+            }
             CommandOutcome::Malformed | CommandOutcome::NotPending | CommandOutcome::StillPending =>
                 Err(self.malformed().with_note(self.unanswered())),
         }
@@ -451,9 +487,46 @@ impl<'a> OnceRun<'a, '_> {
         )
     }
 
+    /// What it means that the ledger refused a command of this originator with a general status.
+    fn refusal_of(&self, originator: u64, status: u8) -> LedgerRefusal {
+        match LedgerRefusal::of(status) {
+            LedgerRefusal::NoSlot => self.which_is_full(originator),
+            refusal => refusal,
+        }
+    }
+
+    /// Whether the slots are taken or the queue is full: the ledger refuses a command of this originator with the same
+    /// status. The device is asked for the originator's slot, and without one for the free slots. `NoSlot` if it does
+    /// not answer.
+    fn which_is_full(&self, originator: u64) -> LedgerRefusal {
+        let mut reply = ReplyBuf::new();
+        let last = last_request(originator);
+        if self
+            .exchange_once(last.as_slice(), false, &mut reply)
+            .is_err()
+        {
+            return LedgerRefusal::NoSlot;
+        }
+        match read_last(reply.as_slice()) {
+            Ok(_) => return LedgerRefusal::QueueFull,
+            Err(SlotsFault::Refused(UNKNOWN_ORIGINATOR, _)) => {}
+            Err(_) => return LedgerRefusal::NoSlot,
+        }
+        if self
+            .exchange_once(&COUNTS_REQUEST, false, &mut reply)
+            .is_err()
+        {
+            return LedgerRefusal::NoSlot;
+        }
+        match read_counts(reply.as_slice()) {
+            Ok((slots, taken)) if taken < slots => LedgerRefusal::QueueFull,
+            Ok(_) => LedgerRefusal::SlotsTaken,
+            Err(_) => LedgerRefusal::NoSlot,
+        }
+    }
+
     /// The error of a command that the ledger refused with a general status.
-    fn error_of_ledger(&self, status: u8) -> CommandError<'a> {
-        let refusal = LedgerRefusal::of(status);
+    fn error_of_ledger(&self, status: u8, refusal: LedgerRefusal) -> CommandError<'a> {
         let note = if refusal.may_be_executed() {
             Note::StillPending
         } else {

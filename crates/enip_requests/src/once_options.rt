@@ -19,6 +19,15 @@ pub(crate) struct OnceOptions<'a> {
 }
 
 impl<'a> OnceOptions<'a> {
+    /// The options without which a command file is only read.
+    pub(crate) fn of_file(file: &'a str) -> OnceOptions<'a> {
+        OnceOptions {
+            file,
+            tries: 1,
+            choice: PendingChoice::Same,
+        }
+    }
+
     /// The options in the arguments. `None` without `--once`.
     pub(crate) fn from_matches(
         matches: &ArgMatches<'a>,

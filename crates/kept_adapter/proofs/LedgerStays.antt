@@ -169,7 +169,9 @@ room_action ledger max_size asked =
     (room_by_slot ledger max_size command (slot_of command.originator ledger.taken) refl)))
     (room_if ledger (asked.service == services.GET_LAST) _ _ tt
     (room_if ledger (asked.service == services.FORGET) _ _ (room_forget ledger asked.data)
-    (room_if ledger (asked.service == 0x0e) _ _ tt (room_if ledger (asked.service == 0x03) _ _ tt tt)))))
+    (room_if ledger (asked.service == 0x0e) _ _ tt
+    (room_if ledger (asked.service == 0x03) _ _ tt
+    (room_if ledger (asked.service == services.GET_SLOTS) _ _ tt tt))))))
     tt)
 
 -- The router decides what becomes of a command, and not whether there is room for it.
