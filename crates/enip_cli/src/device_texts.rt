@@ -44,7 +44,7 @@ its last command, and whether that is done, pending or in doubt.
 With --forget, it frees a slot, and prints `freed` and that line, or `no slot`
 if the originator has none. Free a slot only if its originator will not repeat
 its last command: once the slot is free, the device executes that again. A
-command in the queue of the device stays there.
+slot whose command is pending is not freed.
 
 If the device refuses, the output is `refused 0xGG`, as of `enip get`. With
 --json, it is an object on one line.

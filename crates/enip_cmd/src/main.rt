@@ -11,7 +11,8 @@ use enip_client::ListCommand;
 use enip_common::{ARGUMENTS_REFUSED, CommandError};
 use enip_device::run_serve;
 use enip_requests::{
-    Query, is_help_of_objects, run_call, run_get, run_help_of_objects, run_query, run_set, run_slots,
+    Query, is_help_of_objects, run_call, run_get, run_help_of_objects, run_query, run_set,
+    run_slots,
 };
 use enip_sessions::{run_batch, run_inspect, run_watch};
 use explained::explained;

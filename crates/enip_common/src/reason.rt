@@ -147,8 +147,8 @@ pub enum NamedReason {
     /// The command file has a pending command.
     #[error("a command is pending (see --pending and --abandon)")]
     CommandPending,
-    /// The slot of the ledger is that of another command.
-    #[error("the last command of the slot has another number (see enip ledger)")]
+    /// The slot of the ledger is that of another command, or its command is pending.
+    #[error("the last command of the slot has another number, or is still pending (see enip ledger)")]
     OtherNumber,
     /// The device does not know whether it executed the command.
     #[error("the device does not know whether it executed the command, and its owner has to settle that")]

@@ -1,6 +1,6 @@
 //! `enip ledger`: lists the slots of a device's command ledger, or frees one.
 
-use crate::ledger_jobs::{Freeing, LedgerJob, Listing};
+use crate::ledger_jobs::{Freeing, JobFault, LedgerJob, Listing};
 use crate::ledger_task::LedgerTask;
 use crate::once::slot_of_file;
 use crate::slot_texts::{print_freed, print_slots};
@@ -42,7 +42,7 @@ pub(crate) fn run_ledger<'a>(
 
 /// Prints the slots of a ledger.
 fn list_slots<'a>(rt: &HostRuntime, device: Device<'a>) -> Result<u8, CommandError<'a>> {
-    let mut listing = Listing::new();
+    let mut listing = Listing::new(rt.alloc());
     run_job(rt, device, &mut listing)?;
     if let Some(fault) = listing.fault() {
         return end_by_fault(rt, device, fault);
@@ -70,7 +70,7 @@ fn free_slot<'a>(
 }
 
 /// Ends the output of a command that succeeded.
-fn finish<'a, O: Write>(
+fn finish<'a, O: Write + Drop>(
     output: ErrorKeeping<O>,
     printed: std::io::Result<()>,
 ) -> Result<u8, CommandError<'a>> {
@@ -124,11 +124,15 @@ fn run_job<'a, J: LedgerJob>(
 fn end_by_fault<'a>(
     rt: &HostRuntime,
     device: Device<'a>,
-    fault: SlotsFault,
+    fault: JobFault,
 ) -> Result<u8, CommandError<'a>> {
-    let SlotsFault::Refused(status, extended) = fault else {
-        let failure = RequestFailure::Client(ClientFault::Malformed);
-        return Err(error_of_failure(failure, device.address, None));
+    let (status, extended) = match fault {
+        JobFault::Reply(SlotsFault::Refused(status, extended)) => (status, extended),
+        JobFault::Reply(SlotsFault::Malformed) => {
+            let failure = RequestFailure::Client(ClientFault::Malformed);
+            return Err(error_of_failure(failure, device.address, None));
+        }
+        JobFault::Memory => return Err(CommandError::of_memory()),
     };
     let mut output = ErrorKeeping::new(rt.stdout());
     let shown = show_refusal(rt.alloc(), &mut output, device.style, status, extended);

@@ -1,17 +1,31 @@
 //! What a ledger is asked, request by request: all of its slots, or to free one.
 
-use arrayvec::ArrayVec;
 use cip_commander::{
     CommandState, LedgerSlot, SlotList, SlotRequest, SlotsFault, forget_request, last_request,
     read_forgotten, read_last, slots_request,
 };
 use cip_ledger::MOST_ORIGINATORS;
+use std::alloc::Global;
 
 /// The most slots of a ledger.
 const MOST_SLOTS: usize = MOST_ORIGINATORS as usize;
 
 /// The general status of Get_Last if the originator has no slot (ours).
 const NO_SLOT: u8 = 0x16;
+
+/// Why a job fails.
+#[derive(Clone, Copy)]
+pub(crate) enum JobFault {
+    /// By a reply.
+    Reply(SlotsFault),
+    Memory,
+}
+
+impl From<SlotsFault> for JobFault {
+    fn from(fault: SlotsFault) -> JobFault {
+        JobFault::Reply(fault)
+    }
+}
 
 /// Requests to a ledger, each one after the reply to the one before.
 pub(crate) trait LedgerJob {
@@ -25,17 +39,17 @@ pub(crate) trait LedgerJob {
 /// Reads the slots of a ledger.
 #[derive(Drop)]
 pub(crate) struct Listing {
-    slots: ArrayVec<LedgerSlot, MOST_SLOTS>,
+    slots: Vec<LedgerSlot>,
     /// How many slots are taken, by the last reply.
     taken: u16,
     is_over: bool,
-    fault: Option<SlotsFault>,
+    fault: Option<JobFault>,
 }
 
 impl Listing {
-    pub(crate) fn new() -> Listing {
+    pub(crate) fn new(alloc: Global) -> Listing {
         Listing {
-            slots: ArrayVec::new(),
+            slots: Vec::new(alloc),
             taken: 0,
             is_over: false,
             fault: None,
@@ -53,24 +67,27 @@ impl Listing {
     }
 
     /// Why a reply has no slots, if one has none.
-    pub(crate) fn fault(&self) -> Option<SlotsFault> {
+    pub(crate) fn fault(&self) -> Option<JobFault> {
         self.fault
     }
 
     /// Takes a reply. Each one that is not the last has a slot at least, so there are at most as many as slots.
-    fn take(&mut self, reply: &[u8]) -> Result<(), SlotsFault> {
+    fn take(&mut self, reply: &[u8]) -> Result<(), JobFault> {
         let list = SlotList::read(reply)?;
         self.taken = list.taken();
         let left = usize::from(self.taken).saturating_sub(self.slots.len());
         let count = list.count();
         if count > left || (count == 0 && left > 0) {
-            return Err(SlotsFault::Malformed);
+            return Err(JobFault::Reply(SlotsFault::Malformed));
         }
         self.is_over = count == left;
         for index in 0..count {
             let slot = list.slot(index).ok_or(SlotsFault::Malformed)?;
-            if self.slots.try_push(slot).is_err() {
-                return Err(SlotsFault::Malformed);
+            if self.slots.len() == MOST_SLOTS {
+                return Err(JobFault::Reply(SlotsFault::Malformed));
+            }
+            if self.slots.push(slot).is_err() {
+                return Err(JobFault::Memory);
             }
         }
         Ok(())
@@ -82,9 +99,7 @@ impl LedgerJob for Listing {
         if self.is_over {
             return None;
         }
-        Some(slots_request(
-            u16::try_from(self.slots.len()).unwrap_or(u16::MAX),
-        ))
+        Some(slots_request(u16::try_from(self.slots.len()).unwrap_or(u16::MAX)))
     }
 
     fn take_reply(&mut self, reply: &[u8]) {
@@ -138,9 +153,9 @@ impl Freeing {
     }
 
     /// Why the slot was not freed, if it was not.
-    pub(crate) fn fault(&self) -> Option<SlotsFault> {
+    pub(crate) fn fault(&self) -> Option<JobFault> {
         match self.step {
-            FreeingStep::Failed(fault) => Some(fault),
+            FreeingStep::Failed(fault) => Some(JobFault::Reply(fault)),
             _ => None,
         }
     }

@@ -1,7 +1,7 @@
 //! What `enip ledger` does: it lists the slots, or frees one.
 
-use clap::ArgMatches;
 use cip_names::parse_number;
+use clap::ArgMatches;
 use enip_common::{ArgumentError, NumberArgument, u32_of};
 
 /// The digits of an originator in a command file.

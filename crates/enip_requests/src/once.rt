@@ -9,8 +9,8 @@ use crate::pauses::next_pause;
 use crate::request::print_refusal;
 use cip_bytes::StatusText;
 use cip_commander::{
-    COUNTS_REQUEST, CommandOutcome, CommandRefused, Commander, SlotsFault, last_request, read_counts,
-    read_last,
+    COUNTS_REQUEST, CommandOutcome, CommandRefused, Commander, SlotsFault, last_request,
+    read_counts, read_last,
 };
 use cip_objects::ReplyBuf;
 use enip_cli::{LockedFile, OsArg, exists, front_of, option_file_name};

@@ -319,6 +319,8 @@ fn refusals_of_a_ledger(rt: HostRuntime) -> Result<(), Fail> {
         assert_eq!(rt; LedgerRefusal::of(status), refusal);
         assert_eq!(rt; refusal.may_be_executed(), may_be_executed);
     }
+    assert!(rt; !LedgerRefusal::SlotsTaken.may_be_executed());
+    assert!(rt; !LedgerRefusal::QueueFull.may_be_executed());
     let other = format!(in rt.alloc(); "{}", LedgerRefusal::of(0x13))?;
     assert_eq!(rt;
         other.as_str(),

@@ -95,6 +95,14 @@ fn of_commands_that_are_executed_once(rt: HostRuntime) -> Result<(), Fail> {
             LedgerRefusal::NoSlot,
             "all slots of the command ledger are taken, or its queue of commands is full",
         ),
+        (
+            LedgerRefusal::SlotsTaken,
+            "all slots of the command ledger are taken (see enip ledger and --forget, or configure more originators)",
+        ),
+        (
+            LedgerRefusal::QueueFull,
+            "the device's queue of commands is full (try again later, or configure a larger queue)",
+        ),
         (LedgerRefusal::NoLedger, "the device has no command ledger"),
         (
             LedgerRefusal::NumberPassed,

@@ -149,7 +149,13 @@ fn freed(rt: HostRuntime) -> Result<(), Fail> {
     check(&rt, &mut node, 504, &slots_from(0), &listed(3, &left));
     check(&rt, &mut node, 504, &slots_from(1), &listed(3, &left[1..]));
     let next = once(LIFE, 0x0102_0304_0506_0708, 0x0102_0305, ADD_FIVE);
-    check(&rt, &mut node, 504, &next, b"\xcb\x00\x00\x00\x00\xb2\x00\x00\x00\x0a\x00\x00\x00");
+    check(
+        &rt,
+        &mut node,
+        504,
+        &next,
+        b"\xcb\x00\x00\x00\x00\xb2\x00\x00\x00\x0a\x00\x00\x00",
+    );
     let first: &[u8] = b"\x08\x07\x06\x05\x04\x03\x02\x01\x05\x03\x02\x01\x00";
     let now = [first, ENTRIES[2], ENTRIES[3]];
     check(&rt, &mut node, 504, &slots_from(0), &listed(3, &now));
