@@ -26,6 +26,7 @@ pub(crate) enum CommandName {
     Get,
     Set,
     Call,
+    Once,
     Batch,
     Watch,
     Inspect,
@@ -40,13 +41,14 @@ pub(crate) enum CommandName {
 }
 
 /// The commands in the order in which the help lists them.
-pub(crate) static COMMANDS: [CommandName; 17] = [
+pub(crate) static COMMANDS: [CommandName; 18] = [
     CommandName::Serve,
     CommandName::Check,
     CommandName::Eds,
     CommandName::Get,
     CommandName::Set,
     CommandName::Call,
+    CommandName::Once,
     CommandName::Batch,
     CommandName::Watch,
     CommandName::Inspect,
@@ -70,6 +72,7 @@ impl CommandName {
             CommandName::Get => &command_rows::GET,
             CommandName::Set => &command_rows::SET,
             CommandName::Call => &command_rows::CALL,
+            CommandName::Once => &command_rows::ONCE,
             CommandName::Batch => &command_rows::BATCH,
             CommandName::Watch => &command_rows::WATCH,
             CommandName::Inspect => &command_rows::INSPECT,

@@ -125,6 +125,26 @@ Examples:
 
 For exit statuses, see `enip --help`.";
 
+pub(crate) const EXAMPLES_ONCE: &str = "\
+Examples:
+  enip once commands
+  enip once commands --json";
+
+pub(crate) const DETAILS_ONCE: &str = "\
+Reads a file that `enip call --once` or `enip set --once` keeps, and prints who
+gives the commands, the life of the device, the number of the last command, the
+request of the pending command, its id, the ids, requests and replies of the last
+commands with an id, and the last of these replies. Nothing is sent, and the
+file is not changed. Requests and replies are in hexadecimal.
+
+With --json it is an object instead.
+
+Examples:
+  enip once commands
+  enip once commands --json
+
+For exit statuses, see `enip --help`.";
+
 pub(crate) const EXAMPLES_BATCH: &str = "\
 Examples:
   enip batch 10.0.0.9 <requests.txt

@@ -7,10 +7,13 @@
 #![tactic(auto)]
 
 mod client;
+mod command_record;
 mod found_devices;
+mod identified;
 mod listing;
 mod objects_help;
 mod once;
+mod once_file;
 mod once_options;
 mod pauses;
 mod polling;
@@ -18,3 +21,4 @@ mod request;
 
 pub use client::{Query, run_call, run_get, run_query, run_set};
 pub use objects_help::{is_help_of_objects, run_help_of_objects};
+pub use once_file::run_once_file;
