@@ -14,11 +14,10 @@ mod reading;
 
 use crate::command_file::CommandFile;
 use cip_commander::Commander;
-use std::alloc::{AllocError, Global};
-
 pub use listing::{record_line, record_listing};
 pub use plan::{IdPlan, plan_id, reply_of_digits};
 pub use reading::{RecordFailure, has_ids_head, read_record};
+use std::alloc::{AllocError, Global};
 
 /// The bytes of the first line of a file without ids.
 pub(crate) const HEAD_SIZE: usize = 16;
@@ -100,8 +99,8 @@ pub fn kept_after<'a>(
 ) -> Result<Vec<DoneCommand<'a>>, AllocError>
     requires { 0 < most }
     ensures kept { IfOk result (λ kept. map done_in kept.items
-        ≡ kept_after (map done_in done.now) (done_in command) most) }
-    ensures distinct { AreDistinct (map done_in done.now) → has_id (map done_in done.now) command.id.now ≡ false
+        ≡ kept_after (map done_in done.now) (done_in command.entry) most) }
+    ensures distinct { AreDistinct (map done_in done.now) → has_id (map done_in done.now) command.entry.id.now ≡ false
         → IfOk result (λ kept. AreDistinct (map done_in kept.items)) }
 {
     let dropped = done.len().saturating_sub(most - 1);
@@ -116,20 +115,20 @@ pub fn kept_after<'a>(
 /// # Errors
 ///
 /// `AllocError` if memory is refused.
-pub fn record_text(alloc: Global, record: &CommandRecord<'_>) -> Result<Vec<u8>, AllocError>
-    ensures { IfOk result (λ text. text.items ≡ record_text (record_in record.now)) }
+pub fn record_text(alloc: Global, kept: &CommandRecord<'_>) -> Result<Vec<u8>, AllocError>
+    ensures { IfOk result (λ text. text.items ≡ record_text (record_in kept.now)) }
 {
-    let whole = format!(in alloc; "{}", CommandFile(&record.commander))?;
+    let whole = format!(in alloc; "{}", CommandFile(&kept.commander))?;
     let mut text = Vec::new(alloc);
-    if record.pending_id.is_none() && record.done.is_empty() {
+    if kept.pending_id.is_none() && kept.done.is_empty() {
         text.extend_from_slice(whole.as_bytes())?;
         return Ok(text);
     }
-    let count = format!(in alloc; "{}", record.done.len())?;
+    let count = format!(in alloc; "{}", kept.done.len())?;
     text.extend_from_slice(b"enip commands 2\n")?;
     append_line(&mut text, b"ids ", count.as_bytes())?;
-    append_commands(&mut text, record.done.as_slice())?;
-    append_line(&mut text, b"pending-id ", pending_id_text(record.pending_id))?;
+    append_commands(&mut text, kept.done.as_slice())?;
+    append_line(&mut text, b"pending-id ", pending_id_text(kept.pending_id))?;
     text.extend_from_slice(&whole.as_bytes()[HEAD_SIZE..])?;
     Ok(text)
 }
@@ -145,7 +144,10 @@ pub(crate) fn pending_id_text<'a>(id: Option<&'a [u8]>) -> &'a [u8]
 }
 
 /// Appends the lines of commands.
-pub(crate) fn append_commands(text: &mut Vec<u8>, done: &[DoneCommand<'_>]) -> Result<(), AllocError>
+pub(crate) fn append_commands(
+    text: &mut Vec<u8>,
+    done: &[DoneCommand<'_>],
+) -> Result<(), AllocError>
     ensures { OnOk result (text.new.items ≡ text.old.items ++ dones_text (map done_in done.now)) }
 {
     for command in done {

@@ -10,9 +10,7 @@ use cip_bytes::StatusText;
 use cip_route::RouteFailure;
 use cip_values::{ValueFault, ValueType};
 use enip_client::ClientFault;
-use enip_faults::{
-    Digits, LedgerRefusal, LineFault, ProgramFault, RecordFault, RequestFailure,
-};
+use enip_faults::{Digits, LedgerRefusal, LineFault, ProgramFault, RecordFault, RequestFailure};
 use std::alloc::{AllocError, Global};
 use std::fmt;
 use std::io::{self, ErrorKind};

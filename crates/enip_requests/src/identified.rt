@@ -19,11 +19,7 @@ const LOOKS: usize = 2;
 
 impl<'a> OnceRun<'a, '_> {
     /// Sends a command with an id, unless it was executed before, and prints its reply. Returns the exit status.
-    pub(crate) fn send_identified(
-        &self,
-        id: &str,
-        request: &[u8],
-    ) -> Result<u8, CommandError<'a>> {
+    pub(crate) fn send_identified(&self, id: &str, request: &[u8]) -> Result<u8, CommandError<'a>> {
         let digits = hex::encode(self.rt.alloc(), request)?;
         let life = self.life_without_file()?;
         let file = self.lock()?;
@@ -86,11 +82,7 @@ impl<'a> OnceRun<'a, '_> {
     }
 
     /// Prints on standard error how a command ended that is not that of the arguments. Returns 0.
-    pub(crate) fn print_end(
-        &self,
-        reply: &[u8],
-        number: u32,
-    ) -> Result<u8, CommandError<'a>> {
+    pub(crate) fn print_end(&self, reply: &[u8], number: u32) -> Result<u8, CommandError<'a>> {
         let alloc = self.rt.alloc();
         let Ok(reply) = ReplyView::read(reply) else {
             return Err(self.malformed());

@@ -9,29 +9,24 @@ use crate::once_options::OnceOptions;
 use crate::pauses::next_pause;
 use crate::request::print_refusal;
 use cip_bytes::StatusText;
-use cip_commander::{CommandOutcome, CommandRefused, Commander};
+use cip_commander::{CommandOutcome, Commander};
 use cip_objects::ReplyBuf;
-use enip_cli::{LockedFile, OsArg, exists, front_of, option_file_name};
+use enip_cli::{LockedFile, OsArg, exists, option_file_name};
 use enip_client::ClientFault;
 use enip_commands::{
-    CommandRecord, DoneCommand, LIFE_REQUEST, LedgerRefusal, LifeFault, OnceRefusal, PendingChoice,
-    ReplyOutcome, RequestFailure, WANTS, begin_once, check_once, exchange_with, has_ids_head, kept_after,
-    read_life, record_text, show_reply, show_resumed,
+    CommandRecord, DoneCommand, LIFE_REQUEST, LifeFault, PendingChoice, ReplyOutcome,
+    RequestFailure, WANTS, begin_once, check_once, exchange_with, kept_after, read_life,
+    show_reply, show_resumed,
 };
 use enip_common::{
-    CLOCK, CommandError, ErrorKeeping, Fault, HostPort, NamedReason, Note, OwnedDigits, Reason,
-    SocketSink, SocketSource, StateFile, StorageReason, SystemError, print_reason,
+    CLOCK, CommandError, ErrorKeeping, Fault, HostPort, NamedReason, Note, Reason, SocketSink,
+    SocketSource, print_reason,
 };
 use remote_device::{Device, Request, error_of_failure};
-use std::io::{self, ErrorKind};
-use std::random::RandomSource;
 use std::thread;
 use std::time::{Duration, Instant};
 
 const OUTPUT: &str = "standard output";
-
-/// How long to wait before a file in use is tried again, in milliseconds (ours).
-const LOCK_INTERVAL: u64 = 20;
 
 /// How long to wait before a device is tried again, in milliseconds (ours).
 const RETRY_DELAY: u64 = 100;
@@ -58,7 +53,7 @@ pub(crate) struct OnceRun<'a, 'r> {
     address: HostPort<'a>,
     pub(crate) options: OnceOptions<'a>,
     /// The name of the command file.
-    name: &'r [u8],
+    pub(crate) name: &'r [u8],
 }
 
 /// Sends a command until the device replies that it is executed, and prints the reply. Without a request, sends or gives
@@ -162,7 +157,9 @@ impl<'a> OnceRun<'a, '_> {
         let mut record = record;
         let choice = self.options.choice;
         check_once(&record.commander, request, choice).map_err(|why| self.error_of_refusal(
-            &record.commander, request, why,
+            &record.commander,
+            request,
+            why,
         ))?;
         let note = self.note_before(&record.commander);
         let life = match life {
@@ -303,11 +300,7 @@ impl<'a> OnceRun<'a, '_> {
     }
 
     /// Prints the reply to a command. If an earlier run has sent it, with this number, says so. Returns the exit status.
-    pub(crate) fn print(
-        &self,
-        reply: &[u8],
-        resumed: Option<u32>,
-    ) -> Result<u8, CommandError<'a>> {
+    pub(crate) fn print(&self, reply: &[u8], resumed: Option<u32>) -> Result<u8, CommandError<'a>> {
         let outcome = match self.device.quiet_outcome(reply) {
             Some(outcome) => outcome,
             None => self.show(reply, resumed)?,
@@ -320,11 +313,7 @@ impl<'a> OnceRun<'a, '_> {
     }
 
     /// Prints the reply to a command on standard output.
-    fn show(
-        &self,
-        reply: &[u8],
-        resumed: Option<u32>,
-    ) -> Result<ReplyOutcome, CommandError<'a>> {
+    fn show(&self, reply: &[u8], resumed: Option<u32>) -> Result<ReplyOutcome, CommandError<'a>> {
         let (alloc, style) = (self.rt.alloc(), self.device.style);
         let mut output = ErrorKeeping::new(self.rt.stdout());
         let shown = match resumed {
@@ -359,7 +348,7 @@ impl<'a> OnceRun<'a, '_> {
     }
 
     /// What is known of the command once the device has put it into its queue.
-    fn queued(&self) -> Note {
+    pub(crate) fn queued(&self) -> Note {
         match self.options.choice {
             PendingChoice::Abandon => Note::QueuedNew,
             PendingChoice::Same | PendingChoice::Send => Note::Queued,
@@ -444,86 +433,6 @@ impl<'a> OnceRun<'a, '_> {
         }
     }
 
-    /// Locks the command file. Waits for as long as the timeout if another process uses it.
-    pub(crate) fn lock(&self) -> Result<LockedFile, CommandError<'a>> {
-        self.look()?;
-        let start = self.now()?;
-        for _ in 0..u64::MAX {
-            match LockedFile::try_lock(self.rt.alloc(), self.name) {
-                Ok(Some(file)) => return Ok(file),
-                Ok(None) => {}
-                Err(error) => return Err(self.error_of_lock(error)),
-            }
-            let elapsed = start
-                .elapsed(self.rt)
-                .map_err(|error| CommandError::of_system(CLOCK, error))?;
-            if self.device.timeout.deadline_over(self.rt).is_some() {
-                break;
-            }
-            if let Some(limit) = self.device.timeout.limit() {
-                if elapsed >= limit {
-                    break;
-                }
-            }
-            thread::sleep(self.rt, Duration::from_millis(LOCK_INTERVAL));
-        }
-        Err(CommandError::of_reason(Reason::Named(self.options.file, NamedReason::InUse)).with_note(
-            Note::NotSent,
-        ))
-    }
-
-    /// Refuses a file that is no command file before another one is made beside it.
-    fn look(&self) -> Result<(), CommandError<'a>> {
-        match front_of(self.rt.alloc(), self.name) {
-            Ok(None) => Ok(()),
-            // such a file may be longer than its front
-            Ok(Some(text)) if has_ids_head(text.as_slice()) => Ok(()),
-            Ok(Some(text)) => {
-                match record_in(self.rt.alloc(), self.options.file, text.as_slice()) {
-                    Ok(_) => Ok(()),
-                    Err(error) => Err(error),
-                }
-            }
-            Err(error) => Err(self.error_of_file(error)),
-        }
-    }
-
-    /// The text of the command file. `None` if there is no file.
-    pub(crate) fn read(&self, file: &LockedFile) -> Result<Option<Vec<u8>>, CommandError<'a>> {
-        match file.read(self.rt.alloc()) {
-            Ok(text) => Ok(Some(text)),
-            Err(error) if error.kind() == ErrorKind::NotFound => Ok(None),
-            Err(error) => Err(self.error_of_file(error)),
-        }
-    }
-
-    /// What the command file with this text has, or a new one.
-    pub(crate) fn record_of<'t>(
-        &self,
-        text: &'t Option<Vec<u8>>,
-    ) -> Result<CommandRecord<'t>, CommandError<'a>> {
-        match text {
-            Some(text) => record_in(self.rt.alloc(), self.options.file, text.as_slice()),
-            None => Ok(CommandRecord {
-                commander: Commander::new(0, self.new_originator()?, 0),
-                pending_id: None,
-                done: Vec::new(self.rt.alloc()),
-            }),
-        }
-    }
-
-    /// Writes the command file.
-    pub(crate) fn write(
-        &self,
-        file: &LockedFile,
-        record: &CommandRecord<'_>,
-    ) -> Result<(), CommandError<'a>> {
-        let alloc = self.rt.alloc();
-        let text = record_text(alloc, record)?;
-        file.replace(alloc, text.as_slice())
-            .map_err(|error| self.error_of_file(error))
-    }
-
     /// Checks that a connection of the size that is opened holds the pending command.
     pub(crate) fn check_size(&self, commander: &Commander) -> Result<(), CommandError<'a>> {
         let message = commander.pending().unwrap_or(&[]);
@@ -534,129 +443,8 @@ impl<'a> OnceRun<'a, '_> {
         Ok(())
     }
 
-    /// Checks that there is a command file.
-    fn require_file(&self) -> Result<(), CommandError<'a>> {
-        if exists(self.name) {
-            Ok(())
-        } else {
-            Err(self.no_file())
-        }
-    }
-
-    /// A random number as the originator of a new command file.
-    fn new_originator(&self) -> Result<u64, CommandError<'a>> {
-        let mut bytes = [0; 8];
-        self.rt
-            .fill_bytes(&mut bytes)
-            .map_err(|error| CommandError::of_system("random numbers", error))?;
-        Ok(u64::from_le_bytes(bytes))
-    }
-
-    fn now(&self) -> Result<Instant, CommandError<'a>> {
+    pub(crate) fn now(&self) -> Result<Instant, CommandError<'a>> {
         Instant::now(self.rt).map_err(|error| CommandError::of_system(CLOCK, error))
-    }
-
-    /// The request of the pending command, for a message. Empty if none is pending.
-    fn digits_of_pending(&self, commander: &Commander) -> Result<OwnedDigits, CommandError<'a>> {
-        let request = commander.pending_request().unwrap_or(&[]);
-        Ok(OwnedDigits::new(self.rt.alloc(), request)?)
-    }
-
-    fn error_of_file(&self, error: io::Error) -> CommandError<'a> {
-        CommandError::of_system(self.options.file, error)
-    }
-
-    /// The error of the file that is locked.
-    fn error_of_lock(&self, error: io::Error) -> CommandError<'a> {
-        let file = match error.kind() {
-            ErrorKind::OutOfMemory => return CommandError::of_memory(),
-            ErrorKind::NotFound | ErrorKind::NotADirectory => StateFile::Folder,
-            _ => StateFile::Lock,
-        };
-        let why = StorageReason::System(SystemError(error));
-        CommandError::of_reason(Reason::Storage(self.options.file, file, why))
-    }
-
-    fn no_file(&self) -> CommandError<'a> {
-        self.error_of_file(io::Error::from(ErrorKind::NotFound))
-    }
-
-    /// The error of a command without a reply. `is_queued` is whether the device has put it into its queue before.
-    fn error_of_exchange(&self, error: CommandError<'a>, is_queued: bool) -> CommandError<'a> {
-        if !is_queued {
-            return error.with_note(self.unanswered());
-        }
-        match self.device.timeout.deadline_over(self.rt) {
-            Some(deadline) => self.not_executed_yet(deadline),
-            None => error.with_note(self.queued()),
-        }
-    }
-
-    /// The error of a command that is still in the queue of the device at the deadline.
-    fn not_executed_yet(&self, deadline: &'a str) -> CommandError<'a> {
-        let reason = Reason::NotExecutedYet(self.device.address, deadline);
-        CommandError::of_reason(reason).with_note(self.queued())
-    }
-
-    /// The error of a device whose reply has another form.
-    pub(crate) fn malformed(&self) -> CommandError<'a> {
-        error_of_failure(
-            RequestFailure::Client(ClientFault::Malformed),
-            self.device.address,
-            None,
-        )
-    }
-
-    /// The error of a command that the ledger refused with a general status.
-    fn error_of_ledger(&self, status: u8) -> CommandError<'a> {
-        let refusal = LedgerRefusal::of(status);
-        let note = if refusal.may_be_executed() {
-            Note::StillPending
-        } else {
-            Note::NotExecuted
-        };
-        let reason = Reason::Ledger(self.device.address, refusal);
-        CommandError::new(fault_of_status(status, 0), reason).with_note(note)
-    }
-
-    /// The error of a command that is not sent because of the command file.
-    pub(crate) fn error_of_refusal(
-        &self,
-        commander: &Commander,
-        request: &[u8],
-        refusal: OnceRefusal,
-    ) -> CommandError<'a> {
-        match self.reason_of_refusal(commander, request, refusal) {
-            Ok(reason) => CommandError::new(Fault::Once(refusal), reason),
-            Err(error) => error,
-        }
-    }
-
-    fn reason_of_refusal(
-        &self,
-        commander: &Commander,
-        request: &[u8],
-        refusal: OnceRefusal,
-    ) -> Result<Reason<'a>, CommandError<'a>> {
-        let file = self.options.file;
-        match refusal {
-            OnceRefusal::Differs => {
-                let pending = self.digits_of_pending(commander)?;
-                let given = OwnedDigits::new(self.rt.alloc(), request)?;
-                Ok(Reason::OtherPending(file, pending, given))
-            }
-            OnceRefusal::OtherLife => {
-                Ok(Reason::OtherLife(file, self.digits_of_pending(commander)?))
-            }
-            OnceRefusal::NonePending => Ok(Reason::Named(file, NamedReason::NonePending)),
-            OnceRefusal::OtherRequest => {
-                Ok(Reason::OtherRequest(file, self.options.id.unwrap_or("")))
-            }
-            OnceRefusal::Command(CommandRefused::TooLong | CommandRefused::NotARequest) => {
-                Ok(Reason::Request)
-            }
-            OnceRefusal::Command(_) => Ok(Reason::State),
-        }
     }
 }
 
@@ -680,6 +468,6 @@ fn too_long<'a>() -> CommandError<'a> {
 }
 
 /// The fault of a request that the device refused and that is not settled by that.
-fn fault_of_status(status: u8, extended: u16) -> Fault {
+pub(crate) fn fault_of_status(status: u8, extended: u16) -> Fault {
     Fault::Request(RequestFailure::Client(ClientFault::Refused(status, extended)))
 }

@@ -18,8 +18,9 @@ pub fn run_once_file<'a>(
 ) -> Result<u8, CommandError<'a>> {
     let alloc = rt.alloc();
     let name = matches.get_str("FILE").unwrap_or("");
-    let text = read_file(alloc, args, name, LONGEST)
-        .map_err(|error| CommandError::of_system(name, error))?;
+    let text = read_file(alloc, args, name, LONGEST).map_err(|error| CommandError::of_system(
+        name, error,
+    ))?;
     let record = match record_in(alloc, name, text.as_slice()) {
         Ok(record) => record,
         Err(error) => return Err(error),

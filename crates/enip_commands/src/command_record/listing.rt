@@ -22,17 +22,17 @@ use std::alloc::{AllocError, Global};
 /// # Errors
 ///
 /// `AllocError` if memory is refused.
-pub fn record_listing(alloc: Global, record: &CommandRecord<'_>) -> Result<Vec<u8>, AllocError>
-    ensures { IfOk result (λ text. text.items ≡ listing_text (record_in record.now)) }
+pub fn record_listing(alloc: Global, kept: &CommandRecord<'_>) -> Result<Vec<u8>, AllocError>
+    ensures { IfOk result (λ text. text.items ≡ listing_text (record_in kept.now)) }
 {
-    let whole = format!(in alloc; "{}", CommandFile(&record.commander))?;
-    let count = format!(in alloc; "{}", record.done.len())?;
-    let last = last_reply(record.done.as_slice()).unwrap_or(b"none");
+    let whole = format!(in alloc; "{}", CommandFile(&kept.commander))?;
+    let count = format!(in alloc; "{}", kept.done.len())?;
+    let last = last_reply(kept.done.as_slice()).unwrap_or(b"none");
     let mut text = Vec::new(alloc);
     text.extend_from_slice(&whole.as_bytes()[HEAD_SIZE..])?;
-    append_line(&mut text, b"pending-id ", pending_id_text(record.pending_id))?;
+    append_line(&mut text, b"pending-id ", pending_id_text(kept.pending_id))?;
     append_line(&mut text, b"ids ", count.as_bytes())?;
-    append_commands(&mut text, record.done.as_slice())?;
+    append_commands(&mut text, kept.done.as_slice())?;
     append_line(&mut text, b"last reply ", last)?;
     Ok(text)
 }
@@ -52,20 +52,20 @@ fn last_reply<'a>(done: &[DoneCommand<'a>]) -> Option<&'a [u8]>
 /// # Errors
 ///
 /// `AllocError` if memory is refused.
-pub fn record_line(alloc: Global, record: &CommandRecord<'_>) -> Result<String, AllocError>
-    ensures { IfOk result (λ line. string_bytes line ≡ compact_text (record_data (record_in record.now))) }
+pub fn record_line(alloc: Global, kept: &CommandRecord<'_>) -> Result<String, AllocError>
+    ensures { IfOk result (λ line. string_bytes line ≡ compact_text (record_data (record_in kept.now))) }
 {
-    record_value(alloc, record)?.to_string(alloc)
+    record_value(alloc, kept)?.to_string(alloc)
 }
 
-fn record_value(alloc: Global, record: &CommandRecord<'_>) -> Result<Json, AllocError>
-    ensures { IfOk result (λ object. view object ≡ record_data (record_in record.now)) }
+fn record_value(alloc: Global, kept: &CommandRecord<'_>) -> Result<Json, AllocError>
+    ensures { IfOk result (λ object. view object ≡ record_data (record_in kept.now)) }
 {
-    let commander = &record.commander;
-    let ids = done_values(alloc, record.done.as_slice())?;
-    let last = text_value(alloc, last_reply(record.done.as_slice()))?;
+    let commander = &kept.commander;
+    let ids = done_values(alloc, kept.done.as_slice())?;
+    let last = text_value(alloc, last_reply(kept.done.as_slice()))?;
     let originator = hex::encode(alloc, &commander.originator().to_be_bytes())?;
-    let pending = pending_value(alloc, commander.pending_request(), record.pending_id)?;
+    let pending = pending_value(alloc, commander.pending_request(), kept.pending_id)?;
     json!(in alloc; {"ids": Json::Array(ids), "last_reply": last, "life": commander.life(),
         "number": commander.last_number(), "originator": &originator, "pending": pending})
 }
@@ -83,7 +83,7 @@ fn done_values(alloc: Global, done: &[DoneCommand<'_>]) -> Result<Vec<Json>, All
 
 /// The object of a command that was executed.
 fn done_value(alloc: Global, command: DoneCommand<'_>) -> Result<Json, AllocError>
-    ensures { IfOk result (λ object. view object ≡ done_data (done_in command)) }
+    ensures { IfOk result (λ object. view object ≡ done_data (done_in command.entry)) }
 {
     let id = latin_text(alloc, command.id)?;
     let reply = latin_text(alloc, command.reply)?;

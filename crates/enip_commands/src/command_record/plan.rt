@@ -1,14 +1,15 @@
 //! What is done about a command with an id.
 
-ghost use Rattle.std.specs.Prelude.{◌≡◌, ◌≤◌, ℕ, List, length};
-ghost use Rattle.std.specs.Prelude.{IsSomeAnd};
+ghost use Rattle.std.specs.Prelude.{◌≡◌, ◌≤◌, ℕ, List, IsSomeAnd, length, map, option_map};
+ghost use Rattle.std.specs.List.{find};
+ghost use Rattle.std.specs.Str.{bytes_eq};
 ghost use Rattle.cip_bytes.specs.Numbers.{AreBytes};
 ghost use Rattle.std.specs.Option.{option_copied};
 ghost use Rattle.hex.specs.Hex.{encode_lower};
 ghost use Rattle.cip_bytes.specs.Reading.{map_ok};
-ghost use Rattle.enip_commands.specs.CommandRecords.{record_in, plan_in, plan_of_id, unknown_plan};
+ghost use Rattle.enip_commands.specs.CommandRecords.{record_in, done_in, plan_in, plan_of_id, unknown_plan};
 
-use crate::command_record::CommandRecord;
+use crate::command_record::{CommandRecord, DoneCommand};
 use cip_objects::{REPLY_LIMIT, ReplyBuf};
 use enip_faults::OnceRefusal;
 
@@ -29,25 +30,31 @@ pub enum IdPlan<'a> {
 ///
 /// `OtherRequest` if the id is that of a command with another request: one that was executed, or the pending one.
 pub fn plan_id<'a>(
-    record: &CommandRecord<'a>,
+    kept: &CommandRecord<'a>,
     id: &[u8],
     request: &[u8],
     digits: &[u8],
 ) -> Result<IdPlan<'a>, OnceRefusal>
     requires { digits.now ≡ encode_lower request.now }
-    ensures { map_ok plan_in result ≡ plan_of_id (record_in record.now) id.now request.now }
+    ensures { map_ok plan_in result ≡ plan_of_id (record_in kept.now) id.now request.now }
 {
-    let known = record.done.iter().find(|command| command.id == id);
-    match known {
+    match find_done(kept.done.as_slice(), id) {
         Some(command) if command.request == digits => Ok(IdPlan::Executed(command.reply)),
         Some(_) => Err(OnceRefusal::OtherRequest),
         None => plan_unknown(
-            record.commander.pending_request(),
-            record.pending_id,
+            kept.commander.pending_request(),
+            kept.pending_id,
             id,
             request,
         ),
     }
+}
+
+/// The command with this id, if one of these has it.
+fn find_done<'a>(done: &[DoneCommand<'a>], id: &[u8]) -> Option<DoneCommand<'a>>
+    ensures { option_map done_in result ≡ find (λ d. bytes_eq d.id id.now) (map done_in done.now) }
+{
+    done.iter().find(|command| command.id == id).copied()
 }
 
 /// The same for an id that no executed command has.

@@ -1,6 +1,6 @@
 //! The commands and the commander that a file spells.
 
-ghost use Rattle.std.specs.Prelude.{◌≡◌, ◌⊎◌, ◌++◌, ◌≤◌, true, IfOk, IfSome, IsOkAnd, OnOk, Ok, Err, None, map};
+ghost use Rattle.std.specs.Prelude.{◌≡◌, ◌≢◌, ◌⊎◌, ◌++◌, ◌≤◌, ℕ, List, IsTrue, true, false, IfOk, IfSome, IsOkAnd, OnOk, Ok, Err, None, map};
 ghost use Rattle.std.specs.List.{list_all};
 ghost use Rattle.std.specs.Option.{option_copied};
 ghost use Rattle.cip_commander.specs.CommanderRule.{CommanderState};
@@ -44,14 +44,24 @@ pub enum RecordFailure {
 }
 
 impl From<AllocError> for RecordFailure {
+    ghost use Rattle.enip_commands.specs.declared.command_record.reading.RecordFailure.TheVariants.{Memory};
+
+    ghost from_gives = { λ _ failure. failure ≡ Memory };
+
     fn from(_error: AllocError) -> RecordFailure {
         RecordFailure::Memory
     }
 }
 
 /// Whether a text begins as a file with ids.
-pub fn has_ids_head(text: &[u8]) -> bool {
-    text.strip_prefix(HEAD).is_some()
+pub fn has_ids_head(text: &[u8]) -> bool
+    ensures begins { IsTrue result → (rest : List ℕ) × (text.now ≡ ids_head ++ rest) }
+    ensures differs { result ≡ false → (rest : List ℕ) → text.now ≢ ids_head ++ rest }
+{
+    match text.strip_prefix(HEAD) {
+        Some(_) => true,
+        None => false,
+    }
 }
 
 /// The commander and the commands with this text. All other texts are refused, also one that was cut, or has an id twice.
@@ -60,9 +70,9 @@ pub fn has_ids_head(text: &[u8]) -> bool {
 ///
 /// `Refused` with the first line that is not as expected, or `Memory`.
 pub fn read_record(alloc: Global, text: &[u8]) -> Result<CommandRecord<'_>, RecordFailure>
-    ensures read { IfOk result (λ record. IsKeptRecord (record_in record) × (text.now ≡ record_text (record_in record))) }
+    ensures read { IfOk result (λ r. IsKeptRecord (record_in r) × (text.now ≡ record_text (record_in r))) }
     ensures written { (kept : Record) → IsKeptRecord kept → text.now ≡ record_text kept
-        → (result ≡ Err RecordFailure.Memory) ⊎ IsOkAnd result (λ record. record_in record ≡ kept) }
+        → (result ≡ Err RecordFailure.Memory) ⊎ IsOkAnd result (λ r. record_in r ≡ kept) }
 {
     if let Some(lines) = text.strip_prefix(HEAD) {
         return read_with_ids(alloc, lines);
@@ -79,10 +89,10 @@ pub fn read_record(alloc: Global, text: &[u8]) -> Result<CommandRecord<'_>, Reco
 
 /// The record that the lines after the first of a file with ids spell.
 fn read_with_ids(alloc: Global, lines: &[u8]) -> Result<CommandRecord<'_>, RecordFailure>
-    ensures read { IfOk result (λ record. IsKeptRecord (record_in record)
-        × (ids_head ++ lines.now ≡ record_text (record_in record))) }
+    ensures read { IfOk result (λ r. IsKeptRecord (record_in r)
+        × (ids_head ++ lines.now ≡ record_text (record_in r))) }
     ensures written { (kept : Record) → IsKeptRecord kept → ids_head ++ lines.now ≡ record_text kept
-        → (result ≡ Err RecordFailure.Memory) ⊎ IsOkAnd result (λ record. record_in record ≡ kept) }
+        → (result ≡ Err RecordFailure.Memory) ⊎ IsOkAnd result (λ r. record_in r ≡ kept) }
 {
     let Some((count, lines)) = read_count(lines) else {
         return Err(RecordFailure::Refused(RecordFault::Count));
@@ -178,7 +188,7 @@ fn read_command(lines: &[u8]) -> Option<(DoneCommand<'_>, &[u8])>
 
 /// Whether these are a command's id, request and reply.
 fn is_done(command: DoneCommand<'_>) -> bool
-    ensures { result ≡ is_done (done_in command) }
+    ensures { result ≡ is_done (done_in command.entry) }
 {
     is_command_id(command.id)
         && are_digits(command.request, 2 * LONGEST_EMBEDDED)
@@ -208,8 +218,8 @@ fn is_lower_digit(byte: u8) -> bool
 
 /// The id of the pending command, or none, and the lines after it.
 fn read_pending_id(lines: &[u8]) -> Option<(Option<&[u8]>, &[u8])>
-    ensures read { IfSome result (λ line. lines.now ≡ pending_id_line (option_copied line.0.entry) ++ line.1.now) }
-    ensures fits { IfSome result (λ line. is_id_or_none (option_copied line.0.entry) ≡ true) }
+    ensures read { IfSome result (λ line. lines.now ≡ pending_id_line (option_copied line.0) ++ line.1.now) }
+    ensures fits { IfSome result (λ line. is_id_or_none (option_copied line.0) ≡ true) }
     ensures lacking { result ≡ None → LacksLine pending_id_line (λ id. is_id_or_none id ≡ true) lines.now }
 {
     let (id, rest) = split_line(lines, b"pending-id ")?;
