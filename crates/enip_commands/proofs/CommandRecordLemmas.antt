@@ -1,6 +1,6 @@
 -- The lines of a file with ids are told apart.
 use Rattle.std.proofs.Common.{◌≡◌, ◌≢◌, ℕ, zero, suc, ◌+◌, ◌-◌, ◌<◌, ◌≤◌, ◌==◌, ◌&&◌, ◌||◌, Bool, true, false, List, [], ◌∷◌, ◌++◌, codes, length, map, drop, take, get_or, cond}
-use Rattle.std.proofs.Common.{Option, Some, None, Result, Ok, Err, refl, sym, ap, ◌∙◌, arith, rules, append_assoc, inl, inr, option_map, length-append}
+use Rattle.std.proofs.Common.{◌*◌, ◌/◌, length-take-le, Option, Some, None, Result, Ok, Err, refl, sym, ap, ◌∙◌, arith, rules, append_assoc, inl, inr, option_map, length-append}
 use Rattle.std.specs.List.{list_all, list_any, find}
 use Rattle.std.specs.Str.{bytes_eq}
 use Rattle.std.proofs.lemmas.Slice.Eq.{bytes_eq-Decides}
@@ -15,7 +15,9 @@ use Rattle.enip_commands.specs.CommandFiles.{line, head_line, file_text, IsKept}
 use Rattle.enip_commands.specs.CommandRecords.{Done, is_id_byte, is_id, is_lower_digit, are_digits, is_done, has_id, AreDistinct}
 use Rattle.enip_commands.specs.CommandRecords.{done_text, dones_text, AreRead, LacksCommands, commander_lines, is_id_or_none}
 use Rattle.enip_commands.specs.CommandRecords.{pending_id_text, pending_id_line, ids_head, count_line, Record, record_text, has_ids}
-use Rattle.enip_commands.specs.CommandRecords.{done_in, kept_after}
+use Rattle.hex.specs.Hex.{encode_lower, lower_digits}
+use Rattle.hex.proofs.HexLemmas.{length-encode_with}
+use Rattle.enip_commands.specs.CommandRecords.{done_in, kept_after, plan_of_id, known_plan, unknown_plan}
 use Rattle.enip_commands.specs.declared.command_record.DoneCommand.{DoneCommand}
 use Rattle.enip_commands.proofs.CommandFileLemmas.{HasNoLineFeed, lines_agree, decimal_no_feed}
 
@@ -56,8 +58,12 @@ three id request reply rest =
 pub done_lines : (d : Done) (rest : List ℕ) → done_text d ++ rest ≡ three d.id d.request d.reply rest
 done_lines d rest = simp append_assoc
 
+abbrev done_of : List ℕ → List ℕ → List ℕ → Done
+done_of id request reply = record { id = id; request = request; reply = reply }
+
 pub dones_agree : (a b : Done) → a.id ≡ b.id → a.request ≡ b.request → a.reply ≡ b.reply → a ≡ b
-dones_agree a b e f g = cc
+dones_agree a b e f g =
+    ap (λ (x : List ℕ). done_of x a.request a.reply) e ∙ ap (λ (x : List ℕ). done_of b.id x a.reply) f ∙ ap (λ (x : List ℕ). done_of b.id b.request x) g
 
 -- Two texts that begin with the lines of a command have the same command, and the same follows.
 pub done_texts_agree : (a b : Done) (r s : List ℕ) → is_done a ≡ true → is_done b ≡ true → done_text a ++ r ≡ done_text b ++ s → (a ≡ b) × (r ≡ s)
@@ -82,10 +88,10 @@ bytes_eq-sym xs ys differ = false_from_ne_true (bytes_eq ys xs) (λ same.
     absurd cc)
 
 pub has_id-append : (ds es : List Done) (id : List ℕ) → has_id ds id ≡ false → has_id es id ≡ false → has_id (ds ++ es) id ≡ false
-has_id-append [] es id none no = no
-has_id-append (d ∷ ds) es id none no =
+has_id-append [] es id none others = others
+has_id-append (d ∷ ds) es id none others =
     let (here, more) = or_parts (bytes_eq d.id id) (has_id ds id) none in
-    or_from (bytes_eq d.id id) (has_id (ds ++ es) id) here (has_id-append ds es id more no)
+    or_from (bytes_eq d.id id) (has_id (ds ++ es) id) here (has_id-append ds es id more others)
 
 -- A command more, with a new id.
 pub distinct_more : (ds : List Done) (d : Done) → AreDistinct ds → has_id ds d.id ≡ false → AreDistinct (ds ++ (d ∷ []))
@@ -179,7 +185,7 @@ id_text_no_feed (Some id) is = id_no_feed id is
 
 none_not_id : (id : List ℕ) → is_id id ≡ true → codes "no id" ≡ id → ⊥
 none_not_id id is e =
-    let no : is_id (codes "no id") ≡ true = rw (sym e) at is in
+    let spelled : is_id (codes "no id") ≡ true = rw (sym e) at is in
     absurd cc
 
 pub id_texts_agree : (a b : Option (List ℕ)) → is_id_or_none a ≡ true → is_id_or_none b ≡ true → pending_id_text a ≡ pending_id_text b → a ≡ b
@@ -197,8 +203,8 @@ pending_ids_agree a b r s of_a of_b e =
 -- A value that is neither an id nor what stands for none.
 pub lacks_id : (text : List ℕ) (id : Option (List ℕ)) → bytes_eq text (codes "no id") ≡ false → is_id text ≡ false → is_id_or_none id ≡ true
     → text ≡ pending_id_text id → ⊥
-lacks_id text None differs no is e = let found : bytes_eq text (codes "no id") ≡ true = (bytes_eq-Decides text (codes "no id")).1 e in absurd cc
-lacks_id text (Some id) differs no is e = let found : is_id text ≡ true = rw e is in absurd cc
+lacks_id text None differs other is e = let found : bytes_eq text (codes "no id") ≡ true = (bytes_eq-Decides text (codes "no id")).1 e in absurd cc
+lacks_id text (Some id) differs other is e = let found : is_id text ≡ true = rw e is in absurd cc
 
 -- ---- the whole text
 
@@ -212,7 +218,8 @@ begins_with_ids r lines e = elim (has_ids r) as (λ b. has_ids r ≡ b → (has_
   | true ↦ λ has. (has, append_cancel_left ids_head lines (lines_with_ids r) (e ∙ rw has refl))
   | false ↦ λ has.
       let plain : ids_head ++ lines ≡ file_text r.commander = e ∙ rw has refl in
-      absurd cc
+      let version : 50 ≡ 49 = ap (λ (xs : List ℕ). get_or xs 14 0) plain in
+      absurd (omega (arith, version))
 ] refl
 
 pub counts_agree : (m n : ℕ) (r s : List ℕ) → m ≤ 1024 → n ≤ 1024 → count_line m ++ r ≡ count_line n ++ s → (m ≡ n) × (r ≡ s)
@@ -270,9 +277,9 @@ command_appended before after one two d e f g = rw (g, f, e) (simp append_assoc)
 pub kept_commands : (ds : List DoneCommand) (d : DoneCommand) (most n : ℕ) → 0 < most → n ≡ length ds - (most - 1)
     → map done_in (drop n ds ++ (d ∷ [])) ≡ kept_after (map done_in ds) (done_in d) most
 kept_commands ds d most n some e =
-    let lengths : length (map done_in ds ++ (done_in d ∷ [])) ≡ length ds + 1 = length-append (map done_in ds) (done_in d ∷ []) ∙ ap (λ (k : ℕ). k + 1) (length-map done_in ds) in
+    let lengths : length (map done_in ds ++ (done_in d ∷ [])) ≡ length ds + 1 = length-append (map done_in ds) (done_in d ∷ []) ∙ ap (λ (k : ℕ). k + 1) (length-map ds done_in) in
     let count : length (map done_in ds ++ (done_in d ∷ [])) - most ≡ n = omega (arith, lengths, e) in
-    let inside : n ≤ length (map done_in ds) = omega (arith, e, length-map done_in ds) in
+    let inside : n ≤ length (map done_in ds) = omega (arith, e, length-map ds done_in) in
     let dropped : drop n (map done_in ds ++ (done_in d ∷ [])) ≡ map done_in (drop n ds) ++ (done_in d ∷ []) =
     drop-append-le n (map done_in ds) (done_in d ∷ []) inside ∙ ap (λ (xs : List Done). xs ++ (done_in d ∷ [])) (drop-map done_in n ds) in
     map-append done_in (drop n ds) (d ∷ []) ∙ sym dropped ∙ ap (λ (k : ℕ). drop k (map done_in ds ++ (done_in d ∷ []))) (sym count)
@@ -281,3 +288,29 @@ pub kept_distinct : (ds : List Done) (d : Done) (most : ℕ) (kept : List Done) 
     → kept ≡ kept_after ds d most → AreDistinct kept
 kept_distinct ds d most kept distinct new e =
     rw e (distinct_drop (length (ds ++ (d ∷ [])) - most) (ds ++ (d ∷ [])) (distinct_more ds d distinct new))
+
+pub text_more : (ds : List DoneCommand) (i : ℕ) (d : DoneCommand) (now before initial : List ℕ) → i < length ds
+    → now ≡ before ++ done_text (done_in (get_or ds i d)) → before ≡ initial ++ dones_text (map done_in (take i ds))
+    → now ≡ initial ++ dones_text (map done_in (take (i + 1) ds))
+text_more ds i d now before initial inside e f =
+    e ∙ ap (λ (xs : List ℕ). xs ++ done_text (done_in (get_or ds i d))) f ∙ append_assoc initial _ _
+    ∙ ap (λ (xs : List ℕ). initial ++ xs) (sym (one_more_text ds i d inside))
+
+pub plan_from : (r : Record) (id request : List ℕ) (found : Option Done) → find (λ d. bytes_eq d.id id) r.done ≡ found
+    → plan_of_id r id request ≡ known_plan found (unknown_plan r.commander.pending r.pending_id id request) (encode_lower request)
+plan_from r id request found e = ap (λ (x : Option Done). known_plan x (unknown_plan r.commander.pending r.pending_id id request) (encode_lower request)) e
+
+-- The bytes that a buffer has once it is cut to the length of a reply's digits.
+pub cut_length : (most : ℕ) (digits given zeros bytes : List ℕ) → digits ≡ encode_lower given → length given ≤ most → length zeros ≡ most
+    → bytes ≡ take (length digits / 2) zeros → length given ≡ length bytes
+cut_length most digits given zeros bytes e short room cut =
+    let spelled : length digits ≡ 2 * length given = ap length e ∙ length-encode_with lower_digits given in
+    let half : length digits / 2 ≡ length given = omega (arith, spelled) in
+    let taken : length bytes ≡ length (take (length given) zeros) = ap length cut ∙ ap (λ (n : ℕ). length (take n zeros)) half in
+    sym (taken ∙ length-take-le (length given) zeros (omega arith))
+
+abbrev pub record_of : CommanderState → Option (List ℕ) → List Done → Record
+record_of c p ds = record { commander = c; pending_id = p; done = ds }
+
+pub records_agree : (c d : CommanderState) (p q : Option (List ℕ)) (ds es : List Done) → c ≡ d → p ≡ q → ds ≡ es → record_of c p ds ≡ record_of d q es
+records_agree c d p q ds es e f g = cc

@@ -2,10 +2,11 @@
 //! executed last. Without ids it is the file of `command_file`.
 
 ghost use Rattle.std.specs.Prelude.{◌≡◌, ◌<◌, ◌++◌, IfOk, OnOk, false, map};
-ghost use Rattle.std.specs.List.{list_all};
+ghost use Rattle.std.specs.List.{list_all, list_any};
+ghost use Rattle.std.specs.Str.{bytes_eq};
 ghost use Rattle.std.specs.Option.{option_copied};
 ghost use Rattle.enip_commands.specs.CommandFiles.{line};
-ghost use Rattle.enip_commands.specs.CommandRecords.{record_in, done_in, dones_text, record_text, is_id, is_id_byte};
+ghost use Rattle.enip_commands.specs.CommandRecords.{record_in, done_in, done_text, dones_text, record_text, is_id, is_id_byte};
 ghost use Rattle.enip_commands.specs.CommandRecords.{pending_id_text, has_id, kept_after, AreDistinct};
 
 mod listing;
@@ -83,7 +84,21 @@ fn is_id_byte(byte: u8) -> bool
 pub(crate) fn has_id(done: &[DoneCommand<'_>], id: &[u8]) -> bool
     ensures { result ≡ has_id (map done_in done.now) id.now }
 {
-    done.iter().any(|command| command.id == id)
+    any_with_id(done, id)
+}
+
+/// The same, in the words of the program.
+fn any_with_id(done: &[DoneCommand<'_>], id: &[u8]) -> bool
+    ensures { result ≡ list_any (λ command. bytes_eq command.id.now id.now) done.now }
+{
+    done.iter().any(|command| is_same(command.id, id))
+}
+
+/// Whether two ids are the same.
+pub(crate) fn is_same(id: &[u8], other: &[u8]) -> bool
+    ensures { result ≡ bytes_eq id.now other.now }
+{
+    id == other
 }
 
 /// The commands that are kept once one more was executed: the last `most` of them, `most` being 1 at least.
@@ -151,11 +166,18 @@ pub(crate) fn append_commands(
     ensures { OnOk result (text.new.items ≡ text.old.items ++ dones_text (map done_in done.now)) }
 {
     for command in done {
-        append_line(text, b"id ", command.id)?;
-        append_line(text, b"request ", command.request)?;
-        append_line(text, b"reply ", command.reply)?;
+        append_command(text, *command)?;
     }
     Ok(())
+}
+
+/// Appends the lines of a command.
+fn append_command(text: &mut Vec<u8>, command: DoneCommand<'_>) -> Result<(), AllocError>
+    ensures { OnOk result (text.new.items ≡ text.old.items ++ done_text (done_in command.entry)) }
+{
+    append_line(text, b"id ", command.id)?;
+    append_line(text, b"request ", command.request)?;
+    append_line(text, b"reply ", command.reply)
 }
 
 /// Appends a key, a value and a line feed.

@@ -9,7 +9,7 @@ ghost use Rattle.hex.specs.Hex.{encode_lower};
 ghost use Rattle.cip_bytes.specs.Reading.{map_ok};
 ghost use Rattle.enip_commands.specs.CommandRecords.{record_in, done_in, plan_in, plan_of_id, unknown_plan};
 
-use crate::command_record::{CommandRecord, DoneCommand};
+use crate::command_record::{CommandRecord, DoneCommand, is_same};
 use cip_objects::{REPLY_LIMIT, ReplyBuf};
 use enip_faults::OnceRefusal;
 
@@ -54,7 +54,12 @@ pub fn plan_id<'a>(
 fn find_done<'a>(done: &[DoneCommand<'a>], id: &[u8]) -> Option<DoneCommand<'a>>
     ensures { option_map done_in result ≡ find (λ d. bytes_eq d.id id.now) (map done_in done.now) }
 {
-    done.iter().find(|command| command.id == id).copied()
+    for command in done {
+        if is_same(command.id, id) {
+            return Some(*command);
+        }
+    }
+    None
 }
 
 /// The same for an id that no executed command has.
