@@ -169,7 +169,7 @@ pub(crate) static CALL: CommandRow = CommandRow {
 
 pub(crate) static ONCE: CommandRow = CommandRow {
     name: "once",
-    about: "Print what a file of --once has, and send nothing",
+    about: "Print what a command file has, and send nothing",
     usage: None,
     examples: EXAMPLES_ONCE,
     details: DETAILS_ONCE,

@@ -176,7 +176,7 @@ pub(crate) static IDS: ArgumentRow = ArgumentRow {
 pub(crate) static COMMAND_FILE: ArgumentRow = ArgumentRow {
     id: "FILE",
     takes: Takes::File,
-    help: "File of --once",
+    help: "File of commands that are executed once",
     is_required: true,
     ..PLAIN
 };

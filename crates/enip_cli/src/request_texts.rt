@@ -131,11 +131,12 @@ Examples:
   enip once commands --json";
 
 pub(crate) const DETAILS_ONCE: &str = "\
-Reads a file that `enip call --once` or `enip set --once` keeps, and prints who
-gives the commands, the life of the device, the number of the last command, the
-request of the pending command, its id, the ids, requests and replies of the last
-commands with an id, and the last of these replies. Nothing is sent, and the
-file is not changed. Requests and replies are in hexadecimal.
+Reads the file that `enip call` and `enip set` keep of commands that are
+executed once. Prints who gives the commands, the life of the device, the number
+of the last command, the request and the id of the pending one, the ids,
+requests and replies of the last commands with an id, and the last of these
+replies. Nothing is sent, and the file is not changed. Requests and replies are
+in hexadecimal.
 
 With --json it is an object instead.
 

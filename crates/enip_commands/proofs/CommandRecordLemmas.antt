@@ -11,10 +11,12 @@ use Rattle.std.specs.Fmt.{decimal}
 use Rattle.std.proofs.lemmas.Fmt.{decimal_injective}
 use Rattle.cip_commander.specs.CommanderRule.{CommanderState}
 use Rattle.enip_faults.specs.declared.command_file_fault.CommandFileFault.{CommandFileFault}
+use Rattle.std.specs.Prelude.{nat_lt, not, is_some}
+use Rattle.std.proofs.lemmas.List.Folds.{list_any-append}
 use Rattle.enip_commands.specs.CommandFiles.{line, head_line, file_text, IsKept}
 use Rattle.enip_commands.specs.CommandRecords.{Done, is_id_byte, is_id, is_lower_digit, are_digits, is_done, has_id, AreDistinct}
 use Rattle.enip_commands.specs.CommandRecords.{done_text, dones_text, AreRead, LacksCommands, commander_lines, is_id_or_none}
-use Rattle.enip_commands.specs.CommandRecords.{pending_id_text, pending_id_line, ids_head, count_line, Record, record_text, has_ids}
+use Rattle.enip_commands.specs.CommandRecords.{pending_id_text, pending_id_line, ids_head, count_line, Record, record_text, has_ids, text_with_ids, IsKeptRecord, is_whole, is_new_id}
 use Rattle.hex.specs.Hex.{encode_lower, lower_digits}
 use Rattle.hex.proofs.HexLemmas.{length-encode_with}
 use Rattle.enip_commands.specs.CommandRecords.{done_in, kept_after, plan_of_id, known_plan, unknown_plan}
@@ -314,3 +316,104 @@ record_of c p ds = record { commander = c; pending_id = p; done = ds }
 
 pub records_agree : (c d : CommanderState) (p q : Option (List ℕ)) (ds es : List Done) → c ≡ d → p ≡ q → ds ≡ es → record_of c p ds ≡ record_of d q es
 records_agree c d p q ds es e f g = cc
+
+-- ---- the command with an id
+
+pub any_more : (p : DoneCommand → Bool) (ds : List DoneCommand) (i : ℕ) (d : DoneCommand) → i < length ds → list_any p (take i ds) ≡ false
+    → p (get_or ds i d) ≡ false → list_any p (take (i + 1) ds) ≡ false
+any_more p ds i d inside none here =
+    ap (list_any p) (take_more ds i d inside) ∙ list_any-append p (take i ds) (get_or ds i d ∷ [])
+    ∙ or_from (list_any p (take i ds)) (list_any p (get_or ds i d ∷ [])) none (or_from (p (get_or ds i d)) false here refl)
+
+pub found_at : (id : List ℕ) (ds : List DoneCommand) (i : ℕ) (d : DoneCommand) → i < length ds → list_any (λ x. bytes_eq x.id.now id) (take i ds) ≡ false
+    → bytes_eq (get_or ds i d).id.now id ≡ true → Some (done_in (get_or ds i d)) ≡ find (λ x. bytes_eq x.id id) (map done_in ds)
+found_at id [] i d inside none here = absurd (omega (arith, inside))
+found_at id (x ∷ ds) zero d inside none here = rw here refl
+found_at id (x ∷ ds) (suc i) d inside none here =
+    let (differs, more) = or_parts (bytes_eq x.id.now id) (list_any (λ y. bytes_eq y.id.now id) (take i ds)) none in
+    found_at id ds i d (omega (arith, inside)) more here ∙ rw differs refl
+
+pub not_found : (id : List ℕ) (ds : List DoneCommand) → list_any (λ x. bytes_eq x.id.now id) ds ≡ false → None ≡ find (λ x. bytes_eq x.id id) (map done_in ds)
+not_found id [] none = refl
+not_found id (x ∷ ds) none =
+    let (differs, more) = or_parts (bytes_eq x.id.now id) (list_any (λ y. bytes_eq y.id.now id) ds) none in
+    not_found id ds more ∙ rw differs refl
+
+-- ---- the parts of a whole file
+
+pub whole_new : (ds : List Done) (pending id : Option (List ℕ)) → is_whole ds pending id ≡ true → is_new_id ds pending id ≡ true
+whole_new ds pending None is = refl
+whole_new ds pending (Some id) is = is
+
+pub whole_has : (ds : List Done) (pending id : Option (List ℕ)) → is_whole ds pending id ≡ true → (is_some id || nat_lt 0 (length ds)) ≡ true
+whole_has ds pending None is = is
+whole_has ds pending (Some id) is = refl
+
+pub whole_from : (ds : List Done) (pending id : Option (List ℕ)) → is_new_id ds pending id ≡ true → (is_some id || nat_lt 0 (length ds)) ≡ true
+    → is_whole ds pending id ≡ true
+whole_from ds pending None new has = has
+whole_from ds pending (Some id) new has = new
+
+id_of_new : (ds : List Done) (pending id : Option (List ℕ)) → is_new_id ds pending id ≡ true → is_id_or_none id ≡ true
+id_of_new ds pending None new = refl
+id_of_new ds None (Some id) new = absurd cc
+id_of_new ds (Some request) (Some id) new = (and_parts (is_id id) (not (has_id ds id)) new).0
+
+-- All commands that are read, if there were none before.
+pub record AreAllRead (ds : List Done) (count : ℕ) (lines rest : List ℕ) : Type 0 where
+  pub counted : length ds ≡ count
+  pub whole : lines ≡ dones_text ds ++ rest
+  pub fit : list_all is_done ds ≡ true
+
+pub all_read : (old new : List Done) (count : ℕ) (lines rest : List ℕ) → old ≡ [] → AreRead old new count lines rest → AreAllRead new count lines rest
+all_read old new count lines rest none is =
+    let same : new ≡ is.more = is.appended ∙ ap (λ (xs : List Done). xs ++ is.more) none in record {
+      counted = ap length same ∙ is.counted;
+      whole = is.whole ∙ ap (λ (xs : List Done). dones_text xs ++ rest) (sym same);
+      fit = ap (list_all is_done) same ∙ is.fit;
+    }
+
+pub after_dones : (kept : Record) (ds : List Done) (count : ℕ) (lines after rest : List ℕ) → IsKeptRecord kept → lines ≡ lines_with_ids kept
+    → lines ≡ count_line count ++ after → count ≤ 1024 → AreAllRead ds count after rest
+    → (ds ≡ kept.done) × (rest ≡ pending_id_line kept.pending_id ++ commander_lines kept.commander)
+after_dones kept ds count lines after rest is e f few all =
+    let (counts, then) = counts_agree count (length kept.done) after (dones_text kept.done ++ (pending_id_line kept.pending_id ++ commander_lines kept.commander))
+    few is.count (sym f ∙ e) in
+    dones_agree_all ds kept.done rest (pending_id_line kept.pending_id ++ commander_lines kept.commander) (all.counted ∙ counts) all.fit is.done (sym all.whole ∙ then)
+
+pub after_id : (kept : Record) (id : Option (List ℕ)) (lines rest : List ℕ) → IsKeptRecord kept → lines ≡ pending_id_line kept.pending_id ++ commander_lines kept.commander
+    → lines ≡ pending_id_line id ++ rest → is_id_or_none id ≡ true → (id ≡ kept.pending_id) × (rest ≡ commander_lines kept.commander)
+after_id kept id lines rest is e f fits =
+    pending_ids_agree id kept.pending_id rest (commander_lines kept.commander) fits (id_of_new kept.done kept.commander.pending kept.pending_id is.pending_id) (sym f ∙ e)
+
+pub kept_id : (kept : Record) → IsKeptRecord kept → is_id_or_none kept.pending_id ≡ true
+kept_id kept is = id_of_new kept.done kept.commander.pending kept.pending_id is.pending_id
+
+pub record_read : (c : CommanderState) (id : Option (List ℕ)) (ds : List Done) (count : ℕ) (lines after then last : List ℕ)
+    → lines ≡ count_line count ++ after → count ≤ 1024 → AreAllRead ds count after then → AreDistinct ds → then ≡ pending_id_line id ++ last
+    → IsKept c × (last ≡ commander_lines c) → is_whole ds c.pending id ≡ true
+    → IsKeptRecord (record_of c id ds) × (ids_head ++ lines ≡ record_text (record_of c id ds))
+record_read c id ds count lines after then last e few all distinct f (kept, g) whole =
+    let has : has_ids (record_of c id ds) ≡ true = whole_has ds c.pending id whole in
+    let tail : after ≡ dones_text ds ++ (pending_id_line id ++ commander_lines c) =
+    all.whole ∙ ap (λ (xs : List ℕ). dones_text ds ++ xs) (f ∙ ap (λ (xs : List ℕ). pending_id_line id ++ xs) g) in
+    let begun : lines ≡ lines_with_ids (record_of c id ds) = e ∙ ap (λ (xs : List ℕ). count_line count ++ xs) tail
+    ∙ ap (λ (n : ℕ). count_line n ++ (dones_text ds ++ (pending_id_line id ++ commander_lines c))) (sym all.counted) in
+    let text : record_text (record_of c id ds) ≡ text_with_ids (record_of c id ds) = rw has refl in (
+      record { commander = kept; count = omega (arith, all.counted); done = all.fit; distinct = distinct; pending_id = whole_new ds c.pending id whole },
+      ap (λ (xs : List ℕ). ids_head ++ xs) begun ∙ sym text,
+    )
+
+-- ---- a file without ids
+
+no_ids_parts : (id : Option (List ℕ)) (ds : List Done) → (is_some id || nat_lt 0 (length ds)) ≡ false → (id ≡ None) × (ds ≡ [])
+no_ids_parts None [] none = (refl, refl)
+no_ids_parts None (d ∷ ds) none = absurd cc
+no_ids_parts (Some id) ds none = absurd cc
+
+pub plain_record : (r : Record) (text : List ℕ) → ((rest : List ℕ) → text ≡ ids_head ++ rest → ⊥) → text ≡ record_text r
+    → (text ≡ file_text r.commander) × ((r.pending_id ≡ None) × (r.done ≡ []))
+plain_record r text lacks e = elim (has_ids r) as (λ b. has_ids r ≡ b → (text ≡ file_text r.commander) × ((r.pending_id ≡ None) × (r.done ≡ []))) [
+  | true ↦ λ has. absurd (lacks (lines_with_ids r) (e ∙ rw has refl))
+  | false ↦ λ has. (e ∙ rw has refl, no_ids_parts r.pending_id r.done has)
+] refl

@@ -146,6 +146,11 @@ abbrev pub is_id_or_none : Option (List ℕ) → Bool
 is_id_or_none None = true
 is_id_or_none (Some id) = is_id id
 
+-- with ids, that of the pending command is new; without one, some command was executed
+abbrev pub is_whole : List Done → Option (List ℕ) → Option (List ℕ) → Bool
+is_whole done pending None = nat_lt 0 (length done)
+is_whole done pending (Some id) = is_new_id done pending (Some id)
+
 -- ---- a command with an id
 
 -- the reply of an executed command, in digits; or what is sent: the command, or the pending one before it

@@ -177,7 +177,8 @@ fn append_command(text: &mut Vec<u8>, command: DoneCommand<'_>) -> Result<(), Al
 {
     append_line(text, b"id ", command.id)?;
     append_line(text, b"request ", command.request)?;
-    append_line(text, b"reply ", command.reply)
+    append_line(text, b"reply ", command.reply)?;
+    Ok(())
 }
 
 /// Appends a key, a value and a line feed.

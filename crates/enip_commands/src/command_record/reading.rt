@@ -6,7 +6,7 @@ ghost use Rattle.std.specs.Option.{option_copied};
 ghost use Rattle.cip_commander.specs.CommanderRule.{CommanderState};
 ghost use Rattle.enip_commands.specs.CommandFiles.{IsKept, LacksLine};
 ghost use Rattle.enip_commands.specs.CommandRecords.{Record, record_in, record_text, done_in, done_text, commander_lines};
-ghost use Rattle.enip_commands.specs.CommandRecords.{ids_head, count_line, pending_id_line, is_id_or_none, is_new_id};
+ghost use Rattle.enip_commands.specs.CommandRecords.{ids_head, count_line, pending_id_line, is_id_or_none, is_new_id, is_whole};
 ghost use Rattle.enip_commands.specs.CommandRecords.{IsKeptRecord, AreDistinct, AreRead, LacksCommands, are_digits, is_done, is_lower_digit};
 
 use crate::command_file::{read_commander, read_decimal, split_line};
@@ -113,9 +113,7 @@ fn read_with_ids(alloc: Global, lines: &[u8]) -> Result<CommandRecord<'_>, Recor
             return Err(RecordFailure::Refused(fault));
         }
     };
-    if !is_new_id(done.as_slice(), commander.pending_request(), pending_id)
-        || (pending_id.is_none() && done.is_empty())
-    {
+    if !is_whole(done.as_slice(), commander.pending_request(), pending_id) {
         return Err(RecordFailure::Refused(RecordFault::PendingId(line)));
     }
     Ok(CommandRecord {
@@ -256,5 +254,16 @@ fn is_new_id(done: &[DoneCommand<'_>], pending: Option<&[u8]>, pending_id: Optio
         (_, None) => true,
         (None, Some(_)) => false,
         (Some(_), Some(id)) => is_command_id(id) && !has_id(done, id),
+    }
+}
+
+/// Whether a file with ids may have these: the id of the pending command is new, or there is none and some command was
+/// executed.
+fn is_whole(done: &[DoneCommand<'_>], pending: Option<&[u8]>, pending_id: Option<&[u8]>) -> bool
+    ensures { result ≡ is_whole (map done_in done.now) (option_copied pending.entry) (option_copied pending_id.entry) }
+{
+    match pending_id {
+        Some(_) => is_new_id(done, pending, pending_id),
+        None => !done.is_empty(),
     }
 }
