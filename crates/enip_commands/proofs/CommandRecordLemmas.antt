@@ -12,6 +12,8 @@ use Rattle.std.proofs.lemmas.Fmt.{decimal_injective}
 use Rattle.cip_commander.specs.CommanderRule.{CommanderState}
 use Rattle.enip_faults.specs.declared.command_file_fault.CommandFileFault.{CommandFileFault}
 use Rattle.std.specs.Prelude.{nat_lt, not, is_some}
+use Rattle.std.specs.Prelude.{IfSome}
+use Rattle.std.proofs.lemmas.Bool.Decides.{nat_tests}
 use Rattle.std.proofs.lemmas.List.Folds.{list_any-append}
 use Rattle.enip_commands.specs.CommandFiles.{line, head_line, file_text, IsKept}
 use Rattle.enip_commands.specs.CommandRecords.{Done, is_id_byte, is_id, is_lower_digit, are_digits, is_done, has_id, AreDistinct}
@@ -408,7 +410,9 @@ record_read c id ds count lines after then last e few all distinct f (kept, g) w
 
 no_ids_parts : (id : Option (List ℕ)) (ds : List Done) → (is_some id || nat_lt 0 (length ds)) ≡ false → (id ≡ None) × (ds ≡ [])
 no_ids_parts None [] none = (refl, refl)
-no_ids_parts None (d ∷ ds) none = absurd cc
+no_ids_parts None (d ∷ ds) none =
+    let fact : nat_lt 0 (length (d ∷ ds)) ≡ false = none in
+    absurd (grind (arith, nat_tests, fact))
 no_ids_parts (Some id) ds none = absurd cc
 
 pub plain_record : (r : Record) (text : List ℕ) → ((rest : List ℕ) → text ≡ ids_head ++ rest → ⊥) → text ≡ record_text r
@@ -417,3 +421,22 @@ plain_record r text lacks e = elim (has_ids r) as (λ b. has_ids r ≡ b → (te
   | true ↦ λ has. absurd (lacks (lines_with_ids r) (e ∙ rw has refl))
   | false ↦ λ has. (e ∙ rw has refl, no_ids_parts r.pending_id r.done has)
 ] refl
+
+-- ---- one command before the others
+
+pub more_read : {B E : Type 0} (now : B → List ℕ) (old mid new : List Done) (d : Done) (count : ℕ) (lines after : List ℕ) (r : Result (Option B) E)
+    → 0 < count → is_done d ≡ true → lines ≡ done_text d ++ after → mid ≡ old ++ (d ∷ [])
+    → IfOk r (λ found. IfSome found (λ rest. AreRead mid new (count - 1) after (now rest)))
+    → IfOk r (λ found. IfSome found (λ rest. AreRead old new count lines (now rest)))
+more_read now old mid new d count lines after (Ok (Some rest)) some fit whole pushed is = one_more_read old new d count lines after (now rest) some fit whole (rw pushed at is)
+more_read now old mid new d count lines after (Ok None) some fit whole pushed is = tt
+more_read now old mid new d count lines after (Err why) some fit whole pushed is = tt
+
+pub lacks_after : (old mid : List Done) (d : Done) (count : ℕ) (lines after : List ℕ) → 0 < count → is_done d ≡ true → lines ≡ done_text d ++ after
+    → mid ≡ old ++ (d ∷ []) → LacksCommands mid (count - 1) after → LacksCommands old count lines
+lacks_after old mid d count lines after some of_d whole pushed lacks =
+    lacks_later old d count lines after some of_d whole (λ more rest counted fit distinct e. lacks more rest counted fit (rw pushed distinct) e)
+
+pub whole_agree : (ds es : List Done) (p q i j : Option (List ℕ)) → ds ≡ es → p ≡ q → i ≡ j → is_whole ds p i ≡ is_whole es q j
+whole_agree ds es p q i j e f g =
+    ap (λ (x : List Done). is_whole x p i) e ∙ ap (λ (x : Option (List ℕ)). is_whole es x i) f ∙ ap (λ (x : Option (List ℕ)). is_whole es q x) g
