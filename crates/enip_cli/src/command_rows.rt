@@ -11,8 +11,9 @@ use crate::line_texts::{
     DETAILS_ANSWER, DETAILS_REPLAY, DETAILS_SHOW, EXAMPLES_ANSWER, EXAMPLES_REPLAY, EXAMPLES_SHOW,
 };
 use crate::request_texts::{
-    DETAILS_BATCH, DETAILS_CALL, DETAILS_GET, DETAILS_SET, DETAILS_WATCH, EXAMPLES_BATCH,
-    EXAMPLES_CALL, EXAMPLES_GET, EXAMPLES_SET, EXAMPLES_WATCH, USAGE_CALL, USAGE_SET,
+    DETAILS_BATCH, DETAILS_CALL, DETAILS_GET, DETAILS_ONCE, DETAILS_SET, DETAILS_WATCH,
+    EXAMPLES_BATCH, EXAMPLES_CALL, EXAMPLES_GET, EXAMPLES_ONCE, EXAMPLES_SET, EXAMPLES_WATCH,
+    USAGE_CALL, USAGE_SET,
 };
 use crate::serving_texts::{
     DETAILS_CHECK, DETAILS_EDS, DETAILS_SERVE, EXAMPLES_CHECK, EXAMPLES_EDS, EXAMPLES_SERVE,
@@ -124,6 +125,8 @@ pub(crate) static SET: CommandRow = CommandRow {
         Argument::Deadline,
         Argument::Quiet,
         Argument::Once,
+        Argument::CommandId,
+        Argument::Ids,
         Argument::Tries,
         Argument::Pending,
         Argument::Abandon,
@@ -157,10 +160,21 @@ pub(crate) static CALL: CommandRow = CommandRow {
         Argument::Deadline,
         Argument::Quiet,
         Argument::Once,
+        Argument::CommandId,
+        Argument::Ids,
         Argument::Tries,
         Argument::Pending,
         Argument::Abandon,
     ],
+};
+
+pub(crate) static ONCE: CommandRow = CommandRow {
+    name: "once",
+    about: "Print what a command file has, and send nothing",
+    usage: None,
+    examples: EXAMPLES_ONCE,
+    details: DETAILS_ONCE,
+    arguments: &[Argument::CommandFile, Argument::Json],
 };
 
 pub(crate) static BATCH: CommandRow = CommandRow {

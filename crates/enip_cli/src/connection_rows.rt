@@ -2,7 +2,7 @@
 
 use crate::argument_row::{ArgumentRow, FLAG, PLAIN};
 use crate::option_texts::{
-    ABANDON_DETAILS, CONNECTION_SERIAL_DETAILS, DEADLINE_DETAILS, FORGET_DETAILS,
+    ABANDON_DETAILS, COMMAND_ID_DETAILS, CONNECTION_SERIAL_DETAILS, DEADLINE_DETAILS, FORGET_DETAILS, IDS_DETAILS,
     MULTIPLIER_DETAILS, ONCE_DETAILS, ORIGINATOR_SERIAL_DETAILS, PENDING_DETAILS,
     READ_MULTIPLIER_DETAILS, READ_TRIES_DETAILS, ROUTE_DETAILS, RPI_DETAILS,
     SESSION_MULTIPLIER_DETAILS, SIZE_DETAILS, TRIES_DETAILS, WAIT_DETAILS,
@@ -149,6 +149,35 @@ pub(crate) static ONCE: ArgumentRow = ArgumentRow {
     takes: Takes::File,
     help: "Execute once, even if connections are lost",
     details: Some(ONCE_DETAILS),
+    ..PLAIN
+};
+
+pub(crate) static COMMAND_ID: ArgumentRow = ArgumentRow {
+    id: "id",
+    option: Some("id"),
+    value_name: Some("TEXT"),
+    help: COMMAND_ID_DETAILS,
+    needs: &["once"],
+    conflicts: &["pending", "abandon"],
+    is_rare: true,
+    ..PLAIN
+};
+
+pub(crate) static IDS: ArgumentRow = ArgumentRow {
+    id: "ids",
+    option: Some("ids"),
+    value_name: Some("N"),
+    help: IDS_DETAILS,
+    needs: &["id"],
+    is_rare: true,
+    ..PLAIN
+};
+
+pub(crate) static COMMAND_FILE: ArgumentRow = ArgumentRow {
+    id: "FILE",
+    takes: Takes::File,
+    help: "File of commands that are executed once",
+    is_required: true,
     ..PLAIN
 };
 

@@ -157,6 +157,19 @@ the last one, and the command while it is pending. It is created if
 there is none, and written before the command is sent. FILE.lock and
 FILE.new are files next to it";
 
+pub(crate) const COMMAND_ID_DETAILS: &str = "\
+With --once, the id of the command: 1 to 64 printable ASCII characters
+without spaces, such as 2026-11-29. FILE keeps the ids, requests and
+replies of the last commands. A command whose id is among them is not
+sent: its reply is printed again. A pending command with another id is
+settled first";
+
+pub(crate) const IDS_DETAILS: &str = "\
+With --id, keep the last N ids in FILE, 1 to 1024. An id that is not
+kept any more is that of a new command
+
+[default: 64]";
+
 pub(crate) const TRIES_DETAILS: &str = "\
 With --once, try up to N times, each on a new connection, until the
 device answers. With --connected and without --once, send the request

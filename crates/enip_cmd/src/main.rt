@@ -11,8 +11,8 @@ use enip_client::ListCommand;
 use enip_common::{ARGUMENTS_REFUSED, CommandError};
 use enip_device::run_serve;
 use enip_requests::{
-    Query, is_help_of_objects, run_call, run_get, run_help_of_objects, run_query, run_set,
-    run_slots,
+    Query, is_help_of_objects, run_call, run_get, run_help_of_objects, run_once_file, run_query,
+    run_set, run_slots,
 };
 use enip_sessions::{run_batch, run_inspect, run_watch};
 use explained::explained;
@@ -43,6 +43,7 @@ fn run_command<'a>(
         "set" => return run_set(rt, args, matches),
         "call" => return run_call(rt, args, matches),
         "ledger" => return run_slots(rt, args, matches),
+        "once" => return run_once_file(rt, args, matches),
         "batch" => return run_batch(rt, matches),
         "watch" => return run_watch(rt, matches),
         "inspect" => return run_inspect(rt, matches),

@@ -6,3 +6,4 @@ pub mod TurnLemmas
 pub mod HexLemmas
 pub mod LayoutJsonLemmas
 pub mod StyleLemmas
+pub mod CommandRecordLemmas

@@ -3,18 +3,21 @@ use Rattle.std.specs.Prelude.{ℕ}
 use Rattle.config_refusal.specs.declared.fault.LoadFault.{LoadFault}
 use Rattle.config_refusal.specs.declared.fault.LoadFault.TheVariants as load
 use Rattle.enip_faults.specs.declared.fault.ProgramFault.TheVariants as program
+use Rattle.enip_faults.specs.declared.request_failure.RequestFailure.TheVariants as requests
 use Rattle.enip_faults.specs.declared.replay_failure.ReplayFailure.{ReplayFailure}
 use Rattle.enip_faults.specs.declared.replay_failure.ReplayFailure.TheVariants as failures
 use Rattle.enip_faults.specs.Statuses.{exit_status as run_status, request_failure_status, once_refusal_status}
 use Rattle.enip_common.specs.declared.fault.Fault.{Fault}
 use Rattle.enip_common.specs.declared.fault.Fault.TheVariants.{Configuration as Refused, Setup, Run, Value}
-use Rattle.enip_common.specs.declared.fault.Fault.TheVariants.{Once, CommandFile, Request, State, Storage}
+use Rattle.enip_common.specs.declared.fault.Fault.TheVariants.{Once, CommandFile, Request, State, Storage, Unsettled, Blocked}
 
 -- The exit status of a fault.
 abbrev pub exit_status : Fault → ℕ
 exit_status (Refused check) = 3
 exit_status State = 3
 exit_status Storage = 5
+exit_status Unsettled = 8
+exit_status Blocked = 9
 exit_status Setup = 6
 exit_status Value = 2
 exit_status (Once refusal) = once_refusal_status refusal
@@ -31,3 +34,9 @@ fault_of_configuration load.Memory = Run program.Memory
 abbrev pub fault_of_replay : ReplayFailure → Fault
 fault_of_replay failures.Setup = Setup
 fault_of_replay (failures.Program fault) = Run fault
+
+-- The fault of a run that leaves a command pending, in place of that of a failed file, stream or device.
+abbrev pub pending_fault : Fault → Fault → Fault
+pending_fault (Run program.Device) fault = fault
+pending_fault (Request (requests.Program program.Device)) fault = fault
+pending_fault failed fault = failed

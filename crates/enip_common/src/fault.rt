@@ -27,6 +27,12 @@ pub enum Fault {
     /// A command that is executed once is not sent.
     #[error("{0}")]
     Once(OnceRefusal),
+    /// A command with an id is pending in its file, and this run has no reply to it.
+    #[error("unsettled")]
+    Unsettled,
+    /// A command with an id is not sent, because another one is pending in its file.
+    #[error("blocked")]
+    Blocked,
     /// The file of `--keep` is refused.
     #[error("state")]
     State,
@@ -53,6 +59,8 @@ impl Fault {
             Fault::Setup => ReplayFailure::Setup.exit_status(),
             Fault::CommandFile(_) => 4,
             Fault::Storage => 5,
+            Fault::Unsettled => 8,
+            Fault::Blocked => 9,
             Fault::Run(fault) => fault.exit_status(),
             Fault::Request(failure) => failure.exit_status(),
         }

@@ -8,13 +8,18 @@
 #![tactic(auto)]
 
 mod client;
+mod command_record;
 mod found_devices;
+mod identified;
 mod ledger;
 mod ledger_jobs;
 mod ledger_task;
 mod listing;
 mod objects_help;
 mod once;
+mod once_errors;
+mod once_file;
+mod once_locking;
 mod once_options;
 mod pauses;
 mod polling;
@@ -23,3 +28,4 @@ mod slot_texts;
 
 pub use client::{Query, run_call, run_get, run_query, run_set, run_slots};
 pub use objects_help::{is_help_of_objects, run_help_of_objects};
+pub use once_file::run_once_file;
