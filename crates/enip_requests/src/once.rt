@@ -14,8 +14,8 @@ use cip_objects::ReplyBuf;
 use enip_cli::{LockedFile, OsArg, exists, option_file_name};
 use enip_client::ClientFault;
 use enip_commands::{
-    CommandRecord, DoneCommand, LIFE_REQUEST, LifeFault, PendingChoice, ReplyOutcome,
-    OnceRefusal, RequestFailure, WANTS, begin_once, check_once, exchange_with, kept_after, read_life,
+    CommandRecord, DoneCommand, LIFE_REQUEST, LifeFault, OnceRefusal, PendingChoice, ReplyOutcome,
+    RequestFailure, WANTS, begin_once, check_once, exchange_with, kept_after, read_life,
     show_reply, show_resumed,
 };
 use enip_common::{
@@ -111,7 +111,10 @@ pub(crate) fn slot_of_file<'a>(
         let reason = Reason::Named(file, NamedReason::CommandPending);
         return Err(CommandError::new(Fault::Once(OnceRefusal::Differs), reason));
     }
-    Ok((record.commander.originator(), record.commander.last_number()))
+    Ok((
+        record.commander.originator(),
+        record.commander.last_number(),
+    ))
 }
 
 impl<'a> OnceRun<'a, '_> {
