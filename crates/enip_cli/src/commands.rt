@@ -42,7 +42,7 @@ pub(crate) enum CommandName {
 }
 
 /// The commands in the order in which the help lists them.
-pub(crate) static COMMANDS: [CommandName; 18] = [
+pub(crate) static COMMANDS: [CommandName; 19] = [
     CommandName::Serve,
     CommandName::Check,
     CommandName::Eds,
