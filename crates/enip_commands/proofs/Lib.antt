@@ -7,3 +7,4 @@ pub mod HexLemmas
 pub mod LayoutJsonLemmas
 pub mod StyleLemmas
 pub mod CommandRecordLemmas
+pub mod RecordListingLemmas

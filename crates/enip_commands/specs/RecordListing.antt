@@ -1,12 +1,12 @@
 -- What a file of --once has, for people and as JSON.
-use Rattle.std.specs.Prelude.{ℕ, ◌-◌, Option, Some, None, option_map, List, [], ◌∷◌, ◌++◌, codes, length, map, slice_get}
+use Rattle.std.specs.Prelude.{ℕ, ◌-◌, Option, Some, None, option_map, List, ◌++◌, codes, length, map, slice_get}
 use Rattle.std.specs.Int.{to_be_bytes, w64}
 use Rattle.hex.specs.Hex.{encode_lower}
-use Rattle.cip_commander.specs.CommanderRule.{CommanderState}
 use Rattle.enip_commands.specs.CommandFiles.{line}
 use Rattle.enip_commands.specs.CommandRecords.{Done, Record, commander_lines, pending_id_line, count_line, dones_text}
 use Rattle.enip_lines.specs.JsonValues.{count, latin}
-use Rattle.serde_json.specs.Data.{Data, Items, null, string, array, object, item, no_items, member, no_members}
+use Rattle.serde_json.specs.Data.{Data, Items, null, string, array, object, member, no_members}
+use Rattle.serde_json.specs.View.{items_of}
 
 -- the reply of the last command with an id that was executed
 abbrev pub last_reply : List Done → Option (List ℕ)
@@ -33,8 +33,7 @@ done_data d =
     (member (codes "request") (string (latin d.request)) no_members)))
 
 abbrev pub dones_data : List Done → Items
-dones_data [] = no_items
-dones_data (d ∷ ds) = item (done_data d) (dones_data ds)
+dones_data done = items_of (map done_data done)
 
 -- a text, or null
 abbrev pub text_data : Option (List ℕ) → Data

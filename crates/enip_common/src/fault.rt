@@ -1,7 +1,7 @@
 //! The faults of the program's commands, with their texts and exit statuses.
 
 ghost use Rattle.std.specs.Prelude.{◌≡◌};
-ghost use Rattle.enip_common.specs.Statuses.{exit_status};
+ghost use Rattle.enip_common.specs.Statuses.{exit_status, is_of_device, is_device_request, is_device};
 
 use config_refusal::{ConfigurationRefusal, LoadFault};
 use enip_faults::{OnceRefusal, ReplayFailure, RequestFailure};
@@ -64,6 +64,51 @@ impl Fault {
             Fault::Run(fault) => fault.exit_status(),
             Fault::Request(failure) => failure.exit_status(),
         }
+    }
+}
+
+impl Fault {
+    /// Whether a file, a stream or a device failed.
+    pub(crate) fn is_of_device(self) -> bool
+        ensures { result ≡ is_of_device self }
+    {
+        match self {
+            Fault::Run(fault) => is_device(fault),
+            Fault::Request(failure) => is_device_request(failure),
+            Fault::Configuration(_)
+            | Fault::Setup
+            | Fault::Value
+            | Fault::Once(_)
+            | Fault::Unsettled
+            | Fault::Blocked
+            | Fault::State
+            | Fault::Storage
+            | Fault::CommandFile(_) => false,
+        }
+    }
+}
+
+/// Whether a request got no reply because a stream or a device failed.
+fn is_device_request(failure: RequestFailure) -> bool
+    ensures { result ≡ is_device_request failure }
+{
+    match failure {
+        RequestFailure::Program(fault) => is_device(fault),
+        RequestFailure::Hex
+        | RequestFailure::Session(_)
+        | RequestFailure::Client(_)
+        | RequestFailure::Shape(..)
+        | RequestFailure::Fields(_) => false,
+    }
+}
+
+/// Whether a file, a stream or a device failed.
+fn is_device(fault: enip_faults::ProgramFault) -> bool
+    ensures { result ≡ is_device fault }
+{
+    match fault {
+        enip_faults::ProgramFault::Device => true,
+        enip_faults::ProgramFault::Line(..) | enip_faults::ProgramFault::Memory => false,
     }
 }
 

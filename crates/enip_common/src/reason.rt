@@ -442,11 +442,7 @@ impl<'a> CommandError<'a> {
             reason,
             note,
         } = self;
-        let fault = match failed {
-            Fault::Run(ProgramFault::Device)
-            | Fault::Request(RequestFailure::Program(ProgramFault::Device)) => fault,
-            _ => failed,
-        };
+        let fault = if failed.is_of_device() { fault } else { failed };
         CommandError {
             fault,
             reason,
