@@ -21,7 +21,7 @@ const ENTRIES: [&[u8]; 4] = [
 ];
 
 /// A device with five slots, of which four are taken.
-fn device(rt: &HostRuntime, alloc: Global) -> Result<LedgerRouter<OwnedObjects>, Fail> {
+fn device(rt: &impl Abort, alloc: Global) -> Result<LedgerRouter<OwnedObjects>, Fail> {
     let mut node = node_of(alloc, 5, LIFE)?;
     let first = once(LIFE, 0x0102_0304_0506_0708, 0x0102_0304, ADD_FIVE);
     check(rt, &mut node, 504, &first, FIVE);
