@@ -1,5 +1,5 @@
 -- What is listed of a file, one command after the other.
-use Rattle.std.proofs.Common.{◌≡◌, ℕ, zero, suc, ◌+◌, ◌-◌, ◌<◌, List, [], ◌∷◌, ◌++◌, length, map, take, get_or, Option, Some, None, option_map, slice_get, refl, sym, ap, ◌∙◌}
+use Rattle.std.proofs.Common.{◌≡◌, ℕ, zero, suc, ◌+◌, ◌-◌, ◌<◌, List, [], ◌∷◌, ◌++◌, length, map, take, drop, get_or, Option, Some, None, option_map, slice_get, refl, sym, ap, ◌∙◌}
 use Rattle.std.proofs.lemmas.List.{take_more, map-append, length-map}
 use Rattle.std.proofs.lemmas.Option.{slice_get-map}
 use Rattle.std.proofs.Common.{true, false, nat_lt, codes, Result, Ok, Err, String, string_bytes, append_assoc, arith}
@@ -12,8 +12,9 @@ use Rattle.serde_json.specs.Data.{Data}
 use Rattle.serde_json.specs.Written.{has_float, items_have_float, compact_text}
 use Rattle.enip_commands.specs.Json.{is_comma, resumed_text}
 use Rattle.enip_commands.specs.declared.command_record.DoneCommand.{DoneCommand}
-use Rattle.enip_commands.specs.CommandRecords.{Done, Record, done_in}
-use Rattle.enip_commands.specs.RecordListing.{done_data, dones_data, text_data, pending_data, record_data, last_reply}
+use Rattle.enip_commands.specs.CommandRecords.{Done, Record, done_in, dones_text, pending_id_text, commander_lines}
+use Rattle.enip_commands.specs.CommandFiles.{file_text, line}
+use Rattle.enip_commands.specs.RecordListing.{listing_text, reply_text, done_data, dones_data, text_data, pending_data, record_data, last_reply}
 
 -- The object of one command more.
 pub values_more : {V : Type 0} (view : V → Data) (ds : List DoneCommand) (i : ℕ) (d : DoneCommand) (before after : List V) (v : V) → i < length ds
@@ -73,3 +74,12 @@ pub resumed_none : (number : ℕ) (text out : List ℕ) → position_or_len is_c
 resumed_none number text out none e =
     let missing : nat_lt (position_or_len is_comma text) (length text) ≡ false = grind (arith, nat_tests, none) in
     e ∙ rw missing refl
+
+-- ---- the listing for people
+
+pub listed : (r : Record) (whole front one two three four count last : List ℕ) → whole ≡ file_text r.commander → front ≡ drop 16 whole
+    → one ≡ front ++ line (codes "pending-id ") (pending_id_text r.pending_id) → two ≡ one ++ line (codes "ids ") count → count ≡ decimal (length r.done)
+    → three ≡ two ++ dones_text r.done → four ≡ three ++ line (codes "last reply ") last → last ≡ reply_text (last_reply r.done) → four ≡ listing_text r
+listed r whole front one two three four count last e f g h i j k l =
+    let begun : front ≡ commander_lines r.commander = f ∙ ap (λ (xs : List ℕ). drop 16 xs) e in
+    k ∙ rw (l, j, h, i, g, begun) (simp append_assoc)
