@@ -4,7 +4,7 @@ ghost use Rattle.std.specs.Prelude.{◌≡◌, IfOk, map, string_bytes};
 ghost use Rattle.std.specs.Option.{option_copied};
 ghost use Rattle.enip_commands.specs.CommandRecords.{record_in, done_in};
 ghost use Rattle.enip_commands.specs.RecordListing.{listing_text, record_data, done_data, dones_data, text_data, pending_data};
-ghost use Rattle.enip_commands.specs.RecordListing.{last_reply};
+ghost use Rattle.enip_commands.specs.RecordListing.{last_reply, reply_text};
 ghost use Rattle.serde_json.specs.View.{view, items_view};
 ghost use Rattle.serde_json.specs.Written.{compact_text};
 
@@ -27,7 +27,7 @@ pub fn record_listing(alloc: Global, kept: &CommandRecord<'_>) -> Result<Vec<u8>
 {
     let whole = format!(in alloc; "{}", CommandFile(&kept.commander))?;
     let count = format!(in alloc; "{}", kept.done.len())?;
-    let last = last_reply(kept.done.as_slice()).unwrap_or(b"none");
+    let last = reply_text(last_reply(kept.done.as_slice()));
     let mut text = Vec::new(alloc);
     text.extend_from_slice(&whole.as_bytes()[HEAD_SIZE..])?;
     append_line(&mut text, b"pending-id ", pending_id_text(kept.pending_id))?;
@@ -44,6 +44,16 @@ fn last_reply<'a>(done: &[DoneCommand<'a>]) -> Option<&'a [u8]>
     match done.last() {
         Some(command) => Some(command.reply),
         None => None,
+    }
+}
+
+/// The digits of a reply, or what stands for none.
+fn reply_text<'a>(reply: Option<&'a [u8]>) -> &'a [u8]
+    ensures { result.now ≡ reply_text (option_copied reply.entry) }
+{
+    match reply {
+        Some(digits) => digits,
+        None => b"none",
     }
 }
 

@@ -101,6 +101,6 @@ pub fn resumed_line(alloc: Global, number: u32, line: &str) -> Result<String, Al
         Some((first, rest)) => {
             format!(in alloc; "{first},\"number\":{number},\"resumed\":true,{rest}")
         }
-        None => format!(in alloc; "{line}"),
+        None => String::from_str(alloc, line),
     }
 }
