@@ -139,13 +139,17 @@ fn elsewhere(rt: HostRuntime) -> Result<(), Fail> {
     Ok(())
 }
 
-/// A slot that is freed is not listed, and those behind it move up. A slot keeps its place with a later command.
+/// A slot that is freed is not listed, and those behind it move up. A slot keeps its place with a later command, and one
+/// whose command is pending is not freed.
 #[test]
 fn freed(rt: HostRuntime) -> Result<(), Fail> {
     let mut node = device(&rt, rt.alloc())?;
-    let forget = b"\x4d\x02\x20\x65\x24\x01\x02\x00\x00\x00\x00\x00\x00\x00\x00\x00\x00\x00";
-    check(&rt, &mut node, 504, forget, b"\xcd\x00\x00\x00");
-    let left = [ENTRIES[0], ENTRIES[2], ENTRIES[3]];
+    let pending = b"\x4d\x02\x20\x65\x24\x01\x02\x00\x00\x00\x00\x00\x00\x00\x00\x00\x00\x00";
+    check(&rt, &mut node, 504, pending, b"\xcd\x00\x0c\x00");
+    check(&rt, &mut node, 504, &slots_from(0), &listed(4, &ENTRIES));
+    let doubtful = b"\x4d\x02\x20\x65\x24\x01\x00\x00\x00\x00\x00\x00\x00\x80\xff\xff\xff\xff";
+    check(&rt, &mut node, 504, doubtful, b"\xcd\x00\x00\x00");
+    let left = [ENTRIES[0], ENTRIES[1], ENTRIES[3]];
     check(&rt, &mut node, 504, &slots_from(0), &listed(3, &left));
     check(&rt, &mut node, 504, &slots_from(1), &listed(3, &left[1..]));
     let next = once(LIFE, 0x0102_0304_0506_0708, 0x0102_0305, ADD_FIVE);
@@ -157,7 +161,7 @@ fn freed(rt: HostRuntime) -> Result<(), Fail> {
         b"\xcb\x00\x00\x00\x00\xb2\x00\x00\x00\x0a\x00\x00\x00",
     );
     let first: &[u8] = b"\x08\x07\x06\x05\x04\x03\x02\x01\x05\x03\x02\x01\x00";
-    let now = [first, ENTRIES[2], ENTRIES[3]];
+    let now = [first, ENTRIES[1], ENTRIES[3]];
     check(&rt, &mut node, 504, &slots_from(0), &listed(3, &now));
     Ok(())
 }
