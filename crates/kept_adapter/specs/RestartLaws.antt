@@ -1,5 +1,5 @@
 -- What holds of a device over restarts.
-use Rattle.std.specs.Prelude.{option_map, None, ◌≡◌, ◌≢◌, ◌⊎◌, ℕ, List, [], ◌∷◌, map, Bool}
+use Rattle.std.specs.Prelude.{option_map, Some, None, ◌≡◌, ◌≢◌, ◌⊎◌, ℕ, List, [], ◌∷◌, map, Bool}
 use Rattle.std.specs.List.{AllByRecursion}
 use Rattle.cip_ledger.specs.Device.{Device}
 use Rattle.cip_ledger.specs.Laws.{HasNoDoubles, Rises, IsNotFreed, Succeeds}
