@@ -273,11 +273,11 @@ impl<'a> OnceRun<'a, '_> {
     }
 
     /// Writes the file once its command was executed: with its id and its reply, if it has an id.
-    fn keep(
+    fn keep<'x>(
         &self,
         file: &LockedFile,
-        record: CommandRecord<'_>,
-        request: &str,
+        record: CommandRecord<'x>,
+        request: &'x str,
         reply: &[u8],
     ) -> Result<(), CommandError<'a>> {
         let Some(id) = record.pending_id else {
