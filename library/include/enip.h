@@ -552,7 +552,8 @@ enum {
     ENIP_LEDGER_NUMBER = 0x0c,    /* a greater number was executed or queued: this one is not taken any more */
     ENIP_LEDGER_LIFE = 0x10,      /* the device has another life: it was started again */
     ENIP_LEDGER_SIZE = 0x11,      /* the reply does not fit: the connection's T->O size is too small */
-    ENIP_LEDGER_ORIGINATOR = 0x16 /* the originator has no slot (Get_Last) */
+    ENIP_LEDGER_ORIGINATOR = 0x16, /* the originator has no slot (Get_Last) */
+    ENIP_LEDGER_PENDING = 0xd0    /* the originator's last command is in the queue: try again when it is done */
 };
 
 /* What enip_once_receive learned about the pending command. */
@@ -619,7 +620,7 @@ ENIP_API int enip_once_receive(enip_once *once, const void *reply, size_t length
 
 /*
  * Gives up the pending command: it is executed once or not at all. Once a later command is done, it will not be
- * executed any more, unless it is in the queue of the device.
+ * executed any more. While it is in the queue of the device, a later one is refused (ENIP_LEDGER_PENDING).
  * ENIP_OK; ENIP_ABSENT if no command is pending; ENIP_MISUSE.
  */
 ENIP_API int enip_once_abandon(enip_once *once);

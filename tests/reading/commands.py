@@ -1,7 +1,7 @@
 """Random requests to the command ledger, right ones and ones with a fault, mixed with requests to the objects."""
 from reading.protocol import (
-    CONNECTION_MANAGER, DO_ONCE, FORGET, FORWARD_CLOSE, FORWARD_OPEN, GET, GET_LAST, GET_LIST, LARGE_FORWARD_OPEN,
-    LAST, LAST_MOMENT, LEDGER, SET, number,
+    CONNECTION_MANAGER, DO_ONCE, FORGET, FORWARD_CLOSE, FORWARD_OPEN, GET, GET_LAST, GET_LIST, GET_SLOTS,
+    LARGE_FORWARD_OPEN, LAST, LAST_MOMENT, LEDGER, SET, number,
 )
 from reading.ledger import EMBEDDED_ROOM
 from reading.requests import Requests
@@ -22,7 +22,7 @@ class Commands(Requests):
         return self.to_ledger(config) if self.seldom(share) else super().request(config)
 
     def to_ledger(self, config):
-        service = self.pick(*[DO_ONCE] * 12, *[GET_LAST, FORGET] * 2, *[GET] * 4, GET_LIST, SET)
+        service = self.pick(*[DO_ONCE] * 12, *[GET_LAST, FORGET, GET_SLOTS] * 2, *[GET] * 4, GET_LIST, SET)
         path = self.right_path(LEDGER, self.pick(*[1] * 30, 0, 2, 65537))
         if service == DO_ONCE:
             data = self.command(config)
@@ -30,6 +30,8 @@ class Commands(Requests):
             data = self.fitted(number(8, self.pick(*ORIGINATORS)))
         elif service == FORGET:
             data = self.fitted(self.forgotten())
+        elif service == GET_SLOTS:
+            data = self.fitted(number(2, self.pick(0, 0, 0, 1, 1, 2, 3, 4, 64, 256, 0xFFFF)))
         elif service == GET_LIST:
             listed = [self.pick(1, 2, 3, 3, 300) for _ in range(self.pick(0, 1, 1, 2, 2, 3, 60))]
             data = self.fitted(b"".join(number(2, one) for one in [len(listed), *listed]))

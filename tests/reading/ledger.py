@@ -4,8 +4,8 @@ import struct
 from dataclasses import dataclass
 
 from reading.protocol import (
-    ATTRIBUTE, CONNECTION_MANAGER, DESTINATION, DO_ONCE, FORGET, GET, GET_LAST, GET_LIST, LEDGER, LIST, LONG,
-    NOT_NEW, NO_SLOT, OTHER_LIFE, PRIVILEGE_VIOLATION, SERVICE, SHORT, TOO_LARGE, UNKNOWN_ORIGINATOR, Refusal, class_of,
+    ATTRIBUTE, CONNECTION_MANAGER, DESTINATION, DO_ONCE, FORGET, GET, GET_LAST, GET_LIST, GET_SLOTS, LEDGER, LIST,
+    LONG, NOT_NEW, NO_SLOT, OTHER_LIFE, PRIVILEGE_VIOLATION, SERVICE, SHORT, TOO_LARGE, UNKNOWN_ORIGINATOR, Refusal, class_of,
     is_change, number, request_of,
 )
 from reading.objects import Objects, listed
@@ -46,7 +46,7 @@ class Ledger:
     def rows(self, request, room):
         service, path, data = request_of(request)
         instance, attribute = path["instance"], path.get("attribute")
-        services = {0: [GET], 1: [GET_LIST, GET, DO_ONCE, GET_LAST, FORGET]}.get(instance)
+        services = {0: [GET], 1: [GET_LIST, GET, DO_ONCE, GET_LAST, FORGET, GET_SLOTS]}.get(instance)
         yield "another instance", services is None, DESTINATION
         yield "another service", service not in services, SERVICE
         if service == GET:
@@ -54,7 +54,7 @@ class Ledger:
         elif service == GET_LIST:
             yield from self.list_rows(data, room)
         else:
-            rows = {DO_ONCE: self.do_once, GET_LAST: self.get_last, FORGET: self.forget}
+            rows = {DO_ONCE: self.do_once, GET_LAST: self.get_last, FORGET: self.forget, GET_SLOTS: self.get_slots}
             yield from rows[service](data, room)
 
     def do_once(self, data, room):
@@ -105,6 +105,17 @@ class Ledger:
         yield "Forget: the slot has a smaller number", slot.number < command, NOT_NEW
         del self.slots[originator]
         yield "Forget", True, SUCCESS
+
+    def get_slots(self, data, room):
+        yield "Get_Slots: too short", len(data) < 2, SHORT
+        yield "Get_Slots: too long", len(data) > 2, LONG
+        first = int.from_bytes(data, "little")
+        left = [number(8, originator) + number(4, slot.number) + DONE for originator, slot in self.slots.items()][first:]
+        fitting = left[: (room - 6) // 13]
+        listed = number(2, len(self.slots)) + b"".join(fitting)
+        yield "Get_Slots: past the last slot", not left, SUCCESS, listed
+        yield "Get_Slots: not all of them fit", len(fitting) < len(left), SUCCESS, listed
+        yield "Get_Slots", True, SUCCESS, listed
 
     def attribute(self, instance, attribute):
         if instance == 0:

@@ -5,7 +5,7 @@ GET_ALL, GET_LIST, SET_LIST, GET, SET, GET_MEMBER, SET_MEMBER = 0x01, 0x03, 0x04
 RESET = 0x05
 ADD, CLEAR = 0x32, 0x33
 PACKET = 0x0A
-DO_ONCE, GET_LAST, FORGET = 0x4B, 0x4C, 0x4D
+DO_ONCE, GET_LAST, FORGET, GET_SLOTS = 0x4B, 0x4C, 0x4D, 0x50
 FORWARD_CLOSE, FORWARD_OPEN, LARGE_FORWARD_OPEN = 0x4E, 0x54, 0x5B
 PATH_SEGMENT, DESTINATION, SERVICE, VALUE, LIST, NOT_SETTABLE = 0x04, 0x05, 0x08, 0x09, 0x0A, 0x0E
 TOO_LARGE, SHORT, ATTRIBUTE, LONG, PARAMETER, PATH_SIZE, MEMBER = 0x11, 0x13, 0x14, 0x15, 0x20, 0x26, 0x28
@@ -98,9 +98,9 @@ def class_of(request):
 
 
 def is_change(request):
-    """Whether a request could change something, by its service. The last command of the ledger is only read. A packet of
-    requests is looked at in `Readable`."""
-    if request[0] == GET_LAST and class_of(request) == LEDGER:
+    """Whether a request could change something, by its service. A last command and the slots of the ledger are only read.
+    A packet of requests is looked at in `Readable`."""
+    if request[0] in (GET_LAST, GET_SLOTS) and class_of(request) == LEDGER:
         return False
     return request[0] in CHANGES or FIRST_OWN <= request[0] <= LAST_OWN
 

@@ -1,12 +1,12 @@
 -- Requests of others do the same whatever is kept in the originator's slot.
-use Rattle.std.proofs.Common.{◌≡◌, ◌≢◌, ℕ, ◌==◌, nat_lt, Bool, true, false, not, if◌then◌else◌, Option, Some, None, List, length, refl, ap, arith}
+use Rattle.std.proofs.Common.{◌≡◌, ◌≢◌, ℕ, ◌==◌, ◌&&◌, nat_lt, Bool, true, false, not, if◌then◌else◌, Option, Some, None, List, length, refl, ap, arith}
 use Rattle.std.specs.Prelude.{⊤, option_map}
 use Rattle.std.proofs.lemmas.Bool.{ltb-false, eq-eqb}
 use Rattle.cip_bytes.specs.Numbers.{number_at}
 use Rattle.cip_ledger.specs.declared.service.TheConstants as services
 use Rattle.cip_ledger.specs.declared.target.Standing.{Standing}
 use Rattle.cip_ledger.specs.declared.target.Standing.TheVariants as standings
-use Rattle.cip_ledger.specs.Ledger.{LedgerState, SlotState, slot_of}
+use Rattle.cip_ledger.specs.Ledger.{LedgerState, SlotState, slot_of, is_pending}
 use Rattle.cip_ledger.specs.Requests.{LedgerRequest, Command, command_of, ledger_request}
 use Rattle.cip_ledger.specs.Standings.{embedded_standing, by_standing, new_at_router, at_router}
 use Rattle.cip_ledger.specs.Services.{Answer, Action, Replies, Executes, Queues, Frees, action_of, instance_action, do_once, do_command, do_by_slot, do_new, forget, forget_in, size_fault, unless, refuses}
@@ -67,7 +67,8 @@ module _ (slot : SlotState) (ledger : LedgerState) (max_size : ℕ) where
       (same_if own (nat_lt (length ledger.taken) ledger.slots) _ _ _ _ (λ is. new-same command apart) (λ is. tt))
   by_slot-same command (Some found) apart =
       same_if own (nat_lt command.number found.number) _ _ _ _ (λ is. tt)
-      (λ is. same_if own (command.number == found.number) _ _ _ _ (λ is. tt) (λ is. new-same command apart))
+      (λ is. same_if own (command.number == found.number) _ _ _ _ (λ is. tt)
+      (λ is. same_if own (is_pending found) _ _ _ _ (λ is. tt) (λ is. new-same command apart)))
 
   command-same : (command : Command) → command.originator ≢ own →
       Same own (do_command (filled slot ledger) max_size command) (do_command ledger max_size command)
@@ -92,7 +93,7 @@ module _ (slot : SlotState) (ledger : LedgerState) (max_size : ℕ) where
       Same own (forget_in originator number found) (forget_in originator number found)
   forget_in-same originator number None apart = tt
   forget_in-same originator number (Some found) apart =
-      same_if own (found.number == number) _ _ _ _ (λ is. (refl, apart)) (λ is. tt)
+      same_if own ((found.number == number) && not (is_pending found)) _ _ _ _ (λ is. (refl, apart)) (λ is. tt)
 
   -- data of the right size name a slot of another
   forget-same : (bytes : List ℕ) → ((n : ℕ) → forgotten_in_data bytes ≢ Some (own, n)) →
@@ -126,7 +127,8 @@ module _ (slot : SlotState) (ledger : LedgerState) (max_size : ℕ) where
       (λ is. same_if own (request.service == services.FORGET) _ _ _ _
       (λ is. forget-same request.data (λ n. rw (instance_is, is) at freed n))
       (λ is. same_if own (request.service == 0x0e) _ _ _ _ (λ is. tt)
-      (λ is. same_if own (request.service == 0x03) _ _ _ _ (λ is. tt) (λ is. tt)))))
+      (λ is. same_if own (request.service == 0x03) _ _ _ _ (λ is. tt)
+      (λ is. same_if own (request.service == services.GET_SLOTS) _ _ _ _ (λ is. tt) (λ is. tt))))))
 
   action-same : (request : LedgerRequest) →
       option_map (λ (c : Command). c.originator) (command_by (Some request)) ≢ Some own → ((n : ℕ) → forgotten_by (Some request) ≢ Some (own, n)) →

@@ -3,4 +3,5 @@ pub mod CommanderRule
 pub mod Laws
 pub mod NumberedWorld
 pub mod Outcome
+pub mod Slots
 pub mod Worlds

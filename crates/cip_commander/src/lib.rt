@@ -19,7 +19,12 @@ mod commander;
 pub mod laws;
 mod outcome;
 mod refusal;
+mod slots;
 
 pub use commander::Commander;
 pub use outcome::CommandOutcome;
 pub use refusal::{CommandRefused, LONGEST_EMBEDDED};
+pub use slots::{
+    COUNTS_REQUEST, CommandState, LedgerSlot, SLOT_REQUEST_SIZE, SlotList, SlotRequest, SlotsFault,
+    forget_request, last_request, read_counts, read_forgotten, read_last, slots_request,
+};

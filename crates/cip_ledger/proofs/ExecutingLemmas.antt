@@ -1,5 +1,5 @@
 -- The slot in which a command would be in doubt, and commands that would be executed.
-use Rattle.std.proofs.Common.{◌≡◌, ℕ, zero, suc, ◌+◌, ◌<◌, ◌==◌, Bool, true, false, if◌then◌else◌, not, Option, Some, None, List, [], ◌∷◌, ◌++◌, length, slice_set, refl, ap, sym, subst, ◌∙◌, arith}
+use Rattle.std.proofs.Common.{◌≡◌, ℕ, zero, suc, ◌+◌, ◌<◌, ◌==◌, ◌&&◌, Bool, true, false, if◌then◌else◌, not, Option, Some, None, List, [], ◌∷◌, ◌++◌, length, slice_set, refl, ap, sym, subst, ◌∙◌, arith}
 use Rattle.std.specs.Prelude.{slice_get, nat_lt}
 use Rattle.std.proofs.lemmas.Bool.{eq-eqb, ne_eqb, eqb-true}
 use Rattle.std.proofs.lemmas.Bool.Decides.{nat_tests}
@@ -11,13 +11,13 @@ use Rattle.cip_ledger.specs.declared.status.Status.{Status}
 use Rattle.cip_ledger.specs.declared.status.Status.TheVariants as statuses
 use Rattle.cip_ledger.specs.Doubt.{can_doubt, can_doubt_at, doubted, with_last, is_in_doubt, is_in_doubt_at}
 use Rattle.cip_ledger.specs.Executing.{name_of, new_command, executed_by, executed_in, command_of, doubtful, IsDoubtedAt}
-use Rattle.cip_ledger.specs.Ledger.{SlotState, LedgerState, slot_of}
+use Rattle.cip_ledger.specs.Ledger.{SlotState, LedgerState, slot_of, is_pending}
 use Rattle.cip_ledger.specs.Requests.{LedgerRequest, Command, ledger_request}
 use Rattle.cip_ledger.specs.Requests as requests
 use Rattle.cip_ledger.specs.Runs.{Request}
 use Rattle.cip_bytes.specs.Numbers.{number_at}
 use Rattle.cip_ledger.specs.Standings.{embedded_standing, by_standing, at_router}
-use Rattle.cip_ledger.specs.Services.{Action, Replies, Executes, Queues, Frees, Answer, HEAD_SIZE, KEPT_LIMIT, do_new, do_by_slot, do_command, do_once, forget, forget_in, get_last, size_fault, unless, refuses, refusal, success, within, last_content, instance_action, action_of, class_answer, single, value_named, ledger_values, get_attribute_list}
+use Rattle.cip_ledger.specs.Services.{Action, Replies, Executes, Queues, Frees, Answer, HEAD_SIZE, KEPT_LIMIT, do_new, do_greater, do_by_slot, do_command, do_once, forget, forget_in, get_last, get_slots, size_fault, unless, refuses, refusal, success, within, last_content, instance_action, action_of, class_answer, single, value_named, ledger_values, get_attribute_list}
 use Rattle.cip_ledger.specs.Slots.{IsAt, IsMissing}
 use Rattle.cip_ledger.specs.Turn.{fate_of}
 use Rattle.cip_ledger.proofs.SlotLemmas.{slot_of-with_slot}
@@ -126,12 +126,13 @@ by_slot ledger max_size command (Some slot) is =
   where
     go : (smaller same : Bool) → nat_lt command.number slot.number ≡ smaller → (command.number == slot.number) ≡ same
         → CanBeDoubted ledger (if smaller then refuses statuses.ObjectStateConflict
-        else (if same then Replies (within max_size (success (last_content slot))) else do_new max_size command))
+        else (if same then Replies (within max_size (success (last_content slot))) else do_greater max_size command slot))
     go true same h k = by_reply ledger (refusal statuses.ObjectStateConflict)
     go false true h k = by_reply ledger (within max_size (success (last_content slot)))
     go false false h k =
         let greater : nat_lt slot.number command.number ≡ true = grind (arith, nat_tests, h, k) in
-        by_new ledger max_size command (ap (can_doubt_at ledger command.number) is ∙ greater)
+        refused_or ledger (is_pending slot) statuses.CommandPending (do_new max_size command)
+        (by_new ledger max_size command (ap (can_doubt_at ledger command.number) is ∙ greater))
 
 by_command : (ledger : LedgerState) (max_size : ℕ) (command : Command)
     → CanBeDoubted ledger (do_command ledger max_size command)
@@ -144,7 +145,7 @@ by_forget : (ledger : LedgerState) (originator number : ℕ) (found : Option Slo
     → CanBeDoubted ledger (forget_in originator number found)
 by_forget ledger originator number None = by_reply ledger (success [])
 by_forget ledger originator number (Some slot) =
-    either ledger (slot.number == number) (Frees originator) (refuses statuses.ObjectStateConflict)
+    either ledger ((slot.number == number) && not (is_pending slot)) (Frees originator) (refuses statuses.ObjectStateConflict)
     (by_freeing ledger originator) (by_reply ledger (refusal statuses.ObjectStateConflict))
 
 by_size : (ledger : LedgerState) (fault : Option Status) (action : Action) → CanBeDoubted ledger action
@@ -170,9 +171,14 @@ module _ (ledger : LedgerState) (max_size : ℕ) (request : LedgerRequest) where
   abbrev list : Answer
   list = get_attribute_list (ledger_values ledger) max_size request.data
 
+  abbrev slots : Answer
+  slots = get_slots ledger max_size request.data
+
+  abbrev after_slots : Action
+  after_slots = if request.service == services.GET_SLOTS then Replies slots else refuses statuses.ServiceNotSupported
+
   abbrev after_list : Action
-  after_list =
-      if request.service == services.GET_ATTRIBUTE_LIST then Replies list else refuses statuses.ServiceNotSupported
+  after_list = if request.service == services.GET_ATTRIBUTE_LIST then Replies list else after_slots
 
   abbrev after_one : Action
   after_one = if request.service == services.GET_ATTRIBUTE_SINGLE then Replies one else after_list
@@ -194,8 +200,9 @@ module _ (ledger : LedgerState) (max_size : ℕ) (request : LedgerRequest) where
       (either ledger (request.service == services.FORGET) (forget ledger request.data) after_one
       (by_forgetting ledger request.data)
       (replied_or ledger (request.service == services.GET_ATTRIBUTE_SINGLE) one after_list
-      (replied_or ledger (request.service == services.GET_ATTRIBUTE_LIST) list (refuses statuses.ServiceNotSupported)
-      (by_reply ledger (refusal statuses.ServiceNotSupported))))))
+      (replied_or ledger (request.service == services.GET_ATTRIBUTE_LIST) list after_slots
+      (replied_or ledger (request.service == services.GET_SLOTS) slots (refuses statuses.ServiceNotSupported)
+      (by_reply ledger (refusal statuses.ServiceNotSupported)))))))
 
   abbrev by_class : Answer
   by_class = class_answer max_size request

@@ -12,8 +12,8 @@ use Rattle.cip_ledger.specs.Status.{status_number}
 use Rattle.cip_ledger.specs.Ledger.{LedgerState, SlotState, slot_of, empty_ledger, without_slot}
 use Rattle.cip_ledger.specs.Requests.{LedgerRequest, Command, command_of, ledger_request}
 use Rattle.cip_ledger.specs.Standings.{embedded_standing, by_standing, new_at_router, at_router}
-use Rattle.cip_ledger.specs.Services.{Action, Replies, Executes, Queues, Frees, success, reply_to, DONE, PENDING, state_content, last_content, KEPT_LIMIT, HEAD_SIZE, do_command, do_by_slot, action_of}
-use Rattle.cip_ledger.specs.Turn.{Fate, Passed, Served, fate, fate_of, turn_by, turn_of, acted, with_taken, with_freed, slot_done, slot_queued, embedded_reply}
+use Rattle.cip_ledger.specs.Services.{Action, Replies, Executes, Queues, Frees, success, reply_to, DONE, PENDING, state_content, KEPT_LIMIT, HEAD_SIZE, do_command, do_by_slot, action_of}
+use Rattle.cip_ledger.specs.Turn.{Fate, Passed, Served, fate, fate_of, turn_by, acted, with_taken, with_freed, slot_done, slot_queued, embedded_reply}
 use Rattle.cip_ledger.specs.Runs.{Request, slot_in, command_by, command_given, Event, Executed, Freed}
 use Rattle.cip_ledger.specs.Runs.{turn_at, answer_to, next, node_after, events_by, journal, StaysFinal}
 use Rattle.cip_ledger.specs.Laws.{IsNotFreed, IsDone, IsOfExecution, Succeeds, IsNew, IsNewIn, Life, begun}
@@ -318,7 +318,8 @@ new_action : (found : Option SlotState) (ledger : LedgerState) (max_size : ℕ) 
 new_action None ledger max_size command new roomy =
     rw (lt-ltb _ _ new, le-ltb max_size (HEAD_SIZE + 1 + KEPT_LIMIT) roomy) refl
 new_action (Some slot) ledger max_size command new roomy =
-    rw (le-ltb command.number slot.number (omega (arith, new)), ne_eqb command.number slot.number (λ e. omega (arith, new, e)), le-ltb max_size (HEAD_SIZE + 1 + KEPT_LIMIT) roomy) refl
+    let greater = new.0 in
+    rw (le-ltb command.number slot.number (omega (arith, greater)), ne_eqb command.number slot.number (λ e. omega (arith, greater, e)), new.1, le-ltb max_size (HEAD_SIZE + 1 + KEPT_LIMIT) roomy) refl
 
 new_command : (ledger : LedgerState) (max_size : ℕ) (command : Command) → IsNew ledger command → HEAD_SIZE + 1 + KEPT_LIMIT ≤ max_size →
     do_command ledger max_size command ≡ Executes command

@@ -1,5 +1,5 @@
 -- What the fate of a request says of the request and of the ledger.
-use Rattle.std.proofs.Common.{◌≡◌, ◌⊎◌, inl, inr, ℕ, ◌+◌, ◌*◌, ◌<◌, ◌≤◌, ◌==◌, ◌&&◌, nat_lt, Bool, true, false, not, if◌then◌else◌, Option, Some, None, unwrap_or, List, [], ◌++◌, length, drop, refl, ap, sym, ◌∙◌, subst, arith, length-drop}
+use Rattle.std.proofs.Common.{◌≡◌, ◌⊎◌, inl, inr, ℕ, ◌+◌, ◌-◌, ◌*◌, ◌<◌, ◌≤◌, ◌==◌, ◌&&◌, nat_lt, Bool, true, false, not, if◌then◌else◌, Option, Some, None, unwrap_or, List, [], ◌++◌, length, drop, refl, ap, sym, ◌∙◌, subst, arith, length-drop}
 use Rattle.std.specs.Prelude.{⊤}
 use Rattle.std.proofs.lemmas.Bool.{eq-eqb, eqb-true, eqb-false, ltb-true, ltb-false}
 use Rattle.cip_bytes.specs.Numbers.{le, number_at, words_of}
@@ -9,10 +9,11 @@ use Rattle.cip_ledger.specs.declared.service.TheConstants as services
 use Rattle.cip_ledger.specs.declared.target.Standing.{Standing}
 use Rattle.cip_ledger.specs.declared.target.Standing.TheVariants as standings
 use Rattle.cip_ledger.specs.Status.{status_number}
-use Rattle.cip_ledger.specs.Ledger.{LedgerState, SlotState, slot_of}
+use Rattle.cip_ledger.specs.Ledger.{LedgerState, SlotState, slot_of, is_pending}
 use Rattle.cip_ledger.specs.Requests.{LedgerRequest, Command, command_of, ledger_request}
-use Rattle.cip_ledger.specs.Standings.{embedded_standing, by_standing, new_at_router, at_router}
-use Rattle.cip_ledger.specs.Services.{Answer, Action, Replies, Executes, Queues, Frees, refusal, refuses, success, within, size_fault, unless, last_content, KEPT_LIMIT, HEAD_SIZE, do_once, do_command, do_by_slot, do_new, get_last, last_in, forget, forget_in, single, value_named, class_answer, class_values, get_attribute_list, list_answer, ledger_values, instance_action, action_of}
+use Rattle.cip_ledger.specs.Standings.{embedded_standing, by_standing, at_router}
+use Rattle.cip_ledger.specs.SlotList.{slot_list}
+use Rattle.cip_ledger.specs.Services.{Answer, Action, Replies, Executes, Queues, Frees, refusal, refuses, success, within, size_fault, unless, last_content, KEPT_LIMIT, HEAD_SIZE, do_once, do_command, do_by_slot, do_greater, do_new, get_last, last_in, forget, forget_in, get_slots, single, value_named, class_answer, class_values, get_attribute_list, list_answer, ledger_values, instance_action, action_of}
 use Rattle.cip_ledger.specs.Turn.{Fate, Passed, Served, fate, fate_of}
 use Rattle.cip_ledger.specs.Runs.{Request, command_by, command_in_data, command_given, forgotten_by, forgotten_in_data, forgotten}
 
@@ -20,6 +21,11 @@ use Rattle.cip_ledger.specs.Runs.{Request, command_by, command_in_data, command_
 abbrev pub IsNewAt : Option SlotState → ℕ → Type 0
 IsNewAt None number = ⊤
 IsNewAt (Some slot) number = slot.number < number
+
+-- the command of the slot is not pending, if there is one
+abbrev pub HasEnded : Option SlotState → Type 0
+HasEnded None = ⊤
+HasEnded (Some slot) = is_pending slot ≡ false
 
 -- the data of a success answer to a command are those kept for it
 pub record IsKept (ledger : LedgerState) (command : Command) (content : List ℕ) : Type 0 where
@@ -44,6 +50,7 @@ pub record IsExecuted (ledger : LedgerState) (max_size : ℕ) (given : Option Co
   pub given_is : given ≡ Some command
   pub life : command.life ≡ ledger.life
   pub newer : IsNewAt (slot_of command.originator ledger.taken) command.number
+  pub ended : HasEnded (slot_of command.originator ledger.taken)
   pub fits : HEAD_SIZE + 1 + KEPT_LIMIT ≤ max_size
   pub request : 2 ≤ length command.request
 
@@ -52,6 +59,7 @@ pub record Forgets (ledger : LedgerState) (given : Option Command) (named : Opti
   pub slot : SlotState
   pub found : slot_of originator ledger.taken ≡ Some slot
   pub named_is : named ≡ Some (originator, slot.number)
+  pub ended : is_pending slot ≡ false
 
 abbrev pub MeansAction : LedgerState → ℕ → Option Command → Option (ℕ × ℕ) → Action → Type 0
 MeansAction ledger max_size given named (Replies answer) = Answers ledger max_size given answer
@@ -102,24 +110,36 @@ module _ (ledger : LedgerState) (max_size : ℕ) (bytes : List ℕ) (named : Opt
 
   new_means : (tight : Bool) → 22 ≤ length bytes → (command_of bytes).life ≡ ledger.life →
       IsNewAt (slot_of (command_of bytes).originator ledger.taken) (command_of bytes).number →
+      HasEnded (slot_of (command_of bytes).originator ledger.taken) →
       nat_lt max_size (HEAD_SIZE + 1 + KEPT_LIMIT) ≡ tight →
       MeansAction ledger max_size (Some (command_of bytes)) named
       (if tight then refuses statuses.ReplyDataTooLarge else Executes (command_of bytes))
-  new_means true enough life newer h = refused_of ledger max_size (Some (command_of bytes)) named statuses.ReplyDataTooLarge (λ e. absurd (omega (arith, e))) (λ e. absurd (omega (arith, e)))
-  new_means false enough life newer h = record {
+  new_means true enough life newer ended h = refused_of ledger max_size (Some (command_of bytes)) named statuses.ReplyDataTooLarge (λ e. absurd (omega (arith, e))) (λ e. absurd (omega (arith, e)))
+  new_means false enough life newer ended h = record {
     given_is = refl;
     life = life;
     newer = newer;
+    ended = ended;
     fits = ltb-false max_size (HEAD_SIZE + 1 + KEPT_LIMIT) h;
     request = (let size = length-drop 20 bytes in omega (arith, enough, size));
   }
+
+  greater_means : (slot : SlotState) (waits : Bool) → 22 ≤ length bytes → (command_of bytes).life ≡ ledger.life →
+      slot_of (command_of bytes).originator ledger.taken ≡ Some slot → slot.number < (command_of bytes).number →
+      is_pending slot ≡ waits →
+      MeansAction ledger max_size (Some (command_of bytes)) named
+      (if waits then refuses statuses.CommandPending else do_new max_size (command_of bytes))
+  greater_means slot true enough life found newer h = refused_of ledger max_size (Some (command_of bytes)) named statuses.CommandPending (λ e. absurd (omega (arith, e))) (λ e. absurd (omega (arith, e)))
+  greater_means slot false enough life found newer h =
+      new_means (nat_lt max_size (HEAD_SIZE + 1 + KEPT_LIMIT)) enough life (rw found newer) (rw found h) refl
 
   some_means : (slot : SlotState) (less same : Bool) → 22 ≤ length bytes → (command_of bytes).life ≡ ledger.life →
       slot_of (command_of bytes).originator ledger.taken ≡ Some slot →
       nat_lt (command_of bytes).number slot.number ≡ less → ((command_of bytes).number == slot.number) ≡ same →
       MeansAction ledger max_size (Some (command_of bytes)) named
       (if less then refuses statuses.ObjectStateConflict
-      else (if same then Replies (within max_size (success (last_content slot))) else do_new max_size (command_of bytes)))
+      else (if same then Replies (within max_size (success (last_content slot)))
+      else do_greater max_size (command_of bytes) slot))
   some_means slot true same enough life found h i = record {
     fits = λ least. omega (arith, least);
     kept = λ command is e. absurd (omega (arith, e));
@@ -132,7 +152,7 @@ module _ (ledger : LedgerState) (max_size : ℕ) (bytes : List ℕ) (named : Opt
       let least = ltb-false (command_of bytes).number slot.number h in
       let other = eqb-false (command_of bytes).number slot.number i in
       let newer : slot.number < (command_of bytes).number = omega (arith, least, other) in
-      new_means (nat_lt max_size (HEAD_SIZE + 1 + KEPT_LIMIT)) enough life (rw found newer) refl
+      greater_means slot (is_pending slot) enough life found newer refl
 
   slot_means : (found : Option SlotState) → 22 ≤ length bytes → (command_of bytes).life ≡ ledger.life → slot_of (command_of bytes).originator ledger.taken ≡ found →
       MeansAction ledger max_size (Some (command_of bytes)) named (do_by_slot ledger max_size (command_of bytes) found)
@@ -140,7 +160,7 @@ module _ (ledger : LedgerState) (max_size : ℕ) (bytes : List ℕ) (named : Opt
     where
       by_free : (free : Bool) → MeansAction ledger max_size (Some (command_of bytes)) named
           (if free then do_new max_size (command_of bytes) else refuses statuses.ResourceUnavailable)
-      by_free true = new_means (nat_lt max_size (HEAD_SIZE + 1 + KEPT_LIMIT)) enough life (rw found tt) refl
+      by_free true = new_means (nat_lt max_size (HEAD_SIZE + 1 + KEPT_LIMIT)) enough life (rw found tt) (rw found tt) refl
       by_free false = refused_of ledger max_size (Some (command_of bytes)) named statuses.ResourceUnavailable (λ e. absurd (omega (arith, e))) (λ e. absurd (omega (arith, e)))
   slot_means (Some slot) enough life found =
       some_means slot (nat_lt (command_of bytes).number slot.number) ((command_of bytes).number == slot.number) enough life found refl refl
@@ -159,7 +179,7 @@ module _ (ledger : LedgerState) (max_size : ℕ) (bytes : List ℕ) (named : Opt
   once_means true h = refused_of ledger max_size None named statuses.NotEnoughData (λ e. absurd (omega (arith, e))) (λ e. absurd (omega (arith, e)))
   once_means false h = life_means ((command_of bytes).life == ledger.life) (ltb-false (length bytes) 22 h) refl
 
--- ---- Get_Last and the attributes only reply
+-- ---- Get_Last, the attributes and Get_Slots only reply
 
 unless_fits : (max_size : ℕ) (fault : Option Status) (answer : Answer) → 8 ≤ max_size →
     HEAD_SIZE + length answer.content ≤ max_size → HEAD_SIZE + length (unless fault refusal answer).content ≤ max_size
@@ -184,6 +204,12 @@ list-fits ledger max_size bytes false least =
     let answer = list_answer (ledger_values ledger) (number_at 0 2 bytes) (words_of (drop 2 bytes)) in
     unless_fits max_size (size_fault (2 + 2 * number_at 0 2 bytes) bytes) (within max_size answer) least (within-fits max_size answer least)
 
+slots-fit : (ledger : LedgerState) (max_size : ℕ) (bytes : List ℕ) → 8 ≤ max_size →
+    HEAD_SIZE + length (get_slots ledger max_size bytes).content ≤ max_size
+slots-fit ledger max_size bytes least =
+    let answer = success (slot_list (max_size - HEAD_SIZE) (number_at 0 2 bytes) ledger.taken) in
+    unless_fits max_size (size_fault 2 bytes) (within max_size answer) least (within-fits max_size answer least)
+
 -- ---- Forget
 
 exact : (bytes : List ℕ) → 12 ≤ length bytes → length bytes ≤ 12 → forgotten_in_data bytes ≡ Some (number_at 0 8 bytes, number_at 8 4 bytes)
@@ -194,18 +220,22 @@ module _ (ledger : LedgerState) (max_size : ℕ) (bytes : List ℕ) where
       MeansAction ledger max_size None (forgotten_in_data bytes) (forget_in (number_at 0 8 bytes) (number_at 8 4 bytes) found)
   forget_found None is least most =
       no_command_of ledger max_size None (forgotten_in_data bytes) (success []) refl (λ h. omega (arith, h))
-  forget_found (Some slot) is least most = by_number (slot.number == number_at 8 4 bytes) refl
+  forget_found (Some slot) is least most = by_number (slot.number == number_at 8 4 bytes) (is_pending slot) refl refl
     where
-      by_number : (same : Bool) → (slot.number == number_at 8 4 bytes) ≡ same → MeansAction ledger max_size None (forgotten_in_data bytes)
-          (if same then Frees (number_at 0 8 bytes) else refuses statuses.ObjectStateConflict)
-      by_number true h = record {
+      by_number : (same waits : Bool) → (slot.number == number_at 8 4 bytes) ≡ same → is_pending slot ≡ waits →
+          MeansAction ledger max_size None (forgotten_in_data bytes)
+          (if same && not waits then Frees (number_at 0 8 bytes) else refuses statuses.ObjectStateConflict)
+      by_number true true h waits =
+          no_command_of ledger max_size None (forgotten_in_data bytes) (refusal statuses.ObjectStateConflict) refl (λ h. omega (arith, h))
+      by_number true false h waits = record {
         no_command = refl;
         slot = slot;
         found = is;
         named_is = exact bytes least most
             ∙ ap (λ n. Some (number_at 0 8 bytes, n)) (sym (eqb-true slot.number (number_at 8 4 bytes) h));
+        ended = waits;
       }
-      by_number false h =
+      by_number false waits h is_waiting =
           no_command_of ledger max_size None (forgotten_in_data bytes) (refusal statuses.ObjectStateConflict) refl (λ h. omega (arith, h))
 
   forget_means : (few many : Bool) → nat_lt (length bytes) 12 ≡ few → nat_lt 12 (length bytes) ≡ many →
@@ -227,7 +257,7 @@ module _ (ledger : LedgerState) (max_size : ℕ) (request : LedgerRequest) where
   only_replies true forgets answer e fits = absurd (cc)
   only_replies false forgets answer e fits = no_command_of ledger max_size None (if forgets then forgotten_in_data request.data else None) answer refl fits
 
-  service_means : (once last forgets get list : Bool) → (request.service == services.DO_ONCE) ≡ once → (request.service == services.FORGET) ≡ forgets →
+  service_means : (once last forgets get list slots : Bool) → (request.service == services.DO_ONCE) ≡ once → (request.service == services.FORGET) ≡ forgets →
       MeansAction ledger max_size (if once then command_in_data request.data else None)
       (if forgets then forgotten_in_data request.data else None)
       (if once then do_once ledger max_size request.data
@@ -235,22 +265,26 @@ module _ (ledger : LedgerState) (max_size : ℕ) (request : LedgerRequest) where
       else (if forgets then forget ledger request.data
       else (if get then Replies (single max_size request.data (value_named (ledger_values ledger) request.attribute))
       else (if list then Replies (get_attribute_list (ledger_values ledger) max_size request.data)
-      else refuses statuses.ServiceNotSupported)))))
-  service_means true last forgets get list h i =
+      else (if slots then Replies (get_slots ledger max_size request.data)
+      else refuses statuses.ServiceNotSupported))))))
+  service_means true last forgets get list slots h i =
       once_means ledger max_size request.data (if forgets then forgotten_in_data request.data else None) (nat_lt (length request.data) 22) refl
-  service_means false true forgets get list h i =
+  service_means false true forgets get list slots h i =
       only_replies false forgets (get_last ledger max_size request.data) refl
       (λ least. unless_fits max_size (size_fault 8 request.data) (last_in max_size (slot_of (number_at 0 8 request.data) ledger.taken)) least
       (last-fits max_size (slot_of (number_at 0 8 request.data) ledger.taken) least))
-  service_means false false true get list h i =
+  service_means false false true get list slots h i =
       forget_means ledger max_size request.data (nat_lt (length request.data) 12) (nat_lt 12 (length request.data)) refl refl
-  service_means false false false true list h i =
+  service_means false false false true list slots h i =
       only_replies false false (single max_size request.data (value_named (ledger_values ledger) request.attribute)) refl
       (λ least. single-fits max_size request.data (value_named (ledger_values ledger) request.attribute) least)
-  service_means false false false false true h i =
+  service_means false false false false true slots h i =
       only_replies false false (get_attribute_list (ledger_values ledger) max_size request.data) refl
       (λ least. list-fits ledger max_size request.data (nat_lt (length request.data) 2) least)
-  service_means false false false false false h i =
+  service_means false false false false false true h i =
+      only_replies false false (get_slots ledger max_size request.data) refl
+      (λ least. slots-fit ledger max_size request.data least)
+  service_means false false false false false false h i =
       refused_of ledger max_size None None statuses.ServiceNotSupported (λ e. absurd (omega (arith, e))) (λ e. absurd (omega (arith, e)))
 
   class-fits : (get : Bool) → 8 ≤ max_size →
@@ -272,7 +306,8 @@ module _ (ledger : LedgerState) (max_size : ℕ) (request : LedgerRequest) where
       (λ least. class-fits (request.service == services.GET_ATTRIBUTE_SINGLE) least)
   instance_means false true h i =
       service_means (request.service == services.DO_ONCE) (request.service == services.GET_LAST) (request.service == services.FORGET)
-      (request.service == services.GET_ATTRIBUTE_SINGLE) (request.service == services.GET_ATTRIBUTE_LIST) refl refl
+      (request.service == services.GET_ATTRIBUTE_SINGLE) (request.service == services.GET_ATTRIBUTE_LIST)
+      (request.service == services.GET_SLOTS) refl refl
   instance_means false false h i =
       refused_of ledger max_size None None statuses.PathDestinationUnknown (λ e. absurd (omega (arith, e))) (λ e. absurd (omega (arith, e)))
 

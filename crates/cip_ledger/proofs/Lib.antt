@@ -9,6 +9,7 @@ pub mod Answered
 pub mod Executions
 pub mod Doubts
 pub mod Pendings
+pub mod OnePending
 pub mod Lives
 pub mod Forms
 pub mod Words
@@ -16,3 +17,4 @@ pub mod Turns
 pub mod Devices
 pub mod ReachingLemmas
 pub mod ExecutingLemmas
+pub mod SlotListLemmas

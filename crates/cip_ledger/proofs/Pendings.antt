@@ -1,5 +1,5 @@
 -- Pending commands: their answers, and what completing them does.
-use Rattle.std.proofs.Common.{◌≡◌, inl, inr, ℕ, ◌+◌, ◌≤◌, ◌<◌, ◌==◌, ◌&&◌, not, Bool, true, false, if◌then◌else◌, Option, Some, None, List, [], ◌∷◌, ◌++◌, length, refl, ap, sym, ◌∙◌, subst, arith}
+use Rattle.std.proofs.Common.{◌≡◌, inl, inr, ℕ, ◌+◌, ◌≤◌, ◌==◌, ◌&&◌, not, Bool, true, false, if◌then◌else◌, Option, Some, None, List, [], ◌∷◌, length, refl, ap, sym, ◌∙◌, subst, arith}
 use Rattle.std.specs.Prelude.{option_map, is_some}
 use Rattle.std.proofs.lemmas.Bool.{eq-eqb, and_parts}
 use Rattle.cip_ledger.specs.declared.router.LedgerRouter.{LedgerRouter}
@@ -87,7 +87,7 @@ pending-content slot ticket none is =
     ap (λ kept. state_content kept slot.ticket) none ∙ ap (state_content None) is
 
 -- its slot once a reply is given to a ticket
-pending-is : (slot : SlotState) (ticket other : ℕ) → slot.reply ≡ None → slot.ticket ≡ Some ticket →
+pub pending-is : (slot : SlotState) (ticket other : ℕ) → slot.reply ≡ None → slot.ticket ≡ Some ticket →
     is_pending_at other slot ≡ (ticket == other)
 pending-is slot ticket other none is =
     ap (λ kept. not (is_some kept) && has_ticket other slot.ticket) none ∙ ap (has_ticket other) is

@@ -1,7 +1,6 @@
 -- What reaches the router of one request.
 use Rattle.std.proofs.Common.{◌≡◌, ℕ, Bool, true, false, if◌then◌else◌, Option, Some, None, option_map, unwrap_or, List, [], ◌∷◌, ◌++◌, refl, ap, ◌∙◌}
 use Rattle.cip_ledger.specs.declared.router.LedgerRouter.{LedgerRouter}
-use Rattle.cip_ledger.specs.declared.doubt.DoubtfulCommand.{DoubtfulCommand}
 use Rattle.cip_ledger.specs.declared.target.Standing.{Standing}
 use Rattle.cip_ledger.specs.Ledger.{LedgerState}
 use Rattle.cip_ledger.specs.Requests.{LedgerRequest, Command, ledger_request, is_barred}

@@ -4,7 +4,7 @@ use Rattle.std.specs.Prelude.{option_map}
 use Rattle.std.specs.List.{AllByRecursion}
 use Rattle.std.proofs.lemmas.Bool.{eqb-true, eqb-false}
 use Rattle.cip_ledger.specs.declared.router.LedgerRouter.{LedgerRouter}
-use Rattle.cip_ledger.specs.Ledger.{LedgerState, SlotState, slot_of, without_slot}
+use Rattle.cip_ledger.specs.Ledger.{LedgerState, SlotState, slot_of, without_slot, is_pending}
 use Rattle.cip_ledger.specs.Requests.{Command, is_barred}
 use Rattle.cip_ledger.specs.declared.target.Standing.{Standing}
 use Rattle.cip_ledger.specs.Services.{Replies, Executes, Queues, Frees, last_content, KEPT_LIMIT, DONE, PENDING}
@@ -247,7 +247,7 @@ module _ {M : Type 0} (after : M → ℕ → List ℕ → M) (answer : M → ℕ
   frees-by : (f : Fate) (node : LedgerRouter M) (request : Request) (originator : ℕ) → Means node.ledger request f →
       events_by after answer f node.router ++ [] ≡ Freed originator ∷ [] →
       (slot : SlotState) × (slot_in originator node.ledger ≡ Some slot) × (forgotten request ≡ Some (originator, slot.number))
-      × (slot_in originator (next_by f node request).ledger ≡ None)
+      × (is_pending slot ≡ false) × (slot_in originator (next_by f node request).ledger ≡ None)
   frees-by Passed node request originator means is = absurd (cc)
   frees-by (Served service (Replies reply)) node request originator means is = absurd (cc)
   frees-by (Served service (Executes command)) node request originator means is =
@@ -261,6 +261,7 @@ module _ {M : Type 0} (after : M → ℕ → List ℕ → M) (answer : M → ℕ
         subst (λ l. slot_in originator l ≡ Some slot) (sym means.ledger_is)
             (subst (λ o. slot_of o means.state.taken ≡ Some slot) same means.means.found),
         means.means.named_is ∙ ap (λ o. Some (o, slot.number)) same,
+        means.means.ended,
         subst (λ l. slot_in originator (option_map (with_freed freed) l) ≡ None) (sym means.ledger_is)
             (subst (λ o. slot_of o (without_slot freed means.state.taken) ≡ None) same (slot_of-without_slot means.state.taken freed)),
       )
@@ -341,4 +342,4 @@ module _ {M : Type 0} (after : M → ℕ → List ℕ → M) (answer : M → ℕ
       journal after answer standing node (request ∷ []) ≡ Freed originator ∷ [] → IsForgotten after answer standing node request originator
   frees node request originator is =
       let parts = frees-by after answer (fate standing node.ledger node.router request.0 request.1) node request originator (fate-means standing node.ledger node.router request) is in
-      record { slot = parts.0; found = parts.1; named = parts.2; free = parts.3 }
+      record { slot = parts.0; found = parts.1; named = parts.2; ended = parts.3; free = parts.4 }

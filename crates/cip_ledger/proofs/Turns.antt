@@ -2,7 +2,6 @@
 use Rattle.std.proofs.Common.{◌≡◌, ℕ, Option, Some, None, List, [], ◌∷◌, ap, sym, ◌∙◌, subst}
 use Rattle.cip_ledger.specs.declared.service.TheConstants as services
 use Rattle.cip_ledger.specs.declared.target.Standing.{Standing}
-use Rattle.cip_ledger.specs.declared.target.Standing.TheVariants as standings
 use Rattle.cip_ledger.specs.Ledger.{LedgerState, SlotState, with_slot}
 use Rattle.cip_ledger.specs.Requests.{LedgerRequest, Command}
 use Rattle.cip_ledger.specs.Standings.{embedded_standing, by_standing, new_at_router, at_router}

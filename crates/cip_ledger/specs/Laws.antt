@@ -1,13 +1,13 @@
 -- What holds of a ledger over every list of requests, in whatever order they come.
 use Rattle.std.specs.Prelude.{◌≡◌, ◌≢◌, ◌⊎◌, ⊤, ℕ, ◌+◌, ◌<◌, ◌≤◌, Option, Some, None, option_map, List, [], ◌∷◌, ◌++◌}
-use Rattle.std.specs.Prelude.{length, map}
+use Rattle.std.specs.Prelude.{length, map, false}
 use Rattle.std.specs.List.{AllByRecursion}
 use Rattle.cip_objects.specs.Router.{general_status, RepliesWellFormed}
 use Rattle.cip_ledger.specs.declared.router.LedgerRouter.{LedgerRouter}
 use Rattle.cip_ledger.specs.declared.service.TheConstants as services
 use Rattle.cip_ledger.specs.declared.target.Standing.{Standing}
 use Rattle.cip_ledger.specs.declared.target.Standing.TheVariants as standings
-use Rattle.cip_ledger.specs.Ledger.{LedgerState, SlotState, empty_ledger}
+use Rattle.cip_ledger.specs.Ledger.{LedgerState, SlotState, empty_ledger, is_pending}
 use Rattle.cip_ledger.specs.Requests.{Command, ledger_request}
 use Rattle.cip_ledger.specs.Services.{reply_to, success, DONE, PENDING, KEPT_LIMIT, HEAD_SIZE}
 use Rattle.cip_ledger.specs.Standings.{embedded_standing, new_at_router}
@@ -81,10 +81,10 @@ IsOnceInAll (journal ∷ journals) =
 
 -- ---- facts on requests and lives
 
--- the command's originator has a smaller number, or no slot, and then one is free
+-- the command's originator has a smaller number that is not pending, or no slot, and then one is free
 abbrev pub IsNewIn : LedgerState → ℕ → Option SlotState → Type 0
 IsNewIn ledger number None = length ledger.taken < ledger.slots
-IsNewIn ledger number (Some slot) = slot.number < number
+IsNewIn ledger number (Some slot) = (slot.number < number) × (is_pending slot ≡ false)
 
 -- the command is of the ledger's life and new to it
 pub record IsNew (ledger : LedgerState) (command : Command) : Type 0 where
@@ -197,11 +197,12 @@ module _ {M : Type 0} (after : M → ℕ → List ℕ → M) (answer : M → ℕ
       AllByRecursion (IsOfAnother originator) requests →
       slot_in originator (node_after after answer standing node requests).ledger ≡ slot_in originator node.ledger
 
-  -- a slot is freed by Forget with its number alone, and is free then
+  -- a slot is freed by Forget with its number alone, never while its command is pending, and is free then
   pub record IsForgotten (node : LedgerRouter M) (request : Request) (originator : ℕ) : Type 0 where
     pub slot : SlotState
     pub found : slot_in originator node.ledger ≡ Some slot
     pub named : forgotten request ≡ Some (originator, slot.number)
+    pub ended : is_pending slot ≡ false
     pub free : slot_in originator (next after answer standing node request).ledger ≡ None
 
   abbrev pub frees_law : Type 0

@@ -29,6 +29,10 @@ abbrev pub AreApart : List SlotState → Type 0
 AreApart [] = Unit {0}
 AreApart (slot ∷ taken) = (slot_of slot.originator taken ≡ None) × AreApart taken
 
+-- the command is pending: it has no reply yet, and its ticket
+abbrev pub is_pending : SlotState → Bool
+is_pending slot = not (is_some slot.reply) && is_some slot.ticket
+
 -- the kept bytes: nothing is kept of the reply to a command that is pending or in doubt
 abbrev pub kept_bytes : SlotState → List ℕ
 kept_bytes slot = unwrap_or slot.reply []

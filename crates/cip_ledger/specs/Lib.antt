@@ -5,6 +5,7 @@ pub mod Kept
 pub mod Requests
 pub mod Services
 pub mod Slots
+pub mod SlotList
 pub mod Standings
 pub mod Status
 pub mod Turn
@@ -16,6 +17,7 @@ pub mod Pending
 pub mod Laws
 pub mod DoubtLaws
 pub mod PendingLaws
+pub mod OnePending
 pub mod Runs
 pub mod Reaching
 pub mod Executing

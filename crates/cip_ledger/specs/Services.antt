@@ -1,5 +1,5 @@
 -- The ledger's services, each by its first check that fails.
-use Rattle.std.specs.Prelude.{ℕ, ◌+◌, ◌*◌, ◌==◌, nat_lt, not, Bool, true, ◌&&◌, is_some, if◌then◌else◌, Option, Some}
+use Rattle.std.specs.Prelude.{ℕ, ◌+◌, ◌-◌, ◌*◌, ◌==◌, nat_lt, not, Bool, true, ◌&&◌, is_some, if◌then◌else◌, Option, Some}
 use Rattle.std.specs.Prelude.{None}
 use Rattle.std.specs.Prelude.{List, [], ◌∷◌, ◌++◌, length, drop}
 use Rattle.std.specs.List.{flat_map}
@@ -11,8 +11,9 @@ use Rattle.cip_ledger.specs.declared.status.Status.{Status}
 use Rattle.cip_ledger.specs.declared.status.Status.TheVariants as statuses
 use Rattle.cip_ledger.specs.declared.service.TheConstants as services
 use Rattle.cip_ledger.specs.Status.{status_number}
-use Rattle.cip_ledger.specs.Ledger.{SlotState, LedgerState, slot_of}
+use Rattle.cip_ledger.specs.Ledger.{SlotState, LedgerState, slot_of, is_pending}
 use Rattle.cip_ledger.specs.Requests.{LedgerRequest, Command, command_of}
+use Rattle.cip_ledger.specs.SlotList.{slot_list}
 
 -- the bytes of a reply before its data
 abbrev pub HEAD_SIZE : ℕ
@@ -94,8 +95,14 @@ abbrev pub do_new : ℕ → Command → Action
 do_new max_size command =
     if nat_lt max_size (HEAD_SIZE + 1 + KEPT_LIMIT) then refuses statuses.ReplyDataTooLarge else Executes command
 
+-- a command with a greater number than the last one is new, unless that is pending: an originator has one pending
+-- command at most
+abbrev pub do_greater : ℕ → Command → SlotState → Action
+do_greater max_size command slot =
+    if is_pending slot then refuses statuses.CommandPending else do_new max_size command
+
 -- by the originator's slot: without one a free slot is needed, and in one a smaller number is refused, the same number
--- is answered by its state and the kept reply, and a greater one is new
+-- is answered by its state and the kept reply, and a greater one is new if the last command is not pending
 abbrev pub do_by_slot : LedgerState → ℕ → Command → Option SlotState → Action
 do_by_slot ledger max_size command None =
     if nat_lt (length ledger.taken) ledger.slots then do_new max_size command
@@ -103,7 +110,7 @@ do_by_slot ledger max_size command None =
 do_by_slot ledger max_size command (Some slot) =
     if nat_lt command.number slot.number then refuses statuses.ObjectStateConflict
     else (if command.number == slot.number then Replies (within max_size (success (last_content slot)))
-    else do_new max_size command)
+    else do_greater max_size command slot)
 
 -- a command of another life is never executed
 abbrev pub do_command : LedgerState → ℕ → Command → Action
@@ -128,17 +135,26 @@ abbrev pub get_last : LedgerState → ℕ → List ℕ → Answer
 get_last ledger max_size bytes =
     unless (size_fault 8 bytes) refusal (last_in max_size (slot_of (number_at 0 8 bytes) ledger.taken))
 
--- a slot is freed only if it has this number
+-- a slot is freed only if it has this number, and its command is not pending
 abbrev pub forget_in : ℕ → ℕ → Option SlotState → Action
 forget_in originator number None = Replies (success [])
 forget_in originator number (Some slot) =
-    if slot.number == number then Frees originator else refuses statuses.ObjectStateConflict
+    if (slot.number == number) && not (is_pending slot) then Frees originator
+    else refuses statuses.ObjectStateConflict
 
 -- the originator and the number in the data name the slot
 abbrev pub forget : LedgerState → List ℕ → Action
 forget ledger bytes =
     unless (size_fault 12 bytes) refuses
     (forget_in (number_at 0 8 bytes) (number_at 8 4 bytes) (slot_of (number_at 0 8 bytes) ledger.taken))
+
+-- ---- Get_Slots
+
+-- how many slots are taken, and then the slots from the index in the data on, as many as fit
+abbrev pub get_slots : LedgerState → ℕ → List ℕ → Answer
+get_slots ledger max_size bytes =
+    unless (size_fault 2 bytes) refusal
+    (within max_size (success (slot_list (max_size - HEAD_SIZE) (number_at 0 2 bytes) ledger.taken)))
 
 -- ---- attributes
 
@@ -202,7 +218,8 @@ instance_action ledger max_size request =
     then Replies (single max_size request.data (value_named (ledger_values ledger) request.attribute))
     else (if request.service == services.GET_ATTRIBUTE_LIST
     then Replies (get_attribute_list (ledger_values ledger) max_size request.data)
-    else refuses statuses.ServiceNotSupported))))
+    else (if request.service == services.GET_SLOTS then Replies (get_slots ledger max_size request.data)
+    else refuses statuses.ServiceNotSupported)))))
 
 -- by the instance: 0 is the class itself
 abbrev pub action_of : LedgerState → ℕ → LedgerRequest → Action

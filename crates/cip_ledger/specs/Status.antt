@@ -1,4 +1,5 @@
--- The numbers of the ledger's general statuses (Volume 1, general status codes).
+-- The numbers of the ledger's general statuses (Volume 1, general status codes). The
+-- codes from 0xd0 on are each class's own: the ledger has one.
 use Rattle.std.specs.Prelude.{ℕ}
 use Rattle.cip_ledger.specs.declared.status.Status.{Status}
 use Rattle.cip_ledger.specs.declared.status.Status.TheVariants as statuses
@@ -16,3 +17,4 @@ status_number statuses.NotEnoughData = 0x13
 status_number statuses.AttributeNotSupported = 0x14
 status_number statuses.TooMuchData = 0x15
 status_number statuses.ObjectDoesNotExist = 0x16
+status_number statuses.CommandPending = 0xd0

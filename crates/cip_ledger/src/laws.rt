@@ -11,6 +11,7 @@ ghost use Rattle.cip_ledger.specs.Executing.{doubtable_law};
 ghost use Rattle.cip_ledger.specs.Kept.{restored_law};
 ghost use Rattle.cip_ledger.specs.PendingLaws.{completed_once_law, completed_numbers_law, done_law, result_law};
 ghost use Rattle.cip_ledger.specs.PendingLaws.{pending_law, completed_law, never_back_law};
+ghost use Rattle.cip_ledger.specs.OnePending.{one_pending_law, not_taken_law, keeps_slot_law};
 
 use crate::target::Target;
 
@@ -136,6 +137,14 @@ pub fn a_pending_command_is_not_executed<R: Target>()
 /// executed: nothing changes.
 pub fn completed_is_answered<R: Target>()
     ensures { completed_law R.after R.answer R.standing }
+{}
+
+/// An originator has one pending command at most. While its last one is pending, one with a greater number is refused
+/// with 0xd0 and not executed, and no Forget frees the slot, until a reply is given to its ticket.
+pub fn one_pending_command<R: Target>()
+    ensures executed { one_pending_law R.after R.answer R.standing }
+    ensures refused { not_taken_law R.after R.answer R.standing }
+    ensures kept { keeps_slot_law R.after R.answer R.standing }
 {}
 
 /// A ticket has one reply: no other one is taken for it.

@@ -18,12 +18,15 @@ ghost use Rattle.cip_ledger.specs.AttributeValue.{values_in};
 
 mod commands;
 mod executing;
+mod listing;
 
 use crate::attributes::{Attributes, class_value, write_single};
 use crate::doubt::DoubtfulCommand;
 use crate::reply::{DONE, HEAD_SIZE, IN_DOUBT, LONGEST_DONE, PENDING, answer, begin, size_fault};
 use crate::request::{Command, LedgerRequest, SHORT_SIZE, is_do_once};
-use crate::service::{DO_ONCE, FORGET, GET_ATTRIBUTE_LIST, GET_ATTRIBUTE_SINGLE, GET_LAST};
+use crate::service::{
+    DO_ONCE, FORGET, GET_ATTRIBUTE_LIST, GET_ATTRIBUTE_SINGLE, GET_LAST, GET_SLOTS,
+};
 use crate::slot::{KEPT_LIMIT, Slot};
 use crate::slots::{MOST_ORIGINATORS, Slots};
 use crate::status::Status;
@@ -284,6 +287,10 @@ impl Ledger {
             let (state, kept) = last_state(slot);
             return Verdict::Repeats(state, kept);
         }
+        // an originator has one pending command at most: 0xd0 (ledger, ours)
+        if slot.is_pending() {
+            return Verdict::Refuses(Status::CommandPending);
+        }
         verdict_on_new(max_size)
     }
 
@@ -351,7 +358,7 @@ impl Ledger {
         answer(GET_LAST, &front, kept, max_size, reply);
     }
 
-    /// Forget: frees the slot of an originator, if its last command has this number.
+    /// Forget: frees the slot of an originator, if its last command has this number and is not pending.
     fn forget(&mut self, data: &[u8], reply: &mut ReplyBuf)
         ensures rule { ActsAlone self.old (services.forget self.old «data».now) FORGET self.new reply.new.items }
     {
@@ -365,8 +372,8 @@ impl Ledger {
             begin(FORGET, Status::Success, reply);
             return;
         };
-        // only the last number is forgotten: 0x0c (ledger, ours)
-        if slot.number() != number {
+        // only the last number is forgotten, and none that is pending: 0x0c (ledger, ours)
+        if slot.number() != number || slot.is_pending() {
             begin(FORGET, Status::ObjectStateConflict, reply);
             return;
         }
@@ -410,6 +417,7 @@ impl Ledger {
                 write_single(value, request.data, max_size, reply);
             }
             GET_ATTRIBUTE_LIST => self.attributes().write_list(request.data, max_size, reply),
+            GET_SLOTS => self.get_slots(request.data, max_size, reply),
             // the ledger does not have this service: 0x08 (objects)
             _ => begin(request.service, Status::ServiceNotSupported, reply),
         }

@@ -40,7 +40,7 @@ pub use doubt::DoubtfulCommand;
 pub use ledger::{KeptCommand, Ledger};
 pub use request::LEDGER;
 pub use router::LedgerRouter;
-pub use service::{DO_ONCE, FORGET, GET_LAST};
+pub use service::{DO_ONCE, FORGET, GET_LAST, GET_SLOTS};
 pub use slot::KEPT_LIMIT;
 pub use slots::MOST_ORIGINATORS;
 pub use target::{Standing, Target};

@@ -14,3 +14,6 @@ pub const GET_LAST: u8 = 0x4c;
 
 /// Forget (ours): frees an originator's slot.
 pub const FORGET: u8 = 0x4d;
+
+/// Get_Slots (ours): whose slots are taken, and the number and the state of the last command in each.
+pub const GET_SLOTS: u8 = 0x50;

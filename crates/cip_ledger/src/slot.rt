@@ -2,6 +2,7 @@
 ghost use Rattle.std.specs.Prelude.{◌≡◌, ◌≤◌, ℕ, List, length, Some, None, IfSome, if◌then◌else◌};
 ghost use Rattle.std.specs.Option.{option_copied};
 ghost use Rattle.cip_ledger.specs.Doubt.{is_doubtful};
+ghost use Rattle.cip_ledger.specs.Ledger.{is_pending};
 ghost use Rattle.cip_ledger.specs.Pending.{is_pending_at, completed_slot};
 ghost use Rattle.cip_ledger.specs.Services.{KEPT_LIMIT};
 
@@ -85,6 +86,13 @@ impl Slot {
         ensures { result ≡ is_doubtful self.now }
     {
         !self.is_done && self.ticket.is_none()
+    }
+
+    /// Whether the last command is pending.
+    pub(crate) fn is_pending(&self) -> bool
+        ensures { result ≡ is_pending self.now }
+    {
+        !self.is_done && self.ticket.is_some()
     }
 
     /// The ticket of the last command, if that is pending.

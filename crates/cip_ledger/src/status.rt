@@ -14,7 +14,7 @@ pub(crate) enum Status {
     ServiceNotSupported = 0x08,
     /// An attribute of a list does not exist.
     AttributeListError = 0x0a,
-    /// The originator's slot has a greater number, or another one than the number to be forgotten.
+    /// The originator's slot has a greater number; or, of Forget, another one, or a command that is pending.
     ObjectStateConflict = 0x0c,
     /// The command is of another life of the device.
     DeviceStateConflict = 0x10,
@@ -28,6 +28,8 @@ pub(crate) enum Status {
     TooMuchData = 0x15,
     /// The originator has no slot.
     ObjectDoesNotExist = 0x16,
+    /// The originator's last command is pending, so no new one is taken. The codes from 0xd0 on are each class's own.
+    CommandPending = 0xd0,
 }
 
 impl Status {

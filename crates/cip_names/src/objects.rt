@@ -143,7 +143,12 @@ static MANAGER_SERVICES: [Name; 4] = [
 static COUNTER_SERVICES: [Name; 2] = [("add", 0x32), ("clear", 0x33)];
 
 /// The services of the command ledger.
-static LEDGER_SERVICES: [Name; 3] = [("do-once", 0x4b), ("get-last", 0x4c), ("forget", 0x4d)];
+static LEDGER_SERVICES: [Name; 4] = [
+    ("do-once", 0x4b),
+    ("get-last", 0x4c),
+    ("forget", 0x4d),
+    ("get-slots", 0x50),
+];
 
 /// The services of Ethernet Link.
 static LINK_SERVICES: [Name; 1] = [("get-and-clear", 0x4c)];

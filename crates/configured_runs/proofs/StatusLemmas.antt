@@ -12,7 +12,7 @@ use Rattle.enip_faults.specs.declared.replay_failure.ReplayFailure.{ReplayFailur
 use Rattle.enip_faults.specs.declared.replay_failure.ReplayFailure.TheVariants as failures
 use Rattle.enip_replay.specs.Replay.{IsStop}
 use Rattle.enip_common.specs.declared.fault.Fault.{Fault}
-use Rattle.enip_common.specs.declared.fault.Fault.TheVariants.{Configuration as Refused, Setup, Run, Value, Request, Once, CommandFile, State, Storage}
+use Rattle.enip_common.specs.declared.fault.Fault.TheVariants.{Configuration as Refused, Setup, Run, Value, Request, Once, CommandFile, State, Storage, Unsettled, Blocked}
 use Rattle.enip_common.specs.Statuses.{exit_status, fault_of_configuration, fault_of_replay}
 use Rattle.configured_runs.specs.Statuses.{IsStatus, IsReplayStatus, IsFaultOf, IsReplayFaultOf, IsOpeningRefused}
 
@@ -44,6 +44,8 @@ status_of_fault text Setup so = absurd so
 status_of_fault text Value so = absurd so
 status_of_fault text State so = absurd so
 status_of_fault text Storage so = absurd so
+status_of_fault text Unsettled so = absurd so
+status_of_fault text Blocked so = absurd so
 status_of_fault text (Request failure) so = absurd so
 status_of_fault text (Once refusal) so = absurd so
 status_of_fault text (CommandFile line) so = absurd so
@@ -58,6 +60,8 @@ line_refused text Setup so four = absurd so
 line_refused text Value so four = absurd so
 line_refused text State so four = absurd so
 line_refused text Storage so four = absurd so
+line_refused text Unsettled so four = absurd so
+line_refused text Blocked so four = absurd so
 line_refused text (Request failure) so four = absurd so
 line_refused text (Once refusal) so four = absurd so
 line_refused text (CommandFile line) so four = absurd so
@@ -73,6 +77,8 @@ configuration_refused text Setup so three = absurd so
 configuration_refused text Value so three = absurd so
 configuration_refused text State so three = absurd so
 configuration_refused text Storage so three = absurd so
+configuration_refused text Unsettled so three = absurd so
+configuration_refused text Blocked so three = absurd so
 configuration_refused text (Request failure) so three = absurd so
 configuration_refused text (Once refusal) so three = absurd so
 configuration_refused text (CommandFile line) so three = absurd so
@@ -87,6 +93,8 @@ of_fault text Setup so = absurd so
 of_fault text Value so = absurd so
 of_fault text State so = absurd so
 of_fault text Storage so = absurd so
+of_fault text Unsettled so = absurd so
+of_fault text Blocked so = absurd so
 of_fault text (Request failure) so = absurd so
 of_fault text (Once refusal) so = absurd so
 of_fault text (CommandFile line) so = absurd so
@@ -115,6 +123,8 @@ status_of_replay_fault text Setup so = inr refl
 status_of_replay_fault text Value so = absurd so
 status_of_replay_fault text State so = absurd so
 status_of_replay_fault text Storage so = absurd so
+status_of_replay_fault text Unsettled so = absurd so
+status_of_replay_fault text Blocked so = absurd so
 status_of_replay_fault text (Request failure) so = absurd so
 status_of_replay_fault text (Once refusal) so = absurd so
 status_of_replay_fault text (CommandFile line) so = absurd so
@@ -126,6 +136,8 @@ replay_line_refused text Setup so four = absurd (omega (arith, four))
 replay_line_refused text Value so four = absurd so
 replay_line_refused text State so four = absurd so
 replay_line_refused text Storage so four = absurd so
+replay_line_refused text Unsettled so four = absurd so
+replay_line_refused text Blocked so four = absurd so
 replay_line_refused text (Request failure) so four = absurd so
 replay_line_refused text (Once refusal) so four = absurd so
 replay_line_refused text (CommandFile line) so four = absurd so
@@ -138,6 +150,8 @@ replay_configuration_refused text Setup so three = absurd (omega (arith, three))
 replay_configuration_refused text Value so three = absurd so
 replay_configuration_refused text State so three = absurd so
 replay_configuration_refused text Storage so three = absurd so
+replay_configuration_refused text Unsettled so three = absurd so
+replay_configuration_refused text Blocked so three = absurd so
 replay_configuration_refused text (Request failure) so three = absurd so
 replay_configuration_refused text (Once refusal) so three = absurd so
 replay_configuration_refused text (CommandFile line) so three = absurd so
@@ -155,6 +169,8 @@ replay_setup text Setup so six = so
 replay_setup text Value so six = absurd so
 replay_setup text State so six = absurd so
 replay_setup text Storage so six = absurd so
+replay_setup text Unsettled so six = absurd so
+replay_setup text Blocked so six = absurd so
 replay_setup text (Request failure) so six = absurd so
 replay_setup text (Once refusal) so six = absurd so
 replay_setup text (CommandFile line) so six = absurd so

@@ -7,7 +7,7 @@ use Rattle.enip_faults.specs.declared.fault.ProgramFault.TheVariants as program
 use Rattle.enip_replay.specs.Replay.{IsOpeningRefused as refuses_opening}
 use Rattle.enip_common.specs.declared.fault.Fault.{Fault}
 use Rattle.enip_common.specs.declared.fault.Fault.TheVariants.{Configuration as Refused, Setup, Run, Value}
-use Rattle.enip_common.specs.declared.fault.Fault.TheVariants.{Once, CommandFile, Request, State, Storage}
+use Rattle.enip_common.specs.declared.fault.Fault.TheVariants.{Once, CommandFile, Request, State, Storage, Unsettled, Blocked}
 
 -- The exit statuses of `enip answer`, once its arguments are accepted.
 abbrev pub IsStatus : ℕ → Type 0
@@ -25,6 +25,8 @@ IsFaultOf text Setup = ⊥
 IsFaultOf text Value = ⊥
 IsFaultOf text State = ⊥
 IsFaultOf text Storage = ⊥
+IsFaultOf text Unsettled = ⊥
+IsFaultOf text Blocked = ⊥
 IsFaultOf text (Once refusal) = ⊥
 IsFaultOf text (CommandFile line) = ⊥
 IsFaultOf text (Request failure) = ⊥

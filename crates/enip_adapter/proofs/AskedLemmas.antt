@@ -44,7 +44,7 @@ use Rattle.enip_adapter.specs.Calls.{AdapterState, Call, after_call, call_answer
 use Rattle.enip_adapter.specs.Calls.Call.{Feeds, Writes}
 use Rattle.enip_adapter.specs.DeviceRuns.{DeviceStep, Requested, device_steps, steps_of_calls, objects_after, objects_answer, objects_after_steps, reached_by_steps, reached_by_step, steps_by_event, device_after, device_after_step, journal_by_step, journal_by_steps}
 use Rattle.enip_adapter.specs.DeviceRuns.{requests_by_rights, requests_by_route, requests_in_rr, requests_by_connection, requests_by_target, requests_in_unit, requests_by_command, requests_in_frame, requests_by_session}
-use Rattle.enip_adapter.specs.OwnerLaws.{owned_in, answer_by, HadValue, IsRepeat, no_answer, no_change, asks_call_by_call, asking_events, asking_journal_by_steps}
+use Rattle.enip_adapter.specs.OwnerLaws.{owned_in, answer_by, HadValue, EndsNone, IsRepeat, no_answer, no_change, asks_call_by_call, asking_events, asking_journal_by_steps}
 use Rattle.enip_adapter.specs.OwnWrites.{OwnWrite, objects_written, device_written, Prepares}
 use Rattle.enip_adapter.specs.Replies.{is_registered_as}
 use Rattle.enip_adapter.specs.Rights.{is_refused}
@@ -340,9 +340,10 @@ reached-asks device [] = refl
 reached-asks device (request ∷ requests) = fate-asks device.router device.ledger request
 
 through-alike : (write : OwnWrite) (device : Device) (requests : List Request)
+    → EndsNone device.ledger write
     → through_of (device_written write device).ledger requests ≡ through_of device.ledger requests
-through-alike write device [] = refl
-through-alike write device (request ∷ requests) = written-through write device request
+through-alike write device [] none = refl
+through-alike write device (request ∷ requests) none = written-through write device request none
 
 reached-alike : (device other : Device) (requests : List Request)
     → ((request : Request) → fate owned_standing other.ledger other.router request.0 request.1
@@ -366,14 +367,14 @@ asks-alike write owned (request ∷ requests) had =
     ∙ ap (λ xs. listed (asks owned.objects request.0 request.1) ++ xs) (asks-alike write owned requests had)
 
 pub asked-alike : (a : AdapterState) (write : OwnWrite) (now peer : ℕ) (piece : List ℕ)
-    → HadValue (owned_in a).objects write
+    → HadValue (owned_in a).objects write → EndsNone a.state.shared.objects.ledger write
     → asks_of_call (after_call a (Writes write)) (Feeds now peer piece) ≡ asks_of_call a (Feeds now peer piece)
-asked-alike a write now peer piece had =
+asked-alike a write now peer piece had none =
     let device : Device = a.state.shared.objects in
     let requests : List Request = feed_requests a now peer piece in
     feed-asks (after_call a (Writes write)) now peer piece
     ∙ (reached-asks (device_written write device) requests
-    ∙ (ap (asks_of (objects_written write (owned_in a)).objects) (through-alike write device requests)
+    ∙ (ap (asks_of (objects_written write (owned_in a)).objects) (through-alike write device requests none)
     ∙ (asks-alike write (owned_in a) (through_of device.ledger requests) had
     ∙ (sym (reached-asks device requests) ∙ sym (feed-asks a now peer piece)))))
 

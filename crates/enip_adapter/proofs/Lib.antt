@@ -32,6 +32,7 @@ pub mod WrittenLemmas
 pub mod StandingLemmas
 pub mod QueueLemmas
 pub mod PendingLemmas
+pub mod KeepingLemmas
 pub mod FinishLemmas
 pub mod LedgerStepLemmas
 pub mod SettleLemmas

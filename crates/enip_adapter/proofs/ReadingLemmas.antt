@@ -39,20 +39,20 @@ use Rattle.cip_owner.specs.OwnedLaws.{exec_owned_unreset, unreset}
 use Rattle.enip_adapter.specs.Asks.{asks_by_reached, asks_by_step}
 use Rattle.enip_adapter.specs.DeviceRuns.{Requested, objects_after, objects_answer}
 use Rattle.enip_adapter.proofs.ListLemmas.{both}
-use Rattle.enip_adapter.specs.Rights.{service_of, is_change_service, is_path_to_ledger, is_to_ledger, is_get_last, is_single_change, any_change, are_changes, is_changing_packet, is_change}
+use Rattle.enip_adapter.specs.Rights.{service_of, is_change_service, is_path_to_ledger, is_to_ledger, is_read_service, is_ledger_read, is_single_change, any_change, are_changes, is_changing_packet, is_change}
 
--- A request that is not a change has another service, or is Get_Last to the command ledger.
+-- A request that is not a change has another service, or is one to the command ledger that only reads.
 data Reads (text : List ℕ) : Type 0 where
   Another : is_change_service (service_of text) ≡ false → Reads text
-  GetsLast : is_get_last text ≡ true → Reads text
+  ReadsLedger : is_ledger_read text ≡ true → Reads text
 
 reads : (text : List ℕ) → is_single_change text ≡ false → Reads text
 unfolding is_single_change
-reads text e = go (is_change_service (service_of text)) (is_get_last text) refl refl e
+reads text e = go (is_change_service (service_of text)) (is_ledger_read text) refl refl e
   where
-    go : (c g : Bool) → is_change_service (service_of text) ≡ c → is_get_last text ≡ g → c && not g ≡ false → Reads text
+    go : (c g : Bool) → is_change_service (service_of text) ≡ c → is_ledger_read text ≡ g → c && not g ≡ false → Reads text
     go false g s t e = Another s
-    go true true s t e = GetsLast t
+    go true true s t e = ReadsLedger t
     go true false s t e = absurd (cc)
 
 -- And none of its requests is a change if it is a packet.
@@ -75,12 +75,12 @@ parts true true e = (refl, refl)
 parts true false e = absurd (cc)
 parts false b e = absurd (cc)
 
--- Its service is none of those that change, except that of Get_Last.
-not-service : (text : List ℕ) (n : ℕ) → Reads text → is_change_service n ≡ true → eqb n 0x4c ≡ false
+-- Its service is none of those that change, except the two of the ledger that only read.
+not-service : (text : List ℕ) (n : ℕ) → Reads text → is_change_service n ≡ true → is_read_service n ≡ false
     → service_of text ≡ n → ⊥
 not-service text n (Another s) is other e = false≢true (sym s ∙ (ap is_change_service e ∙ is))
-not-service text n (GetsLast g) is other e =
-    false≢true (sym other ∙ (ap (λ k. eqb k 0x4c) (sym e) ∙ (parts (eqb (service_of text) 0x4c) _ g).0))
+not-service text n (ReadsLedger g) is other e =
+    false≢true (sym other ∙ (ap is_read_service (sym e) ∙ (parts (is_read_service (service_of text)) _ g).0))
 
 -- ---- what the owner executes
 
@@ -118,10 +118,10 @@ own-none m text reading = by-request (request_of text) refl
         (ap (λ n. eqb n 0x10 || is_own_service n) (service-read text q e)
         ∙ own-of (eqb (service_of text) 0x02) (eqb (service_of text) 0x04) (eqb (service_of text) 0x05)
         (eqb (service_of text) 0x10) (eqb (service_of text) 0x19) (is_own_service (service_of text)) s)
-    by-path q e (Ok p) f (GetsLast g) =
+    by-path q e (Ok p) f (ReadsLedger g) =
         let to : is_path_to_ledger (Ok p) ≡ true
         = ap is_path_to_ledger (sym f)
-        ∙ (ap is_to_ledger (sym e) ∙ (parts (eqb (service_of text) 0x4c) (is_to_ledger (request_of text)) g).1) in
+        ∙ (ap is_to_ledger (sym e) ∙ (parts (is_read_service (service_of text)) (is_to_ledger (request_of text)) g).1) in
         taken_not_asked m text q p e f (ap (is_taken_class m.shapes.has_counter) (eqb-true p.class 0x65 to))
 
     by-request : (q : Result Request RequestFault) → request_of text ≡ q → own_request m text ≡ None
@@ -246,7 +246,7 @@ chosen-stays shapes class instance code s e =
 -- A service that is none of these five.
 none-of : (service : ℕ) (l a b c d : Bool) → eqb service 0x04 ≡ l → eqb service 0x10 ≡ a → eqb service 0x19 ≡ b
     → eqb service 0x32 ≡ c → eqb service 0x33 ≡ d
-    → ((n : ℕ) → is_change_service n ≡ true → eqb n 0x4c ≡ false → service ≡ n → ⊥) → l || a || b || c || d ≡ false
+    → ((n : ℕ) → is_change_service n ≡ true → is_read_service n ≡ false → service ≡ n → ⊥) → l || a || b || c || d ≡ false
 none-of service true a b c d k e f g h not = absurd (not 0x04 refl refl (eqb-true service 0x04 k))
 none-of service false true b c d k e f g h not = absurd (not 0x10 refl refl (eqb-true service 0x10 e))
 none-of service false false true c d k e f g h not = absurd (not 0x19 refl refl (eqb-true service 0x19 f))

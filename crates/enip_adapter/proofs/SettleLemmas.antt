@@ -1,25 +1,26 @@
 -- Settling a command and finishing a queued one let the same requests through as before, and keep numbers settled.
 use Rattle.std.proofs.Common.{◌≡◌, ℕ, ◌==◌, nat_lt, not, Bool, true, false, if◌then◌else◌, Option, Some, None, unwrap_or, List, [], ◌∷◌, length, suc, refl, ap, sym, ◌∙◌}
-use Rattle.std.specs.Prelude.{map, option_map}
+use Rattle.std.specs.Prelude.{◌&&◌, option_map}
 use Rattle.std.proofs.lemmas.Bool.{and_parts}
-use Rattle.std.proofs.lemmas.List.{length-map}
 use Rattle.cip_bytes.specs.Numbers.{number_at}
 use Rattle.cip_ledger.specs.declared.service.TheConstants as services
 use Rattle.cip_ledger.specs.Device.{Device, FinishedCommand, finished_command, finished_of, finished_text, with_finished, finished_in}
 use Rattle.cip_ledger.specs.Doubt.{is_in_doubt_at, is_in_doubt, is_kept_reply, can_settle, with_last, settled}
-use Rattle.cip_ledger.specs.Ledger.{LedgerState, SlotState, slot_of, with_slot}
-use Rattle.cip_ledger.specs.Pending.{completed_slot, with_completed, completed}
+use Rattle.cip_ledger.specs.Ledger.{LedgerState, SlotState, slot_of, with_slot, is_pending}
+use Rattle.cip_ledger.specs.Pending.{completed}
 use Rattle.cip_ledger.specs.Reaching.{listed, embedded_by}
 use Rattle.cip_ledger.specs.Requests.{LedgerRequest, Command, command_of, ledger_request}
 use Rattle.cip_ledger.specs.Runs.{Request, slot_in}
 use Rattle.cip_ledger.specs.Services.{Action, Frees, refuses, size_fault, unless, do_by_slot, do_command, forget, forget_in, action_of}
 use Rattle.cip_ledger.proofs.Doubts.{settled-numbers, settled-stays}
-use Rattle.cip_ledger.proofs.Pendings.{completed-numbers, completed-stays}
+use Rattle.cip_ledger.proofs.OnePending.{waits, settled-waits, completed-none}
+use Rattle.cip_ledger.proofs.Pendings.{completed-stays}
 use Rattle.cip_ledger.proofs.ReachingLemmas.{kept_within}
 use Rattle.cip_ledger.proofs.Settled.{Settled}
 use Rattle.cip_owner.specs.Owned.{OwnedState}
 use Rattle.cip_owner.specs.Queue.{QueueState, QueuedCommand, command_of as waiting_command, finished_by, finished}
 use Rattle.cip_owner.specs.Replies.{Reply}
+use Rattle.enip_adapter.specs.OwnerLaws.{EndsNone}
 use Rattle.enip_adapter.specs.OwnWrites.{OwnWrite, WritesData, WritesAttribute, SetsStatus, SetsState, Prepares, Settles, Finishes, objects_written, ledger_written, device_written}
 
 -- ---- what the ledger alone lets through
@@ -55,17 +56,17 @@ forget-through ledger bytes =
       | Some status ↦ refl
     ]
   where
-    by_number : (originator : ℕ) (same : Bool) (refused : Action) → through_by_action refused ≡ []
-        → through_by_action (if same then Frees originator else refused) ≡ []
+    by_number : (originator : ℕ) (frees : Bool) (refused : Action) → through_by_action refused ≡ []
+        → through_by_action (if frees then Frees originator else refused) ≡ []
     by_number originator true refused is = refl
     by_number originator false refused is = is
 
     by_slot : (originator number : ℕ) (found : Option SlotState)
         → through_by_action (forget_in originator number found) ≡ []
     by_slot originator number None = refl
-    by_slot originator number (Some slot) = by_number originator (slot.number == number) _ refl
+    by_slot originator number (Some slot) = by_number originator ((slot.number == number) && not (is_pending slot)) _ refl
 
--- ---- ledgers with the same life, as many free slots, and the same numbers
+-- ---- ledgers with the same life, as many free slots, the same numbers, and the same commands pending
 
 abbrev number_of : Option SlotState → Option ℕ
 number_of found = option_map (λ (slot : SlotState). slot.number) found
@@ -77,26 +78,29 @@ record HaveSameNumbers (new old : LedgerState) : Type 0 where
   life : new.life ≡ old.life
   free : has_slot new ≡ has_slot old
   numbers : (any : ℕ) → number_of (slot_of any new.taken) ≡ number_of (slot_of any old.taken)
+  pending : (any : ℕ) → waits (slot_of any new.taken) ≡ waits (slot_of any old.taken)
 
 module _ (new ledger : LedgerState) (same : HaveSameNumbers new ledger) (max_size : ℕ) where
   found-through : (command : Command) (one other : Option SlotState) → number_of one ≡ number_of other
-      → through_by_action (do_by_slot new max_size command one)
+      → waits one ≡ waits other → through_by_action (do_by_slot new max_size command one)
       ≡ through_by_action (do_by_slot ledger max_size command other)
-  found-through command None None e =
+  found-through command None None e same_waits =
       same_if (has_slot new) (has_slot ledger) _ _ same.free
-  found-through command None (Some other) e = absurd (cc)
-  found-through command (Some one) None e = absurd (cc)
-  found-through command (Some one) (Some other) e =
+  found-through command None (Some other) e same_waits = absurd (cc)
+  found-through command (Some one) None e same_waits = absurd (cc)
+  found-through command (Some one) (Some other) e same_waits =
       let is : one.number ≡ other.number = ap (λ o. unwrap_or o one.number) e in
+      let waiting : is_pending one ≡ is_pending other = ap (λ o. unwrap_or o (is_pending one)) same_waits in
       rw is (through_if (nat_lt command.number other.number) _ _ _ _ refl
-      (through_if (command.number == other.number) _ _ _ _ refl refl))
+      (through_if (command.number == other.number) _ _ _ _ refl
+      (same_if (is_pending one) (is_pending other) _ _ waiting)))
 
   life-through : (command : Command)
       → through_by_action (do_command new max_size command) ≡ through_by_action (do_command ledger max_size command)
   life-through command =
       rw same.life (through_if (not (command.life == ledger.life)) _ _ _ _ refl
       (found-through command (slot_of command.originator new.taken) (slot_of command.originator ledger.taken)
-      (same.numbers command.originator)))
+      (same.numbers command.originator) (same.pending command.originator)))
 
   action-through : (asked : LedgerRequest)
       → through_by_action (action_of new max_size asked) ≡ through_by_action (action_of ledger max_size asked)
@@ -109,7 +113,8 @@ module _ (new ledger : LedgerState) (same : HaveSameNumbers new ledger) (max_siz
       (through_if (asked.service == services.FORGET) _ _ _ _
       (forget-through new asked.data ∙ sym (forget-through ledger asked.data))
       (through_if (asked.service == 0x0e) _ _ _ _ refl
-      (through_if (asked.service == 0x03) _ _ _ _ refl refl)))))
+      (through_if (asked.service == 0x03) _ _ _ _ refl
+      (through_if (asked.service == services.GET_SLOTS) _ _ _ _ refl refl))))))
       refl)
 
 -- The same of a request is let through.
@@ -149,6 +154,7 @@ settled-same ledger by given reply = record {
   life = life (can_settle ledger by given reply);
   free = free (can_settle ledger by given reply) refl;
   numbers = settled-numbers ledger by given reply;
+  pending = settled-waits ledger by given reply;
 }
   where
     life : (can : Bool) → (if can then with_last by given (Some reply) ledger else ledger).life ≡ ledger.life
@@ -165,22 +171,6 @@ settled-same ledger by given reply = record {
         ap (λ n. nat_lt n ledger.slots) (length-with_slot ledger.taken slot own.0 own.1)
 
 -- ---- completing
-
-completed-same : (ledger : LedgerState) (ticket : ℕ) (reply : List ℕ)
-    → HaveSameNumbers (completed ledger ticket reply) ledger
-completed-same ledger ticket reply = record {
-  life = life (is_kept_reply reply);
-  free = free (is_kept_reply reply);
-  numbers = completed-numbers ledger ticket reply;
-}
-  where
-    life : (kept : Bool) → (if kept then with_completed ticket reply ledger else ledger).life ≡ ledger.life
-    life true = refl
-    life false = refl
-
-    free : (kept : Bool) → has_slot (if kept then with_completed ticket reply ledger else ledger) ≡ has_slot ledger
-    free true = ap (λ n. nat_lt n ledger.slots) (length-map ledger.taken (completed_slot ticket reply))
-    free false = refl
 
 -- The ledger after the owner finished a command, or could not: as it was, or with this reply to the ticket.
 pub data IsFinished (ticket : ℕ) (old : Option LedgerState) : Option LedgerState → Type 0 where
@@ -238,26 +228,28 @@ finished_written ticket reply device =
 
 -- ---- the device's own writes
 
-pub written-through : (write : OwnWrite) (device : Device) (request : Request)
+pub written-through : (write : OwnWrite) (device : Device) (request : Request) → EndsNone device.ledger write
     → LetsThrough request (ledger_written write device) device.ledger
-written-through (WritesData instance offset bytes) device request = refl
-written-through (WritesAttribute class instance attribute offset bytes) device request = refl
-written-through (SetsStatus status) device request = refl
-written-through (SetsState state) device request = refl
-written-through (Prepares reply) device request = refl
-written-through (Settles by given reply) device request = by_ledger device.ledger
+written-through (WritesData instance offset bytes) device request none = refl
+written-through (WritesAttribute class instance attribute offset bytes) device request none = refl
+written-through (SetsStatus status) device request none = refl
+written-through (SetsState state) device request none = refl
+written-through (Prepares reply) device request none = refl
+written-through (Settles by given reply) device request none = by_ledger device.ledger
   where
     by_ledger : (ledger : Option LedgerState)
         → LetsThrough request (option_map (λ ledger. settled ledger by given reply) ledger) ledger
     by_ledger None = refl
     by_ledger (Some ledger) = alike-through (settled ledger by given reply) ledger request (settled-same ledger by given reply)
-written-through (Finishes ticket reply) device request = go device.ledger _ (finished-ledger ticket reply device)
+written-through (Finishes ticket reply) device request none =
+    go device.ledger _ (finished-ledger ticket reply device) none
   where
-    go : (old new : Option LedgerState) → IsFinished ticket old new → LetsThrough request new old
-    go old new Unchanged = refl
-    go None new (Completed text) = refl
-    go (Some ledger) new (Completed text) =
-        alike-through (completed ledger ticket text) ledger request (completed-same ledger ticket text)
+    go : (old new : Option LedgerState) → IsFinished ticket old new → EndsNone old (Finishes ticket reply)
+        → LetsThrough request new old
+    go old new Unchanged none = refl
+    go None new (Completed text) none = refl
+    go (Some ledger) new (Completed text) none =
+        ap (λ l. through (Some l) request) (completed-none ledger ticket text none)
 
 -- ---- numbers stay settled
 

@@ -1,5 +1,5 @@
 -- What holds of every request to the owner of the device: who is asked what, when, and how often.
-use Rattle.std.specs.Prelude.{◌≡◌, ◌≤◌, ⊤, ℕ, true, length, find, slice_index, is_some, Option, Some, None, List, [], ◌∷◌, ◌++◌}
+use Rattle.std.specs.Prelude.{◌≡◌, ◌≤◌, ⊤, ℕ, true, false, length, find, slice_index, is_some, Option, Some, None, List, [], ◌∷◌, ◌++◌}
 use Rattle.std.specs.Prelude.{Ok}
 use Rattle.cip_bytes.specs.Protocol.{command_of}
 use Rattle.cip_bytes.specs.declared.protocol.Command.TheVariants.{SendUnitData}
@@ -7,6 +7,8 @@ use Rattle.cip_class3.specs.Item.{sequence_count_of}
 use Rattle.cip_class3.specs.TargetRule.{is_held}
 use Rattle.cip_ledger.specs.Device.{Device, owned_standing, exec_device}
 use Rattle.cip_ledger.specs.Laws.{HasNoDoubles}
+use Rattle.cip_ledger.specs.Ledger.{LedgerState}
+use Rattle.cip_ledger.specs.Pending.{any_pending}
 use Rattle.cip_ledger.specs.Runs.{Request, Event, Executed, Freed}
 use Rattle.cip_ledger.specs.Services.{Executes, reply_to, success, DONE}
 use Rattle.cip_ledger.specs.Turn.{Fate, Passed, Served, fate}
@@ -26,7 +28,7 @@ use Rattle.enip_adapter.specs.Asks.{asks_by_step, asks_of_call, asks_of_calls, w
 use Rattle.enip_adapter.specs.Calls.{AdapterState, Call, after_call, call_answer, bytes_held}
 use Rattle.enip_adapter.specs.Calls.Call.{Feeds, Writes}
 use Rattle.enip_adapter.specs.DeviceRuns.{DeviceStep, Requested, device_after_step, journal_by_step, steps_of_calls}
-use Rattle.enip_adapter.specs.OwnWrites.{OwnWrite, WritesAttribute, Prepares, attribute_write, device_written}
+use Rattle.enip_adapter.specs.OwnWrites.{OwnWrite, WritesAttribute, Prepares, Finishes, attribute_write, device_written}
 use Rattle.enip_adapter.specs.Turn.{at_moment, session_of}
 
 -- ---- what is asked
@@ -46,10 +48,17 @@ HadValue m (WritesAttribute class instance attribute offset bytes) =
     is_some (value_at m class instance attribute) ≡ true
 HadValue m other = ⊤
 
+-- A queued command that the device finishes did not come by Do_Once: until one that did has ended, the next command of
+-- its originator is refused.
+abbrev pub EndsNone : Option LedgerState → OwnWrite → Type 0
+EndsNone None write = ⊤
+EndsNone (Some ledger) (Finishes ticket reply) = any_pending ticket ledger.taken ≡ false
+EndsNone (Some ledger) other = ⊤
+
 -- What is prepared, and what the device itself writes, does not change what is asked.
 abbrev pub asked_alike_law : Type 0
 asked_alike_law = (a : AdapterState) (write : OwnWrite) (now peer : ℕ) (piece : List ℕ) →
-    HadValue (owned_in a).objects write →
+    HadValue (owned_in a).objects write → EndsNone a.state.shared.objects.ledger write →
     asks_of_call (after_call a (Writes write)) (Feeds now peer piece) ≡ asks_of_call a (Feeds now peer piece)
 
 -- The piece completes a SendUnitData of the peer's session, whose item has the count that its connection holds.

@@ -1,6 +1,6 @@
 -- What holds of queued commands over every list of calls: which calls push and finish them, and that nothing else changes
 -- the queue.
-use Rattle.std.specs.Prelude.{◌≡◌, ℕ, ◌≤◌, ◌+◌, Bool, true, false, is_some, Option, Some, None, List, [], ◌∷◌, ◌++◌, length, map, option_map}
+use Rattle.std.specs.Prelude.{◌≡◌, ◌≢◌, ⊤, ℕ, ◌≤◌, ◌+◌, Bool, true, false, is_some, Option, Some, None, List, [], ◌∷◌, ◌++◌, length, map, option_map}
 use Rattle.std.specs.List.{flat_map, AllByRecursion, range_with_len}
 use Rattle.cip_ledger.specs.declared.service.TheConstants as services
 use Rattle.cip_ledger.specs.Device.{Device, owned_standing, queued_device, exec_device, finished_text}
@@ -99,6 +99,20 @@ pending_law = ((objects : Contents) (queue : Option QueueState) (slots life : �
     PendingWait (queued_device (Some (empty_ledger slots life)) objects queue))
     × ((a : AdapterState) (calls : List Call) → PendingWait a.state.shared.objects →
     PendingWait (after_calls a calls).state.shared.objects)
+
+-- No step finishes the command with this ticket.
+abbrev pub IsNoFinish : ℕ → DeviceStep → Type 0
+IsNoFinish ticket (Requested request) = ⊤
+IsNoFinish ticket (WrittenBy (Finishes other reply)) = ticket ≢ other
+IsNoFinish ticket (WrittenBy other) = ⊤
+
+-- A command of the ledger that is pending keeps its slot until the device finishes it, whatever calls are made: until
+-- then no other command of its originator is taken, and no Forget frees the slot.
+abbrev pub keeps_slot_law : Type 0
+keeps_slot_law = (a : AdapterState) (calls : List Call) (originator ticket : ℕ) (slot : SlotState) →
+    slot_in originator a.state.shared.objects.ledger ≡ Some slot → slot.reply ≡ None → slot.ticket ≡ Some ticket →
+    AllByRecursion (IsNoFinish ticket) (steps_of_calls a calls) →
+    slot_in originator (after_calls a calls).state.shared.objects.ledger ≡ Some slot
 
 -- The device has finished a command that waits, with a reply that its service allows. A repeat of the ledger's command
 -- that is pending with this ticket, whose reply may be so long, is answered by this reply, and nothing changes: it is not

@@ -2,7 +2,7 @@
 use Rattle.std.specs.Prelude.{ℕ, ◌==◌, ◌&&◌, ◌||◌, Bool, false, not, if◌then◌else◌, List, [], ◌∷◌, Result, Ok, Err}
 use Rattle.std.specs.Prelude.{Option, Some, None}
 use Rattle.cip_ledger.specs.declared.request.TheConstants.{LEDGER}
-use Rattle.cip_ledger.specs.declared.service.TheConstants.{GET_LAST}
+use Rattle.cip_ledger.specs.declared.service.TheConstants.{GET_LAST, GET_SLOTS}
 use Rattle.cip_ledger.specs.Device.{Device, Executed, exec_device}
 use Rattle.cip_message.specs.declared.path.Path.{Path}
 use Rattle.cip_message.specs.declared.path.PathFault.{PathFault}
@@ -40,13 +40,16 @@ abbrev pub is_to_ledger : Result Request RequestFault → Bool
 is_to_ledger (Err fault) = false
 is_to_ledger (Ok request) = is_path_to_ledger (path_of request.path)
 
--- Get_Last of the command ledger, 0x4c, is the one class specific service that only reads.
-abbrev pub is_get_last : List ℕ → Bool
-is_get_last request = (service_of request == GET_LAST) && is_to_ledger (request_of request)
+-- The class specific services that only read: Get_Last, 0x4c, and Get_Slots, 0x50, of the command ledger.
+abbrev pub is_read_service : ℕ → Bool
+is_read_service service = (service == GET_LAST) || (service == GET_SLOTS)
+
+abbrev pub is_ledger_read : List ℕ → Bool
+is_ledger_read request = is_read_service (service_of request) && is_to_ledger (request_of request)
 
 -- The service and the class decide, before anything else of the request is looked at.
 unfoldable pub is_single_change : List ℕ → Bool
-is_single_change request = is_change_service (service_of request) && not (is_get_last request)
+is_single_change request = is_change_service (service_of request) && not (is_ledger_read request)
 
 abbrev pub any_change : List (List ℕ) → Bool
 any_change [] = false

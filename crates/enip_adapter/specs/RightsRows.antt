@@ -94,6 +94,20 @@ pub get_last_without_a_path : is_change (0x4c ∷ 2 ∷ 0x20 ∷ []) ≡ true
 unfolding is_change is_single_change packet_of request_of
 get_last_without_a_path = refl
 
+-- Get_Slots reads too, and is a change elsewhere.
+pub get_slots : is_change (0x50 ∷ 2 ∷ 0x20 ∷ 0x65 ∷ 0x24 ∷ 1 ∷ 0 ∷ 0 ∷ []) ≡ false
+unfolding is_change is_single_change packet_of request_of path_of class_of instance_of attribute_of member_of whole_of segment_of
+get_slots = refl
+
+pub get_slots_elsewhere : is_change (0x50 ∷ 2 ∷ 0x20 ∷ 0x64 ∷ 0x24 ∷ 1 ∷ 0 ∷ 0 ∷ []) ≡ true
+unfolding is_change is_single_change packet_of request_of path_of class_of instance_of attribute_of member_of whole_of segment_of
+get_slots_elsewhere = refl
+
+-- The services next to it are none that only read.
+pub before_get_slots : is_change (0x4f ∷ 2 ∷ 0x20 ∷ 0x65 ∷ 0x24 ∷ 1 ∷ []) ≡ true
+unfolding is_change is_single_change packet_of request_of path_of class_of instance_of attribute_of member_of whole_of segment_of
+before_get_slots = refl
+
 -- The ledger's other services are changes, and so is an own service of its class.
 pub do_once_of_the_ledger : is_change (0x4b ∷ 2 ∷ 0x20 ∷ 0x65 ∷ 0x24 ∷ 1 ∷ []) ≡ true
 unfolding is_change is_single_change packet_of request_of path_of class_of instance_of attribute_of member_of whole_of segment_of

@@ -19,6 +19,7 @@ ghost use Rattle.enip_adapter.specs.LedgerSteps.{ledger_steps_law};
 ghost use Rattle.enip_adapter.specs.OwnerLaws.{one_asked_law, asked_alike_law, repeat_law, given_law, unasked_law};
 ghost use Rattle.enip_adapter.specs.OwnerLaws.{answered_law, nobody_law, calls_law, asked_once_law};
 ghost use Rattle.enip_adapter.specs.QueueLaws.{queue_steps_law, handed_over_law, pending_law, finished_answer_law};
+ghost use Rattle.enip_adapter.specs.QueueLaws.{keeps_slot_law};
 ghost use Rattle.enip_adapter.specs.RightsLaws.{unchanged_law, unasked_by_reading_law, readers_law, readers_ask_nothing_law};
 ghost use Rattle.enip_adapter.specs.ShareLaws.{peers_share_law, connections_share_law, refused_begin_law};
 ghost use Rattle.enip_adapter.specs.ShareLaws.{under_share_law, slot_for_each_share_law};
@@ -223,7 +224,8 @@ pub fn discovery_is_as_over_tcp()
 {}
 
 /// The owner of the device is asked each of its own requests that reaches the objects. A feed asks at most one. Neither
-/// what is prepared nor what the device writes changes what is asked, and a repeat on a connection asks nothing. A
+/// what is prepared nor what the device writes changes what is asked, but that the end of a queued command of the ledger
+/// lets the next one of its originator through. A repeat on a connection asks nothing. A
 /// prepared reply goes to the request that is asked: it is the device's reply, then nothing is prepared, and only a set
 /// that the owner accepts has changed the objects. A feed that asks nothing leaves what is prepared. If nothing is
 /// prepared, a feed that asks `NoOwner` is a feed. What calls ask is what each of them asks, in order. Of the commands
@@ -245,11 +247,13 @@ pub fn owner_is_asked()
 /// these steps, in order. So tickets are numbers in a row. The commands that wait are those that were put into the queue
 /// and not finished, in the order of their tickets: none is lost or made up, and none waits again once it is finished.
 /// Each command has one result at most, and the last 256 results are kept. A command of the ledger that is pending is one
-/// that waits. Once the device has finished it, a repeat is answered by the owner's reply, and is not executed again.
+/// that waits. It keeps its slot until the device finishes it: until then no later one of its originator is taken. Once
+/// the device has finished it, a repeat is answered by the owner's reply, and is not executed again.
 pub fn queued_commands_are_handed_over()
     ensures steps { queue_steps_law }
     ensures handed_over { handed_over_law }
     ensures pending { pending_law }
+    ensures kept { keeps_slot_law }
     ensures answered { finished_answer_law }
 {}
 

@@ -5,12 +5,12 @@ ghost use Rattle.std.specs.Prelude.{◌≡◌};
 ghost use Rattle.cip_message.specs.PathReading.{path_of};
 ghost use Rattle.cip_message.specs.Request.{request_of};
 ghost use Rattle.cip_objects.specs.OwnRequests.{is_own_service};
-ghost use Rattle.enip_adapter.specs.Rights.{is_change_service, is_change, is_refused, is_path_to_ledger, is_to_ledger};
+ghost use Rattle.enip_adapter.specs.Rights.{is_change_service, is_read_service, is_change, is_refused, is_path_to_ledger, is_to_ledger};
 ghost use Rattle.enip_adapter.specs.Rights.{is_single_change, is_changing_packet, any_change, refusal};
 ghost use Rattle.cip_objects.specs.Packets.{packet_of};
 
 use crate::peer::Rights;
-use cip_ledger::{GET_LAST, LEDGER};
+use cip_ledger::{GET_LAST, GET_SLOTS, LEDGER};
 use cip_message::{RequestView, read_path, reply_service};
 use cip_objects::{PacketRequests, ReplyBuf, Router, packet_data};
 
@@ -73,8 +73,15 @@ fn is_single_change(request: &[u8]) -> bool
     if !is_change_service(*service) {
         return false;
     }
-    // Get_Last of the command ledger only reads.
-    *service != GET_LAST || !is_to_ledger(request)
+    // Get_Last and Get_Slots of the command ledger only read.
+    !is_read_service(*service) || !is_to_ledger(request)
+}
+
+/// Whether a service of the command ledger only reads.
+fn is_read_service(service: u8) -> bool
+    ensures { result ≡ is_read_service service }
+{
+    service == GET_LAST || service == GET_SLOTS
 }
 
 /// Whether a service changes what it is sent to.

@@ -69,10 +69,15 @@ pub(crate) enum Argument {
     DiscoveryTime,
     Quiet,
     Once,
+    CommandId,
+    Ids,
+    CommandFile,
     Tries,
     ReadTries,
     Pending,
     Abandon,
+    Forget,
+    ForgottenNumber,
     Shell,
 }
 
@@ -143,10 +148,15 @@ impl Argument {
             Argument::DiscoveryTime => &connection_rows::DISCOVERY_TIME,
             Argument::Quiet => &request_rows::QUIET,
             Argument::Once => &connection_rows::ONCE,
+            Argument::CommandId => &connection_rows::COMMAND_ID,
+            Argument::Ids => &connection_rows::IDS,
+            Argument::CommandFile => &connection_rows::COMMAND_FILE,
             Argument::Tries => &connection_rows::TRIES,
             Argument::ReadTries => &connection_rows::READ_TRIES,
             Argument::Pending => &connection_rows::PENDING,
             Argument::Abandon => &connection_rows::ABANDON,
+            Argument::Forget => &connection_rows::FORGET,
+            Argument::ForgottenNumber => &connection_rows::FORGOTTEN_NUMBER,
             Argument::Shell => &line_rows::SHELL,
         }
     }

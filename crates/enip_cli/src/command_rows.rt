@@ -3,15 +3,17 @@
 use crate::arguments::Argument;
 use crate::command_row::CommandRow;
 use crate::device_texts::{
-    DETAILS_DISCOVER, DETAILS_IDENTITY, DETAILS_INSPECT, DETAILS_SERVICES, EXAMPLES_DISCOVER,
-    EXAMPLES_IDENTITY, EXAMPLES_INSPECT, EXAMPLES_SERVICES,
+    DETAILS_DISCOVER, DETAILS_IDENTITY, DETAILS_INSPECT, DETAILS_LEDGER, DETAILS_SERVICES,
+    EXAMPLES_DISCOVER, EXAMPLES_IDENTITY, EXAMPLES_INSPECT, EXAMPLES_LEDGER, EXAMPLES_SERVICES,
+    USAGE_LEDGER,
 };
 use crate::line_texts::{
     DETAILS_ANSWER, DETAILS_REPLAY, DETAILS_SHOW, EXAMPLES_ANSWER, EXAMPLES_REPLAY, EXAMPLES_SHOW,
 };
 use crate::request_texts::{
-    DETAILS_BATCH, DETAILS_CALL, DETAILS_GET, DETAILS_SET, DETAILS_WATCH, EXAMPLES_BATCH,
-    EXAMPLES_CALL, EXAMPLES_GET, EXAMPLES_SET, EXAMPLES_WATCH, USAGE_CALL, USAGE_SET,
+    DETAILS_BATCH, DETAILS_CALL, DETAILS_GET, DETAILS_ONCE, DETAILS_SET, DETAILS_WATCH,
+    EXAMPLES_BATCH, EXAMPLES_CALL, EXAMPLES_GET, EXAMPLES_ONCE, EXAMPLES_SET, EXAMPLES_WATCH,
+    USAGE_CALL, USAGE_SET,
 };
 use crate::serving_texts::{
     DETAILS_CHECK, DETAILS_EDS, DETAILS_SERVE, EXAMPLES_CHECK, EXAMPLES_EDS, EXAMPLES_SERVE,
@@ -123,6 +125,8 @@ pub(crate) static SET: CommandRow = CommandRow {
         Argument::Deadline,
         Argument::Quiet,
         Argument::Once,
+        Argument::CommandId,
+        Argument::Ids,
         Argument::Tries,
         Argument::Pending,
         Argument::Abandon,
@@ -156,10 +160,21 @@ pub(crate) static CALL: CommandRow = CommandRow {
         Argument::Deadline,
         Argument::Quiet,
         Argument::Once,
+        Argument::CommandId,
+        Argument::Ids,
         Argument::Tries,
         Argument::Pending,
         Argument::Abandon,
     ],
+};
+
+pub(crate) static ONCE: CommandRow = CommandRow {
+    name: "once",
+    about: "Print what a command file has, and send nothing",
+    usage: None,
+    examples: EXAMPLES_ONCE,
+    details: DETAILS_ONCE,
+    arguments: &[Argument::CommandFile, Argument::Json],
 };
 
 pub(crate) static BATCH: CommandRow = CommandRow {
@@ -220,6 +235,30 @@ pub(crate) static INSPECT: CommandRow = CommandRow {
         Argument::DeviceAddress,
         Argument::Json,
         Argument::Verbose,
+        Argument::Connected,
+        Argument::Route,
+        Argument::ConnectionSerial,
+        Argument::OriginatorSerial,
+        Argument::Size,
+        Argument::Rpi,
+        Argument::SessionMultiplier,
+        Argument::ReadTries,
+        Argument::Timeout,
+        Argument::Deadline,
+    ],
+};
+
+pub(crate) static LEDGER: CommandRow = CommandRow {
+    name: "ledger",
+    about: "List the slots of a command ledger, or free one",
+    usage: Some(USAGE_LEDGER),
+    examples: EXAMPLES_LEDGER,
+    details: DETAILS_LEDGER,
+    arguments: &[
+        Argument::DeviceAddress,
+        Argument::ForgottenNumber,
+        Argument::Forget,
+        Argument::Json,
         Argument::Connected,
         Argument::Route,
         Argument::ConnectionSerial,

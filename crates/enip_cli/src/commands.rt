@@ -26,9 +26,11 @@ pub(crate) enum CommandName {
     Get,
     Set,
     Call,
+    Once,
     Batch,
     Watch,
     Inspect,
+    Ledger,
     Identity,
     Discover,
     Services,
@@ -40,16 +42,18 @@ pub(crate) enum CommandName {
 }
 
 /// The commands in the order in which the help lists them.
-pub(crate) static COMMANDS: [CommandName; 17] = [
+pub(crate) static COMMANDS: [CommandName; 19] = [
     CommandName::Serve,
     CommandName::Check,
     CommandName::Eds,
     CommandName::Get,
     CommandName::Set,
     CommandName::Call,
+    CommandName::Once,
     CommandName::Batch,
     CommandName::Watch,
     CommandName::Inspect,
+    CommandName::Ledger,
     CommandName::Identity,
     CommandName::Discover,
     CommandName::Services,
@@ -70,9 +74,11 @@ impl CommandName {
             CommandName::Get => &command_rows::GET,
             CommandName::Set => &command_rows::SET,
             CommandName::Call => &command_rows::CALL,
+            CommandName::Once => &command_rows::ONCE,
             CommandName::Batch => &command_rows::BATCH,
             CommandName::Watch => &command_rows::WATCH,
             CommandName::Inspect => &command_rows::INSPECT,
+            CommandName::Ledger => &command_rows::LEDGER,
             CommandName::Identity => &command_rows::IDENTITY,
             CommandName::Discover => &command_rows::DISCOVER,
             CommandName::Services => &command_rows::SERVICES,

@@ -2,10 +2,10 @@
 
 use crate::argument_row::{ArgumentRow, FLAG, PLAIN};
 use crate::option_texts::{
-    ABANDON_DETAILS, CONNECTION_SERIAL_DETAILS, DEADLINE_DETAILS, MULTIPLIER_DETAILS, ONCE_DETAILS,
-    ORIGINATOR_SERIAL_DETAILS, PENDING_DETAILS, READ_MULTIPLIER_DETAILS, READ_TRIES_DETAILS,
-    ROUTE_DETAILS, RPI_DETAILS, SESSION_MULTIPLIER_DETAILS, SIZE_DETAILS, TRIES_DETAILS,
-    WAIT_DETAILS,
+    ABANDON_DETAILS, COMMAND_ID_DETAILS, CONNECTION_SERIAL_DETAILS, DEADLINE_DETAILS,
+    FORGET_DETAILS, IDS_DETAILS, MULTIPLIER_DETAILS, ONCE_DETAILS, ORIGINATOR_SERIAL_DETAILS,
+    PENDING_DETAILS, READ_MULTIPLIER_DETAILS, READ_TRIES_DETAILS, ROUTE_DETAILS, RPI_DETAILS,
+    SESSION_MULTIPLIER_DETAILS, SIZE_DETAILS, TRIES_DETAILS, WAIT_DETAILS,
 };
 use enip_shell::Takes;
 
@@ -152,6 +152,35 @@ pub(crate) static ONCE: ArgumentRow = ArgumentRow {
     ..PLAIN
 };
 
+pub(crate) static COMMAND_ID: ArgumentRow = ArgumentRow {
+    id: "id",
+    option: Some("id"),
+    value_name: Some("TEXT"),
+    help: COMMAND_ID_DETAILS,
+    needs: &["once"],
+    conflicts: &["pending", "abandon"],
+    is_rare: true,
+    ..PLAIN
+};
+
+pub(crate) static IDS: ArgumentRow = ArgumentRow {
+    id: "ids",
+    option: Some("ids"),
+    value_name: Some("N"),
+    help: IDS_DETAILS,
+    needs: &["id"],
+    is_rare: true,
+    ..PLAIN
+};
+
+pub(crate) static COMMAND_FILE: ArgumentRow = ArgumentRow {
+    id: "FILE",
+    takes: Takes::File,
+    help: "File of commands that are executed once",
+    is_required: true,
+    ..PLAIN
+};
+
 pub(crate) static TRIES: ArgumentRow = ArgumentRow {
     id: "tries",
     option: Some("tries"),
@@ -187,4 +216,21 @@ pub(crate) static ABANDON: ArgumentRow = ArgumentRow {
     needs: &["once"],
     is_rare: true,
     ..FLAG
+};
+
+pub(crate) static FORGET: ArgumentRow = ArgumentRow {
+    id: "forget",
+    option: Some("forget"),
+    value_name: Some("FILE"),
+    takes: Takes::File,
+    help: "Free the slot of FILE; with NUMBER, of an originator",
+    details: Some(FORGET_DETAILS),
+    ..PLAIN
+};
+
+pub(crate) static FORGOTTEN_NUMBER: ArgumentRow = ArgumentRow {
+    id: "NUMBER",
+    help: "With --forget, number of the last command of the slot",
+    needs: &["forget"],
+    ..PLAIN
 };

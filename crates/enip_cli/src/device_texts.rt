@@ -1,4 +1,4 @@
-//! The longer texts of the help of `enip inspect`, `identity`, `services` and `discover`.
+//! The longer texts of the help of `enip inspect`, `ledger`, `identity`, `services` and `discover`.
 //!
 //! `EXAMPLES_..` end the help of `-h`. `DETAILS_..` end that of `--help` and have the same examples.
 
@@ -19,6 +19,41 @@ at most 1000; up to 255 if the device does not say.
 Examples:
   enip inspect 10.0.0.9
   enip inspect 10.0.0.9 --json --route 1/0
+
+For exit statuses, see `enip --help`.";
+
+pub(crate) const USAGE_LEDGER: &str = "\
+enip ledger [OPTIONS] <ADDRESS>
+       enip ledger [OPTIONS] <ADDRESS> --forget <FILE>
+       enip ledger [OPTIONS] <ADDRESS> --forget <ORIGINATOR> <NUMBER>";
+
+pub(crate) const EXAMPLES_LEDGER: &str = "\
+Examples:
+  enip ledger 10.0.0.9
+  enip ledger 10.0.0.9 --forget commands
+  enip ledger 10.0.0.9 --forget 4d1f0a5be2a90c37 12";
+
+pub(crate) const DETAILS_LEDGER: &str = "\
+Each originator of commands, such as a FILE of --once, takes a slot of the
+command ledger and keeps it until it is freed. Without --forget, this prints a
+line for each slot that is taken: the originator as FILE has it, the number of
+its last command, and whether that is done, pending or in doubt.
+
+  4d1f0a5be2a90c37 12 done
+
+With --forget, it frees a slot, and prints `freed` and that line, or `no slot`
+if the originator has none. Free a slot only if its originator will not repeat
+its last command: once the slot is free, the device executes that again. A
+slot whose command is pending is not freed.
+
+If the device refuses, the output is `refused 0xGG`, as of `enip get`. With
+--json, it is an object on one line.
+
+Examples:
+  enip ledger 10.0.0.9
+  enip ledger 10.0.0.9 --forget commands
+      frees the slot of `--once commands`
+  enip ledger 10.0.0.9 --forget 4d1f0a5be2a90c37 12
 
 For exit statuses, see `enip --help`.";
 

@@ -13,8 +13,8 @@ const LOCK: &[u8] = b".lock";
 /// What is appended for the next content.
 const NEXT: &[u8] = b".new";
 
-/// Our own limit, in bytes: more than any command file has. A longer file is not read to its end.
-const LONGEST: u64 = 4_096;
+/// Our own limit, in bytes: more than any command file has, with 1,024 ids too. A longer file is not read to its end.
+const LONGEST: u64 = 16_777_216;
 
 /// A file that no other process uses until this value is dropped.
 #[derive(Drop)]

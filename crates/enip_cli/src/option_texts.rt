@@ -157,6 +157,19 @@ the last one, and the command while it is pending. It is created if
 there is none, and written before the command is sent. FILE.lock and
 FILE.new are files next to it";
 
+pub(crate) const COMMAND_ID_DETAILS: &str = "\
+With --once, the id of the command: 1 to 64 printable ASCII characters
+without spaces, such as 2026-11-29. FILE keeps the ids, requests and
+replies of the last commands. A command whose id is among them is not
+sent: its reply is printed again. A pending command with another id is
+settled first";
+
+pub(crate) const IDS_DETAILS: &str = "\
+With --id, keep the last N ids in FILE, 1 to 1024. An id that is not
+kept any more is that of a new command
+
+[default: 64]";
+
 pub(crate) const TRIES_DETAILS: &str = "\
 With --once, try up to N times, each on a new connection, until the
 device answers. With --connected and without --once, send the request
@@ -180,6 +193,13 @@ With --once, give up the pending command of FILE, which is executed
 once or not at all, and send the one in the arguments as a new
 command. If it is left out, send nothing. If there is no answer, do
 not repeat this line: leave out --abandon";
+
+pub(crate) const FORGET_DETAILS: &str = "\
+Free the slot of the originator of FILE, a file of --once without a
+pending command. With NUMBER, the value is not a file but an
+originator, as the list has it, or 0x and up to 16 hexadecimal digits.
+The slot is freed only if its last command has the number of FILE, or
+NUMBER";
 
 pub(crate) const MEMBER_DETAILS: &str = "\
 Member of the attribute, 0 to 65535. The request of `get` is then

@@ -125,6 +125,27 @@ Examples:
 
 For exit statuses, see `enip --help`.";
 
+pub(crate) const EXAMPLES_ONCE: &str = "\
+Examples:
+  enip once commands
+  enip once commands --json";
+
+pub(crate) const DETAILS_ONCE: &str = "\
+Reads the file that `enip call` and `enip set` keep of commands that are
+executed once. Prints who gives the commands, the life of the device, the number
+of the last command, the request and the id of the pending one, the ids,
+requests and replies of the last commands with an id, and the last of these
+replies. Nothing is sent, and the file is not changed. Requests and replies are
+in hexadecimal.
+
+With --json it is an object instead.
+
+Examples:
+  enip once commands
+  enip once commands --json
+
+For exit statuses, see `enip --help`.";
+
 pub(crate) const EXAMPLES_BATCH: &str = "\
 Examples:
   enip batch 10.0.0.9 <requests.txt

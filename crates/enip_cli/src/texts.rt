@@ -21,6 +21,7 @@ before it starts with `enip: ` and gives the reason.
                         there is none
   2  life               --once: the device has restarted since the pending
                         command was sent
+  2  id                 --id: the command with this id has another request
   3  configuration N    the configuration is refused
   3  state              --keep: FILE is not the kept state of this device, or is
                         damaged, or older than it was
@@ -32,6 +33,9 @@ before it starts with `enip: ` and gives the reason.
   6                     the device refused the request
   6  setup              replay: no capacity for two sessions and a connection
   7  fault N            no valid reply
+  8  unsettled          --id: the command is pending in FILE
+  9  blocked            --id: the command was not sent, because another one is
+                        pending in FILE
 
 configuration N, the first that applies:
 

@@ -11,7 +11,8 @@ use enip_client::ListCommand;
 use enip_common::{ARGUMENTS_REFUSED, CommandError};
 use enip_device::run_serve;
 use enip_requests::{
-    Query, is_help_of_objects, run_call, run_get, run_help_of_objects, run_query, run_set,
+    Query, is_help_of_objects, run_call, run_get, run_help_of_objects, run_once_file, run_query,
+    run_set, run_slots,
 };
 use enip_sessions::{run_batch, run_inspect, run_watch};
 use explained::explained;
@@ -41,6 +42,8 @@ fn run_command<'a>(
         "get" => return run_get(rt, args, matches),
         "set" => return run_set(rt, args, matches),
         "call" => return run_call(rt, args, matches),
+        "ledger" => return run_slots(rt, args, matches),
+        "once" => return run_once_file(rt, args, matches),
         "batch" => return run_batch(rt, matches),
         "watch" => return run_watch(rt, matches),
         "inspect" => return run_inspect(rt, matches),

@@ -6,3 +6,5 @@ pub mod TurnLemmas
 pub mod HexLemmas
 pub mod LayoutJsonLemmas
 pub mod StyleLemmas
+pub mod CommandRecordLemmas
+pub mod RecordListingLemmas

@@ -1,5 +1,6 @@
 -- The JSON that is printed. Members are sorted by name.
-use Rattle.std.specs.Prelude.{◌≡◌, ℕ, List, ◌++◌, codes, slice_index, Some}
+use Rattle.std.specs.Prelude.{◌≡◌, ◌==◌, nat_lt, if◌then◌else◌, ℕ, Bool, List, ◌++◌, codes, length, slice_index, Some}
+use Rattle.std.specs.List.{position_or_len, before_first, after_first}
 use Rattle.std.specs.Fmt.{decimal}
 use Rattle.hex.specs.Hex.{encode_lower}
 use Rattle.cip_values.specs.Values.{Value}
@@ -68,3 +69,14 @@ AreValuesJson bytes value_type values d = (list : Data) × AreJsonOf values list
 abbrev pub IsValuesLine : List ℕ → ValueType → List Value → List ℕ → Type 0
 IsValuesLine bytes value_type values line =
     (d : Data) × (AreValuesJson bytes value_type values d × (read line ≡ Some d) × (line ≡ print (tokens line)))
+
+abbrev pub is_comma : ℕ → Bool
+is_comma byte = byte == 44
+
+-- An object in which a command's number, and that an earlier run has sent it, follow the first member.
+abbrev pub resumed_text : ℕ → List ℕ → List ℕ
+resumed_text number text =
+    if nat_lt (position_or_len is_comma text) (length text)
+    then before_first is_comma text ++ codes ",\"number\":" ++ decimal number ++ codes ",\"resumed\":true,"
+    ++ after_first is_comma text
+    else text

@@ -12,3 +12,5 @@ pub mod CommandFiles
 pub mod Once
 pub mod Sessions
 pub mod LayoutJson
+pub mod CommandRecords
+pub mod RecordListing

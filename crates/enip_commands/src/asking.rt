@@ -1,6 +1,7 @@
 //! `enip get`, `enip set` and `enip call`: one request and its reply.
 
-ghost use Rattle.std.specs.Prelude.{◌≡◌, ◌<◌, ◌≤◌, None, IfOk, IfErr};
+ghost use Rattle.std.specs.Prelude.{◌≡◌, ◌<◌, ◌≤◌, ◌++◌, codes, None, IfOk, IfErr, OnOk};
+ghost use Rattle.std.specs.Io.KnownBytes.{Appends};
 ghost use Rattle.cip_bytes.specs.declared.protocol.TheConstants.{LARGEST_CONNECTION_SIZE};
 ghost use Rattle.cip_message.specs.PathWriting.{short};
 ghost use Rattle.cip_message.specs.Request.{request};
@@ -8,10 +9,12 @@ ghost use Rattle.enip_client.specs.Asking.{ends};
 ghost use Rattle.enip_commands.specs.Asking.{IsRequested, IsReplyPrinted, IsNotPrinted, IsOfExchange};
 ghost use Rattle.enip_commands.specs.Asking.{IsExchanged, IsExchangedOver, IsNotMade, exchange_result};
 ghost use Rattle.enip_commands.specs.Statuses.{asking_status, replied_status};
+ghost use Rattle.enip_commands.specs.Json.{resumed_text};
 ghost use Rattle.enip_faults.specs.Failures.{IsOfDevice};
+ghost use Rattle.enip_faults.specs.Statuses.{IsOfDevices};
 
 use crate::hexadecimal::is_hexadecimal;
-use crate::json_text::refusal_line;
+use crate::json_text::{refusal_line, resumed_line};
 use crate::style::{Style, data_object, print_data};
 use arrayvec::ArrayVec;
 use cip_message::{Path, ReplyView, write_path};
@@ -283,6 +286,50 @@ pub fn show_reply<O: Write + Drop>(
     let replied = print_reply(alloc, &mut output, style, bytes)?;
     output.flush()?;
     Ok(replied)
+}
+
+/// Prints the reply to a pending command with this number, which an earlier run has sent. As text it is that of
+/// `show_reply`, and the object of JSON has the members `number` and `resumed`, too.
+///
+/// # Errors
+///
+/// Those of `show_reply`.
+pub fn show_resumed<O: Write + Drop>(
+    alloc: Global,
+    output: O,
+    style: Style,
+    number: u32,
+    bytes: &[u8],
+) -> Result<ReplyOutcome, RequestFailure>
+    ensures rendered { IfOk result (IsReplyPrinted bytes.now) }
+    ensures not_printed { IfErr result (IsNotPrinted style bytes.now) }
+{
+    let mut output = BufWriter::new(alloc, output)?;
+    let replied = if style.is_json {
+        let object = reply_object(alloc, style, bytes)?;
+        print_resumed(alloc, &mut output, number, object.text.as_str())?;
+        object.replied
+    } else {
+        print_reply(alloc, &mut output, style, bytes)?
+    };
+    output.flush()?;
+    Ok(replied)
+}
+
+/// Prints the object of a reply to a command that an earlier run has sent, on one line.
+fn print_resumed<O: Write>(
+    alloc: Global,
+    output: &mut O,
+    number: u32,
+    object: &str,
+) -> Result<(), ProgramFault>
+    ensures printed { OnOk result (Appends (O.contents output.old) (O.contents output.new)
+        (resumed_text number object.now ++ codes "\n")) }
+    ensures failed { IfErr result IsOfDevices }
+{
+    let line = resumed_line(alloc, number, object)?;
+    writeln!(output, "{line}")?;
+    Ok(())
 }
 
 /// Prints a refusal of the connection on `output` in a style, as `ask_over` does.

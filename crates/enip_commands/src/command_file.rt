@@ -201,7 +201,7 @@ fn read_pending(text: &[u8]) -> Option<(Option<EmbeddedRequest>, &[u8])>
 }
 
 /// The value of the line that a text begins with, if it has this key, and the lines after it.
-fn split_line<'a>(text: &'a [u8], key: &[u8]) -> Option<(&'a [u8], &'a [u8])>
+pub(crate) fn split_line<'a>(text: &'a [u8], key: &[u8]) -> Option<(&'a [u8], &'a [u8])>
     ensures read { IfSome result (λ line. IsLine key.now line.0.now line.1.now text.now) }
     ensures lacking { result ≡ None → (value rest : List ℕ) → IsLine key.now value rest text.now → ⊥ }
 {
@@ -211,7 +211,7 @@ fn split_line<'a>(text: &'a [u8], key: &[u8]) -> Option<(&'a [u8], &'a [u8])>
 }
 
 /// The number that decimal digits without a leading zero spell.
-fn read_decimal(digits: &[u8]) -> Option<u64>
+pub(crate) fn read_decimal(digits: &[u8]) -> Option<u64>
     ensures read { IfSome result (λ number. digits.now ≡ decimal number) }
     ensures fits { IfSome result IsLong }
     ensures lacking { result ≡ None → (number : ℕ) → IsLong number → digits.now ≢ decimal number }

@@ -6,7 +6,8 @@
 //!   for repeated reads.
 //! - [`exchange_over`] and [`show_reply`] are the two halves of `ask_over`, for commands that are executed once:
 //!   [`read_commander`] and [`write_commander`] keep a commander in a file, [`read_life`] and [`begin_once`] say what is
-//!   sent, and a [`LedgerRefusal`] what a refusal means.
+//!   sent, and a [`LedgerRefusal`] what a refusal means. With ids it is a [`CommandRecord`], which [`read_record`] and
+//!   [`record_text`] keep in the file, and [`plan_id`] says what is sent.
 //! - [`list_over`] and [`objects_over`] ask a device for its identity or its services. [`print_devices`] and
 //!   [`print_device_objects`] print the answers to a broadcast, [`print_answer`] and [`print_answer_object`] with the
 //!   address that each came from. A [`DiscoveryAnswer`] is compared with others.
@@ -23,6 +24,7 @@
 
 mod asking;
 mod command_file;
+mod command_record;
 mod digits;
 mod discovering;
 mod hexadecimal;
@@ -41,12 +43,17 @@ mod typed;
 
 pub use asking::{
     DeviceRequest, ReplyOutcome, WANTS, ask_over, exchange_over, exchange_with, report_outcome,
-    show_refusal, show_reply,
+    show_refusal, show_reply, show_resumed,
 };
 pub use command_file::{CommandFile, read_commander, write_commander};
+pub use command_record::{
+    CommandRecord, DoneCommand, IdPlan, RecordFailure, has_ids_head, is_command_id, plan_id,
+    read_record, record_line, record_listing, record_text, reply_of_digits, text_after,
+};
 pub use discovering::{DiscoveryAnswer, Remarks, print_answer, print_answer_object};
 pub use enip_faults::{
-    CommandFileFault, Digits, LedgerRefusal, LineFault, OnceRefusal, ProgramFault, RequestFailure,
+    CommandFileFault, Digits, LedgerRefusal, LineFault, OnceRefusal, ProgramFault, RecordFault,
+    RequestFailure,
 };
 pub use interface::{InterfaceConfiguration, interface_object};
 pub use list_objects::{objects_over, print_device_objects};

@@ -42,6 +42,9 @@ pub enum ArgumentError<'a> {
     /// The value of `--date` is not a day.
     #[error("invalid value '{0}' for '--date <DATE>'\n  [a day as MM-DD-YYYY, such as 11-29-2026]")]
     Date(&'a str),
+    /// The value of `--id` is not an id.
+    #[error("invalid value '{0}' for '--id <TEXT>'\n  [1 to 64 printable ASCII characters without spaces]")]
+    Id(&'a str),
     /// The file that `--icon` names is not an icon.
     #[error("invalid value '{0}' for '--icon <FILE>'\n  [an .ico file of up to 65536 bytes]")]
     Icon(&'a str),
@@ -60,6 +63,9 @@ pub enum ArgumentError<'a> {
     /// Two arguments are standard input.
     #[error("the argument '-' cannot be used for '<CONFIG>' and '<SCRIPT>'")]
     InputTwice,
+    /// The value of `--forget` before a number is not an originator.
+    #[error("invalid value '{0}' for '--forget <ORIGINATOR>'\n  [16 hexadecimal digits, as FILE has them, or 0x and up to 16]")]
+    Originator(&'a str),
     /// A required argument is missing.
     #[error("an argument is missing")]
     Missing,

@@ -1,7 +1,7 @@
 //! The faults of the program's commands, with their texts and exit statuses.
 
 ghost use Rattle.std.specs.Prelude.{◌≡◌};
-ghost use Rattle.enip_common.specs.Statuses.{exit_status};
+ghost use Rattle.enip_common.specs.Statuses.{exit_status, is_of_device, is_device_request, is_device};
 
 use config_refusal::{ConfigurationRefusal, LoadFault};
 use enip_faults::{OnceRefusal, ReplayFailure, RequestFailure};
@@ -27,6 +27,12 @@ pub enum Fault {
     /// A command that is executed once is not sent.
     #[error("{0}")]
     Once(OnceRefusal),
+    /// A command with an id is pending in its file, and this run has no reply to it.
+    #[error("unsettled")]
+    Unsettled,
+    /// A command with an id is not sent, because another one is pending in its file.
+    #[error("blocked")]
+    Blocked,
     /// The file of `--keep` is refused.
     #[error("state")]
     State,
@@ -53,9 +59,56 @@ impl Fault {
             Fault::Setup => ReplayFailure::Setup.exit_status(),
             Fault::CommandFile(_) => 4,
             Fault::Storage => 5,
+            Fault::Unsettled => 8,
+            Fault::Blocked => 9,
             Fault::Run(fault) => fault.exit_status(),
             Fault::Request(failure) => failure.exit_status(),
         }
+    }
+}
+
+impl Fault {
+    /// Whether a file, a stream or a device failed.
+    pub(crate) fn is_of_device(self) -> bool
+        ensures { result ≡ is_of_device self }
+    {
+        match self {
+            Fault::Run(fault) => is_device(fault),
+            Fault::Request(failure) => is_device_request(failure),
+            Fault::Configuration(_)
+            | Fault::Setup
+            | Fault::Value
+            | Fault::Once(_)
+            | Fault::Unsettled
+            | Fault::Blocked
+            | Fault::State
+            | Fault::Storage
+            | Fault::CommandFile(_) => false,
+        }
+    }
+}
+
+/// Whether a request got no reply because a stream or a device failed.
+fn is_device_request(failure: RequestFailure) -> bool
+    ensures { result ≡ is_device_request failure }
+{
+    match failure {
+        RequestFailure::Program(fault) => is_device(fault),
+        RequestFailure::Hex
+        | RequestFailure::Session(_)
+        | RequestFailure::Client(_)
+        | RequestFailure::Shape(..)
+        | RequestFailure::Fields(_) => false,
+    }
+}
+
+/// Whether a file, a stream or a device failed.
+fn is_device(fault: enip_faults::ProgramFault) -> bool
+    ensures { result ≡ is_device fault }
+{
+    match fault {
+        enip_faults::ProgramFault::Device => true,
+        enip_faults::ProgramFault::Line(..) | enip_faults::ProgramFault::Memory => false,
     }
 }
 

@@ -29,8 +29,8 @@ pub use named_file::{NamedFile, is_input};
 pub use number_argument::{NumberArgument, path_of, service_of, u16_of, u32_of};
 pub use owner::{OwnerNeed, need_at_once, owner_need};
 pub use reason::{
-    CLOCK, CommandError, ConfigurationReason, NamedReason, Note, OwnedDigits, Reason, StateFile,
-    StorageReason, SystemError, print_reason,
+    CLOCK, CommandError, ConfigurationReason, NamedReason, Note, OwnedDigits, OwnedReply, Reason,
+    StateFile, StorageReason, SystemError, print_reason,
 };
 pub use retry::{read_some, write_some};
 pub use socket::{SocketSink, SocketSource, StreamFault};

@@ -55,6 +55,22 @@ impl NumberArgument {
         most: 0xffff_ffff,
     };
 
+    /// The number of a command of a ledger.
+    pub const COMMAND_NUMBER: NumberArgument = NumberArgument {
+        id: "NUMBER",
+        usage: "[NUMBER]",
+        least: 0,
+        most: 0xffff_ffff,
+    };
+
+    /// How many commands with an id the file of `--once` keeps.
+    pub const IDS: NumberArgument = NumberArgument {
+        id: "ids",
+        usage: "--ids <N>",
+        least: 1,
+        most: 1_024,
+    };
+
     pub const CONNECTION_SERIAL: NumberArgument = NumberArgument {
         id: "connection-serial",
         usage: "--connection-serial <N>",

@@ -2,7 +2,7 @@
 
 ghost use Rattle.std.specs.Prelude.{◌≡◌, IfSome, option_map};
 ghost use Rattle.enip_common.specs.Reasons.{refused_content, refused_name};
-ghost use Rattle.enip_common.specs.Statuses.{exit_status};
+ghost use Rattle.enip_common.specs.Statuses.{exit_status, pending_fault};
 
 use crate::fault::Fault;
 use crate::owner::OwnerNeed;
@@ -10,9 +10,7 @@ use cip_bytes::StatusText;
 use cip_route::RouteFailure;
 use cip_values::{ValueFault, ValueType};
 use enip_client::ClientFault;
-use enip_faults::{
-    CommandFileFault, Digits, LedgerRefusal, LineFault, ProgramFault, RequestFailure,
-};
+use enip_faults::{Digits, LedgerRefusal, LineFault, ProgramFault, RecordFault, RequestFailure};
 use std::alloc::{AllocError, Global};
 use std::fmt;
 use std::io::{self, ErrorKind};
@@ -90,13 +88,22 @@ pub enum Reason<'a> {
     SerialInUse(StatusText),
     /// A line of a command file is refused.
     #[error("{0}, line {1}: {2}")]
-    CommandFile(&'a str, u64, CommandFileFault),
+    CommandFile(&'a str, u64, RecordFault),
     /// The command file has this pending command, and the arguments have that one.
     #[error("{0}: another command is pending: {1}, not {2} (see --pending and --abandon)")]
     OtherPending(&'a str, OwnedDigits, OwnedDigits),
     /// The pending command of the command file was for another life of the device.
     #[error("{0}: the device has restarted, and may have executed the pending command {1} before (see --abandon)")]
     OtherLife(&'a str, OwnedDigits),
+    /// The command of the command file with this id has another request than the arguments.
+    #[error("{0}: the id {1} is that of a command with another request")]
+    OtherRequest(&'a str, &'a str),
+    /// The reply that is printed is that to the pending command with this number.
+    #[error("{0}: resumed the pending command {1}")]
+    Resumed(&'a str, u32),
+    /// Another command, with this number, was pending in the command file, and was executed with this reply.
+    #[error("{0}: the command {1} was pending, and was executed: {2}")]
+    Settled(&'a str, u32, OwnedReply),
     /// The pending command of the command file was given up.
     #[error("{0}: gave up the command {1}, which is executed at most once")]
     GivenUp(&'a str, OwnedDigits),
@@ -144,6 +151,12 @@ pub enum NamedReason {
     /// The command file has no pending command.
     #[error("no command is pending")]
     NonePending,
+    /// The command file has a pending command.
+    #[error("a command is pending (see --pending and --abandon)")]
+    CommandPending,
+    /// The slot of the ledger is that of another command, or its command is pending.
+    #[error("the last command of the slot has another number, or is still pending (see enip ledger)")]
+    OtherNumber,
     /// The device does not know whether it executed the command.
     #[error("the device does not know whether it executed the command, and its owner has to settle that")]
     InDoubt,
@@ -265,6 +278,9 @@ pub enum Note {
     /// The request was sent once or more, and no reply came.
     #[error("the request may have been executed (see --once)")]
     NoReply,
+    /// Another command is pending in the file, and this one is sent once that one is done.
+    #[error("the command was not sent, because another one is pending")]
+    Blocked,
     /// The device has replied, and its reply could not be printed, or the command could not be settled.
     #[error("the command was executed, and `--pending` prints its reply again")]
     Executed,
@@ -285,6 +301,23 @@ impl OwnedDigits {
 impl fmt::Display for OwnedDigits {
     fn fmt<W: fmt::Write>(&self, f: &mut fmt::Formatter<W>) -> fmt::Result {
         fmt::Display::fmt(&Digits(self.0.as_slice()), f)
+    }
+}
+
+/// The reply to a command, for a message: its data in hexadecimal or `ok`, or the refusal.
+#[derive(Debug, Drop)]
+pub enum OwnedReply {
+    Done(OwnedDigits),
+    Refused(StatusText),
+}
+
+impl fmt::Display for OwnedReply {
+    fn fmt<W: fmt::Write>(&self, f: &mut fmt::Formatter<W>) -> fmt::Result {
+        match self {
+            OwnedReply::Done(digits) if digits.0.is_empty() => f.write_str("ok"),
+            OwnedReply::Done(digits) => write!(f, "{digits}"),
+            OwnedReply::Refused(text) => write!(f, "refused {:#04x} ({text})", text.status),
+        }
     }
 }
 
@@ -397,6 +430,23 @@ impl<'a> CommandError<'a> {
             fault,
             reason,
             note: Some(note),
+        }
+    }
+
+    /// The same error with another fault, if it is that a file, a stream or a device failed.
+    pub fn of_pending(self, fault: Fault) -> CommandError<'a>
+        ensures { result.fault ≡ pending_fault self.entry.fault fault }
+    {
+        let CommandError {
+            fault: failed,
+            reason,
+            note,
+        } = self;
+        let fault = if failed.is_of_device() { fault } else { failed };
+        CommandError {
+            fault,
+            reason,
+            note,
         }
     }
 

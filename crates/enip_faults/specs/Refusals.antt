@@ -1,8 +1,10 @@
 -- What a refusal means: that of a ledger, and that of a line of a command file.
-use Rattle.std.specs.Prelude.{ℕ, ◌==◌, if◌then◌else◌, Bool, true, false}
+use Rattle.std.specs.Prelude.{ℕ, ◌==◌, ◌+◌, ◌-◌, ◌^◌, min, if◌then◌else◌, Bool, true, false}
 use Rattle.enip_faults.specs.declared.command_file_fault.CommandFileFault.{CommandFileFault}
 use Rattle.enip_faults.specs.declared.command_file_fault.CommandFileFault.TheVariants.{Head, Originator, Life, Number}
 use Rattle.enip_faults.specs.declared.command_file_fault.CommandFileFault.TheVariants.{Pending, End}
+use Rattle.enip_faults.specs.declared.command_file_fault.RecordFault.{RecordFault}
+use Rattle.enip_faults.specs.declared.command_file_fault.RecordFault.TheVariants as records
 use Rattle.enip_faults.specs.declared.ledger_refusal.LedgerRefusal.{LedgerRefusal}
 use Rattle.enip_faults.specs.declared.ledger_refusal.LedgerRefusal.TheVariants as answers
 
@@ -14,15 +16,19 @@ ledger_refusal status =
     else if status == 0x0c then answers.NumberPassed
     else if status == 0x10 then answers.OtherLife
     else if status == 0x11 then answers.ReplyTooLarge
+    else if status == 0xd0 then answers.LastPending
     else answers.Other status
 
--- a ledger without a slot for an originator has executed none of its commands
+-- a ledger without a slot for an originator has executed none of its commands, and none after one that is pending
 abbrev pub may_be_executed : LedgerRefusal → Bool
 may_be_executed answers.NoSlot = false
+may_be_executed answers.SlotsTaken = false
+may_be_executed answers.QueueFull = false
 may_be_executed answers.NoLedger = true
 may_be_executed answers.NumberPassed = true
 may_be_executed answers.OtherLife = true
 may_be_executed answers.ReplyTooLarge = true
+may_be_executed answers.LastPending = false
 may_be_executed (answers.Other status) = true
 
 -- the line of a command file that is refused
@@ -33,3 +39,10 @@ fault_line Life = 3
 fault_line Number = 4
 fault_line Pending = 5
 fault_line End = 6
+
+-- the same for a file with ids: those of the commander are after the lines of the ids
+abbrev pub record_line : RecordFault → ℕ
+record_line (records.Commander before fault) = min (before + fault_line fault) (2 ^ 64 - 1)
+record_line records.Count = 2
+record_line (records.Done line) = line
+record_line (records.PendingId line) = line

@@ -1,7 +1,7 @@
 //! Why a file of `--once` is refused.
 
 ghost use Rattle.std.specs.Prelude.{◌≡◌};
-ghost use Rattle.enip_faults.specs.Refusals.{fault_line};
+ghost use Rattle.enip_faults.specs.Refusals.{fault_line, record_line};
 
 use thiserror::Error;
 
@@ -40,6 +40,37 @@ impl CommandFileFault {
             CommandFileFault::Number => 4,
             CommandFileFault::Pending => 5,
             CommandFileFault::End => 6,
+        }
+    }
+}
+
+/// Why a text is not that of a command file, with or without ids. The text is what was expected.
+#[derive(Clone, Copy, Debug, PartialEq, Eq, Error)]
+pub enum RecordFault {
+    /// The lines of the commander are not as expected. The first field is how many lines precede those of a file without
+    /// ids.
+    #[error("{1}")]
+    Commander(u64, CommandFileFault),
+    /// The line is not the number of ids.
+    #[error("expected `ids` and 0 to 1024")]
+    Count,
+    /// The line does not begin a command that was executed, or its id is that of another one.
+    #[error("expected `id`, `request` and `reply` of a command, with an id that no other command has")]
+    Done(u64),
+    /// The line has no id of a pending command.
+    #[error("expected `pending-id no id`, or `pending-id` and an id that no other command has")]
+    PendingId(u64),
+}
+
+impl RecordFault {
+    /// The line, from 1.
+    pub fn line(self) -> u64
+        ensures { result ≡ record_line self }
+    {
+        match self {
+            RecordFault::Commander(before, fault) => before.saturating_add(fault.line()),
+            RecordFault::Count => 2,
+            RecordFault::Done(line) | RecordFault::PendingId(line) => line,
         }
     }
 }

@@ -4,8 +4,8 @@
 //! - A [`ProgramFault`] is about a line of the input, a file, a stream or memory. A [`LineFault`] says what is wrong with
 //!   the line.
 //! - A [`RequestFailure`] is about a request to a device, and a [`ReplayFailure`] about a replay.
-//! - A [`OnceRefusal`] says why a command that is executed once is not sent, a [`CommandFileFault`] what is wrong with
-//!   its file, and a [`LedgerRefusal`] what it means that a ledger refuses it.
+//! - A [`OnceRefusal`] says why a command that is executed once is not sent, a [`CommandFileFault`] or a [`RecordFault`]
+//!   what is wrong with its file, and a [`LedgerRefusal`] what it means that a ledger refuses it.
 //! - [`Digits`] prints bytes in hexadecimal.
 #![tactic(auto)]
 
@@ -18,7 +18,7 @@ mod once_refusal;
 mod replay_failure;
 mod request_failure;
 
-pub use command_file_fault::CommandFileFault;
+pub use command_file_fault::{CommandFileFault, RecordFault};
 pub use digits::Digits;
 pub use fault::ProgramFault;
 pub use ledger_refusal::LedgerRefusal;

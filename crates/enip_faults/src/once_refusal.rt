@@ -20,6 +20,9 @@ pub enum OnceRefusal {
     /// restarted.
     #[error("life")]
     OtherLife,
+    /// The command with this id has another request.
+    #[error("id")]
+    OtherRequest,
     /// The request cannot be a command.
     #[error("fault {}", client_fault(*.0).number())]
     Command(CommandRefused),
@@ -31,7 +34,10 @@ impl OnceRefusal {
         ensures { result ≡ once_refusal_status self }
     {
         match self {
-            OnceRefusal::Differs | OnceRefusal::NonePending | OnceRefusal::OtherLife => 2,
+            OnceRefusal::Differs
+            | OnceRefusal::NonePending
+            | OnceRefusal::OtherLife
+            | OnceRefusal::OtherRequest => 2,
             OnceRefusal::Command(_) => 7,
         }
     }

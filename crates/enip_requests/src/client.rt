@@ -1,6 +1,8 @@
-//! The commands that send one request: `get`, `set`, `call`, `identity`, `services` and `discover`.
+//! The commands that send one request: `get`, `set`, `call`, `identity`, `services` and `discover`; and `ledger`.
 
 use crate::found_devices::DeviceForm;
+use crate::ledger::run_ledger;
+use crate::ledger_task::LedgerTask;
 use crate::listing::{run_discovery, run_list};
 use crate::once::run_once;
 use crate::once_options::OnceOptions;
@@ -74,6 +76,28 @@ pub fn run_call<'a>(
         Ok(service) => run_client(rt, args, service, matches),
         Err(error) => Ok(print_argument_error(rt, error)),
     }
+}
+
+/// `enip ledger`.
+pub fn run_slots<'a>(
+    rt: &HostRuntime,
+    args: &[OsArg],
+    matches: &ArgMatches<'a>,
+) -> Result<u8, CommandError<'a>> {
+    match task_of(rt, matches) {
+        Ok((device, task)) => run_ledger(rt, args, device, task),
+        Err(error) => Ok(print_argument_error(rt, error)),
+    }
+}
+
+/// The device whose ledger is asked, and what is done there.
+fn task_of<'a>(
+    rt: &HostRuntime,
+    matches: &ArgMatches<'a>,
+) -> Result<(Device<'a>, LedgerTask<'a>), ArgumentError<'a>> {
+    let timeout = Timeout::from_matches(rt, matches)?;
+    let device = Device::from_matches(matches, timeout)?;
+    Ok((device, LedgerTask::from_matches(matches)?))
 }
 
 /// `enip get`, `enip set` and `enip call`: sends a request for a service once, again and again, or until it is executed

@@ -2,34 +2,31 @@
 //!
 //! FILE has the commander: the originator, the device's life, the last number, and the command while it is pending. A
 //! command is written to FILE before it is sent, and settled there once its reply is printed. If the device has put the
-//! command into its queue, it is sent again until it is executed.
+//! command into its queue, it is sent again until it is executed. Commands with an id are in `identified`.
 
+use crate::command_record::record_in;
 use crate::once_options::OnceOptions;
 use crate::pauses::next_pause;
 use crate::request::print_refusal;
 use cip_bytes::StatusText;
-use cip_commander::{CommandOutcome, CommandRefused, Commander};
+use cip_commander::{CommandOutcome, Commander};
 use cip_objects::ReplyBuf;
-use enip_cli::{LockedFile, OsArg, exists, front_of, option_file_name};
+use enip_cli::{LockedFile, OsArg, exists, option_file_name};
 use enip_client::ClientFault;
 use enip_commands::{
-    LIFE_REQUEST, LedgerRefusal, LifeFault, OnceRefusal, PendingChoice, RequestFailure, WANTS,
-    begin_once, check_once, exchange_with, read_commander, read_life, show_reply, write_commander,
+    CommandRecord, DoneCommand, LIFE_REQUEST, LifeFault, OnceRefusal, PendingChoice, ReplyOutcome,
+    RequestFailure, WANTS, begin_once, check_once, exchange_with, read_life, show_reply,
+    show_resumed, text_after,
 };
 use enip_common::{
-    CLOCK, CommandError, ErrorKeeping, Fault, HostPort, NamedReason, Note, OwnedDigits, Reason,
-    SocketSink, SocketSource, StateFile, StorageReason, SystemError, print_reason,
+    CLOCK, CommandError, ErrorKeeping, Fault, HostPort, NamedReason, Note, Reason, SocketSink,
+    SocketSource, print_reason,
 };
 use remote_device::{Device, Request, error_of_failure};
-use std::io::{self, ErrorKind};
-use std::random::RandomSource;
 use std::thread;
 use std::time::{Duration, Instant};
 
 const OUTPUT: &str = "standard output";
-
-/// How long to wait before a file in use is tried again, in milliseconds (ours).
-const LOCK_INTERVAL: u64 = 20;
 
 /// How long to wait before a device is tried again, in milliseconds (ours).
 const RETRY_DELAY: u64 = 100;
@@ -37,15 +34,26 @@ const RETRY_DELAY: u64 = 100;
 /// The bytes of a sequence count, which precedes a request on a connection. (Volume 1, transport class 3.)
 const COUNT_SIZE: usize = 2;
 
+/// Whose reply a run prints.
+#[derive(Clone, Copy)]
+pub(crate) enum Settled {
+    /// That of a command that this run has sent first.
+    New,
+    /// That of a command that an earlier run has sent, with this number.
+    Resumed(u32),
+    /// None: the command is another one, with this number, and its end is printed on standard error.
+    Another(u32),
+}
+
 /// A device, and the file of the commands that it is sent.
 #[derive(Drop)]
-struct OnceRun<'a, 'r> {
-    rt: &'r HostRuntime,
-    device: Device<'a>,
+pub(crate) struct OnceRun<'a, 'r> {
+    pub(crate) rt: &'r HostRuntime,
+    pub(crate) device: Device<'a>,
     address: HostPort<'a>,
-    options: OnceOptions<'a>,
+    pub(crate) options: OnceOptions<'a>,
     /// The name of the command file.
-    name: &'r [u8],
+    pub(crate) name: &'r [u8],
 }
 
 /// Sends a command until the device replies that it is executed, and prints the reply. Without a request, sends or gives
@@ -64,11 +72,49 @@ pub(crate) fn run_once<'a>(
         options,
         name: option_file_name(args, "--once", options.file),
     };
-    match (request, options.choice) {
-        (Some(request), _) => run.send(request.bytes(rt.alloc())?.as_slice()),
-        (None, PendingChoice::Abandon) => run.give_up(),
-        (None, _) => run.send(&[]),
+    match (request, options.choice, options.id) {
+        (Some(request), _, Some(id)) => {
+            run.send_identified(id, request.bytes(rt.alloc())?.as_slice())
+        }
+        (Some(request), _, None) => run.send(request.bytes(rt.alloc())?.as_slice()),
+        (None, PendingChoice::Abandon, _) => run.give_up(),
+        (None, _, _) => run.send(&[]),
     }
+}
+
+/// The originator and the last number of a command file, for `enip ledger --forget`. Its last command must not be
+/// pending.
+pub(crate) fn slot_of_file<'a>(
+    rt: &HostRuntime,
+    args: &[OsArg],
+    device: Device<'a>,
+    file: &'a str,
+) -> Result<(u64, u32), CommandError<'a>> {
+    let run = OnceRun {
+        rt,
+        device,
+        address: HostPort::parse(device.address)?,
+        options: OnceOptions::of_file(file),
+        name: option_file_name(args, "--forget", file),
+    };
+    run.require_file()?;
+    let locked = run.lock()?;
+    let text = run.read(&locked)?;
+    let Some(text) = text else {
+        return Err(run.no_file());
+    };
+    let record = match record_in(rt.alloc(), file, text.as_slice()) {
+        Ok(record) => record,
+        Err(error) => return Err(error),
+    };
+    if record.commander.pending_request().is_some() {
+        let reason = Reason::Named(file, NamedReason::CommandPending);
+        return Err(CommandError::new(Fault::Once(OnceRefusal::Differs), reason));
+    }
+    Ok((
+        record.commander.originator(),
+        record.commander.last_number(),
+    ))
 }
 
 impl<'a> OnceRun<'a, '_> {
@@ -76,12 +122,18 @@ impl<'a> OnceRun<'a, '_> {
     fn give_up(&self) -> Result<u8, CommandError<'a>> {
         self.require_file()?;
         let file = self.lock()?;
-        let Some(mut commander) = self.read(&file)? else {
+        let text = self.read(&file)?;
+        let Some(text) = text else {
             return Err(self.no_file());
         };
-        let given_up = self.digits_of_pending(&commander)?;
-        if commander.abandon() {
-            self.write(&file, &commander)?;
+        let mut record = match record_in(self.rt.alloc(), self.options.file, text.as_slice()) {
+            Ok(record) => record,
+            Err(error) => return Err(error),
+        };
+        let given_up = self.digits_of_pending(&record.commander)?;
+        if record.commander.abandon() {
+            record.pending_id = None;
+            self.write(&file, &record)?;
             print_reason(self.rt, &Reason::GivenUp(self.options.file, given_up));
         }
         Ok(0)
@@ -89,53 +141,167 @@ impl<'a> OnceRun<'a, '_> {
 
     /// Sends a command as the options say.
     fn send(&self, request: &[u8]) -> Result<u8, CommandError<'a>> {
-        let choice = self.options.choice;
-        let mut life = None;
-        if let PendingChoice::Send = choice {
+        if let PendingChoice::Send = self.options.choice {
             self.require_file()?;
-        } else if !exists(self.name) {
-            // without a ledger no file is created
-            life = Some(self.life(Note::NotSent)?);
         }
+        let life = self.life_without_file()?;
         let file = self.lock()?;
-        let mut commander = match self.read(&file)? {
-            Some(commander) => commander,
-            None => Commander::new(0, self.new_originator()?, 0),
-        };
-        check_once(&commander, request, choice).map_err(|why| self.error_of_refusal(
-            &commander, request, why,
+        let text = self.read(&file)?;
+        match self.record_of(&text) {
+            Ok(record) => self.send_in(&file, record, request, life),
+            Err(error) => Err(error),
+        }
+    }
+
+    /// The life of the device if there is no file yet: without a ledger no file is created.
+    pub(crate) fn life_without_file(&self) -> Result<Option<u64>, CommandError<'a>> {
+        if exists(self.name) {
+            Ok(None)
+        } else {
+            Ok(Some(self.life(Note::NotSent)?))
+        }
+    }
+
+    /// Sends a command of a file as the options say. `life` is that of the device, if it is known.
+    pub(crate) fn send_in(
+        &self,
+        file: &LockedFile,
+        record: CommandRecord<'_>,
+        request: &[u8],
+        life: Option<u64>,
+    ) -> Result<u8, CommandError<'a>> {
+        let settled = self.settled_by(&record.commander);
+        let is_pending = matches!(settled, Settled::Resumed(_));
+        match self.begin(file, record, request, life) {
+            Ok(record) => self.in_file(self.finish(file, record, settled), true),
+            Err(error) => self.in_file(Err(error), is_pending),
+        }
+    }
+
+    /// Makes the command to send the pending one, and writes it to the file.
+    fn begin<'t>(
+        &self,
+        file: &LockedFile,
+        record: CommandRecord<'t>,
+        request: &[u8],
+        life: Option<u64>,
+    ) -> Result<CommandRecord<'t>, CommandError<'a>>
+    where
+        'a: 't,
+    {
+        let mut record = record;
+        let choice = self.options.choice;
+        check_once(&record.commander, request, choice).map_err(|why| self.error_of_refusal(
+            &record.commander,
+            request,
+            why,
         ))?;
-        let note = self.note_before(&commander);
+        let note = self.note_before(&record.commander);
         let life = match life {
             Some(life) => life,
             None => self.life(note)?,
         };
-        begin_once(&mut commander, request, life, choice).map_err(|why| self.error_of_refusal(
-            &commander, request, why,
-        ))?;
-        self.check_size(&commander)?;
-        with_note(self.write(&file, &commander), note)?;
-        self.finish(&file, &mut commander)
+        if let Settled::New = self.settled_by(&record.commander) {
+            record.pending_id = self.options.id.map(|id| id.as_bytes());
+        }
+        begin_once(&mut record.commander, request, life, choice).map_err(
+            |why| self.error_of_refusal(&record.commander, request, why),
+        )?;
+        self.check_size(&record.commander)?;
+        with_note(self.write(file, &record), note)?;
+        Ok(record)
+    }
+
+    /// Whose reply is printed, before the command is begun.
+    fn settled_by(&self, commander: &Commander) -> Settled {
+        match (commander.pending_request(), self.options.choice) {
+            (None, _) | (_, PendingChoice::Abandon) => Settled::New,
+            (Some(_), _) => Settled::Resumed(commander.last_number()),
+        }
+    }
+
+    /// The same outcome. If the command has an id and is pending in the file, the exit status of an error says so.
+    fn in_file(
+        &self,
+        outcome: Result<u8, CommandError<'a>>,
+        is_pending: bool,
+    ) -> Result<u8, CommandError<'a>> {
+        match outcome {
+            Err(error) if is_pending && self.options.id.is_some() => {
+                Err(error.of_pending(Fault::Unsettled))
+            }
+            outcome => outcome,
+        }
     }
 
     /// Sends the pending command until the device has executed it, prints the reply and settles the command.
-    fn finish(&self, file: &LockedFile, commander: &mut Commander) -> Result<u8, CommandError<'a>> {
+    pub(crate) fn finish(
+        &self,
+        file: &LockedFile,
+        record: CommandRecord<'_>,
+        settled: Settled,
+    ) -> Result<u8, CommandError<'a>> {
+        let mut record = record;
+        let alloc = self.rt.alloc();
+        let request = hex::encode(alloc, record.commander.pending_request().unwrap_or(&[]))?;
+        let originator = record.commander.originator();
         let mut pause = None;
         for _ in 0..u64::MAX {
             let mut reply = ReplyBuf::new();
-            let message = commander.pending().unwrap_or(&[]);
+            let message = record.commander.pending().unwrap_or(&[]);
             if let Err(error) = self.exchange(message, self.device.connected, &mut reply) {
                 return Err(self.error_of_exchange(error, pause.is_some()));
             }
-            match commander.receive(reply.as_slice()) {
+            match record.commander.receive(reply.as_slice()) {
                 CommandOutcome::StillPending => {}
-                outcome => return self.settle(file, commander, outcome),
+                CommandOutcome::Done(answer) => {
+                    // printed first: if that fails, the command stays pending, and its reply can be asked for again
+                    let status = self.print_settled(answer, settled)?;
+                    with_note(
+                        self.keep(file, &record, request.as_str(), answer),
+                        Note::Executed,
+                    )?;
+                    return Ok(status);
+                }
+                outcome => return Err(self.error_of_outcome(originator, outcome)),
             }
             let next = next_pause(pause);
             self.wait(next)?;
             pause = Some(next);
         }
         Err(CommandError::of_reason(Reason::Named(self.device.address, NamedReason::Failed)))
+    }
+
+    /// Writes the file once its command was executed: with its id and its reply, if it has an id.
+    fn keep(
+        &self,
+        file: &LockedFile,
+        record: &CommandRecord<'_>,
+        request: &str,
+        reply: &[u8],
+    ) -> Result<(), CommandError<'a>> {
+        let Some(id) = record.pending_id else {
+            return self.write(file, record);
+        };
+        let alloc = self.rt.alloc();
+        let reply = hex::encode(alloc, reply)?;
+        let command = DoneCommand {
+            id,
+            request: request.as_bytes(),
+            reply: reply.as_bytes(),
+        };
+        let most = usize::try_from(self.options.most_ids).unwrap_or(1).max(1);
+        let text = text_after(alloc, record, command, most)?;
+        self.write_text(file, text.as_slice())
+    }
+
+    /// Prints the reply to a command that was executed. Returns the exit status.
+    fn print_settled(&self, reply: &[u8], settled: Settled) -> Result<u8, CommandError<'a>> {
+        match settled {
+            Settled::New => self.print(reply, None),
+            Settled::Resumed(number) => self.print(reply, Some(number)),
+            Settled::Another(number) => self.print_end(reply, number),
+        }
     }
 
     /// Waits for so many milliseconds before the result of a queued command is asked for again. Fails at the deadline.
@@ -152,42 +318,43 @@ impl<'a> OnceRun<'a, '_> {
         }
     }
 
-    /// Prints the reply to a command and settles the command, or reports what the device says instead.
-    fn settle(
-        &self,
-        file: &LockedFile,
-        commander: &Commander,
-        outcome: CommandOutcome<'_>,
-    ) -> Result<u8, CommandError<'a>> {
+    /// The error of a command of this originator that the device has not executed in the end.
+    fn error_of_outcome(&self, originator: u64, outcome: CommandOutcome<'_>) -> CommandError<'a> {
         match outcome {
-            CommandOutcome::Done(answer) => {
-                // printed first: if that fails, the command stays pending, and its reply can be asked for again
-                let status = self.print(answer)?;
-                with_note(self.write(file, commander), Note::Executed)?;
-                Ok(status)
-            }
             CommandOutcome::InDoubt => {
                 let reason = Reason::Named(self.device.address, NamedReason::InDoubt);
-                Err(CommandError::of_reason(reason).with_note(self.unanswered()))
+                CommandError::of_reason(reason).with_note(self.unanswered())
             }
-            CommandOutcome::Refused(status) => Err(self.error_of_ledger(status)),
-            CommandOutcome::Malformed | CommandOutcome::NotPending | CommandOutcome::StillPending =>
-                Err(self.malformed().with_note(self.unanswered())),
+            CommandOutcome::Refused(status) => {
+                self.error_of_ledger(status, self.refusal_of(originator, status))
+            }
+            _ => self.malformed().with_note(self.unanswered()),
         }
     }
 
-    /// Prints the reply to a command. Returns the exit status.
-    fn print(&self, reply: &[u8]) -> Result<u8, CommandError<'a>> {
-        if let Some(outcome) = self.device.quiet_outcome(reply) {
-            print_refusal(self.rt, self.device, outcome);
-            return Ok(outcome.exit_status());
+    /// Prints the reply to a command. If an earlier run has sent it, with this number, says so. Returns the exit status.
+    pub(crate) fn print(&self, reply: &[u8], resumed: Option<u32>) -> Result<u8, CommandError<'a>> {
+        let outcome = match self.device.quiet_outcome(reply) {
+            Some(outcome) => outcome,
+            None => self.show(reply, resumed)?,
+        };
+        if let Some(number) = resumed {
+            print_reason(self.rt, &Reason::Resumed(self.options.file, number));
         }
+        print_refusal(self.rt, self.device, outcome);
+        Ok(outcome.exit_status())
+    }
+
+    /// Prints the reply to a command on standard output.
+    fn show(&self, reply: &[u8], resumed: Option<u32>) -> Result<ReplyOutcome, CommandError<'a>> {
+        let (alloc, style) = (self.rt.alloc(), self.device.style);
         let mut output = ErrorKeeping::new(self.rt.stdout());
-        match show_reply(self.rt.alloc(), &mut output, self.device.style, reply) {
-            Ok(outcome) => {
-                print_refusal(self.rt, self.device, outcome);
-                Ok(outcome.exit_status())
-            }
+        let shown = match resumed {
+            Some(number) => show_resumed(alloc, &mut output, style, number, reply),
+            None => show_reply(alloc, &mut output, style, reply),
+        };
+        match shown {
+            Ok(outcome) => Ok(outcome),
             Err(failure) => {
                 let reason = output.reason(OUTPUT);
                 Err(error_of_failure(failure, self.device.address, reason).with_note(
@@ -206,7 +373,7 @@ impl<'a> OnceRun<'a, '_> {
     }
 
     /// What is known of the command once it was sent in this run.
-    fn unanswered(&self) -> Note {
+    pub(crate) fn unanswered(&self) -> Note {
         match self.options.choice {
             PendingChoice::Abandon => Note::MaybeExecutedNew,
             PendingChoice::Same | PendingChoice::Send => Note::MaybeExecuted,
@@ -214,7 +381,7 @@ impl<'a> OnceRun<'a, '_> {
     }
 
     /// What is known of the command once the device has put it into its queue.
-    fn queued(&self) -> Note {
+    pub(crate) fn queued(&self) -> Note {
         match self.options.choice {
             PendingChoice::Abandon => Note::QueuedNew,
             PendingChoice::Same | PendingChoice::Send => Note::Queued,
@@ -222,7 +389,7 @@ impl<'a> OnceRun<'a, '_> {
     }
 
     /// Reads the life of the device's ledger. An error has a note.
-    fn life(&self, note: Note) -> Result<u64, CommandError<'a>> {
+    pub(crate) fn life(&self, note: Note) -> Result<u64, CommandError<'a>> {
         let mut reply = ReplyBuf::new();
         with_note(self.exchange(&LIFE_REQUEST, false, &mut reply), note)?;
         let error = match read_life(reply.as_slice()) {
@@ -261,7 +428,7 @@ impl<'a> OnceRun<'a, '_> {
     }
 
     /// Connects and sends a request with a new client.
-    fn exchange_once(
+    pub(crate) fn exchange_once(
         &self,
         request: &[u8],
         connected: bool,
@@ -299,77 +466,8 @@ impl<'a> OnceRun<'a, '_> {
         }
     }
 
-    /// Locks the command file. Waits for as long as the timeout if another process uses it.
-    fn lock(&self) -> Result<LockedFile, CommandError<'a>> {
-        self.look()?;
-        let start = self.now()?;
-        for _ in 0..u64::MAX {
-            match LockedFile::try_lock(self.rt.alloc(), self.name) {
-                Ok(Some(file)) => return Ok(file),
-                Ok(None) => {}
-                Err(error) => return Err(self.error_of_lock(error)),
-            }
-            let elapsed = start
-                .elapsed(self.rt)
-                .map_err(|error| CommandError::of_system(CLOCK, error))?;
-            if self.device.timeout.deadline_over(self.rt).is_some() {
-                break;
-            }
-            if let Some(limit) = self.device.timeout.limit() {
-                if elapsed >= limit {
-                    break;
-                }
-            }
-            thread::sleep(self.rt, Duration::from_millis(LOCK_INTERVAL));
-        }
-        Err(CommandError::of_reason(Reason::Named(self.options.file, NamedReason::InUse)).with_note(
-            Note::NotSent,
-        ))
-    }
-
-    /// Refuses a file that is no command file before another one is made beside it.
-    fn look(&self) -> Result<(), CommandError<'a>> {
-        match front_of(self.rt.alloc(), self.name) {
-            Ok(None) => Ok(()),
-            Ok(Some(text)) => {
-                self.commander_in(text.as_slice())?;
-                Ok(())
-            }
-            Err(error) => Err(self.error_of_file(error)),
-        }
-    }
-
-    /// The commander in the command file. `None` if there is no file.
-    fn read(&self, file: &LockedFile) -> Result<Option<Commander>, CommandError<'a>> {
-        match file.read(self.rt.alloc()) {
-            Ok(text) => Ok(Some(self.commander_in(text.as_slice())?)),
-            Err(error) if error.kind() == ErrorKind::NotFound => Ok(None),
-            Err(error) => Err(self.error_of_file(error)),
-        }
-    }
-
-    /// The commander in the text of the command file.
-    fn commander_in(&self, text: &[u8]) -> Result<Commander, CommandError<'a>> {
-        match read_commander(text) {
-            Ok(commander) => Ok(commander),
-            Err(fault) => Err(CommandError::new(
-                Fault::CommandFile(fault.line()),
-                Reason::CommandFile(self.options.file, fault.line(), fault),
-            )),
-        }
-    }
-
-    /// Writes a commander to the command file.
-    fn write(&self, file: &LockedFile, commander: &Commander) -> Result<(), CommandError<'a>> {
-        let alloc = self.rt.alloc();
-        let mut text = Vec::new(alloc);
-        write_commander(&mut text, commander)
-            .and_then(|()| file.replace(alloc, text.as_slice()))
-            .map_err(|error| self.error_of_file(error))
-    }
-
     /// Checks that a connection of the size that is opened holds the pending command.
-    fn check_size(&self, commander: &Commander) -> Result<(), CommandError<'a>> {
+    pub(crate) fn check_size(&self, commander: &Commander) -> Result<(), CommandError<'a>> {
         let message = commander.pending().unwrap_or(&[]);
         let most = usize::from(self.device.connection.size()).saturating_sub(COUNT_SIZE);
         if self.device.connected && message.len() > most {
@@ -378,126 +476,8 @@ impl<'a> OnceRun<'a, '_> {
         Ok(())
     }
 
-    /// Checks that there is a command file.
-    fn require_file(&self) -> Result<(), CommandError<'a>> {
-        if exists(self.name) {
-            Ok(())
-        } else {
-            Err(self.no_file())
-        }
-    }
-
-    /// A random number as the originator of a new command file.
-    fn new_originator(&self) -> Result<u64, CommandError<'a>> {
-        let mut bytes = [0; 8];
-        self.rt
-            .fill_bytes(&mut bytes)
-            .map_err(|error| CommandError::of_system("random numbers", error))?;
-        Ok(u64::from_le_bytes(bytes))
-    }
-
-    fn now(&self) -> Result<Instant, CommandError<'a>> {
+    pub(crate) fn now(&self) -> Result<Instant, CommandError<'a>> {
         Instant::now(self.rt).map_err(|error| CommandError::of_system(CLOCK, error))
-    }
-
-    /// The request of the pending command, for a message. Empty if none is pending.
-    fn digits_of_pending(&self, commander: &Commander) -> Result<OwnedDigits, CommandError<'a>> {
-        let request = commander.pending_request().unwrap_or(&[]);
-        Ok(OwnedDigits::new(self.rt.alloc(), request)?)
-    }
-
-    fn error_of_file(&self, error: io::Error) -> CommandError<'a> {
-        CommandError::of_system(self.options.file, error)
-    }
-
-    /// The error of the file that is locked.
-    fn error_of_lock(&self, error: io::Error) -> CommandError<'a> {
-        let file = match error.kind() {
-            ErrorKind::OutOfMemory => return CommandError::of_memory(),
-            ErrorKind::NotFound | ErrorKind::NotADirectory => StateFile::Folder,
-            _ => StateFile::Lock,
-        };
-        let why = StorageReason::System(SystemError(error));
-        CommandError::of_reason(Reason::Storage(self.options.file, file, why))
-    }
-
-    fn no_file(&self) -> CommandError<'a> {
-        self.error_of_file(io::Error::from(ErrorKind::NotFound))
-    }
-
-    /// The error of a command without a reply. `is_queued` is whether the device has put it into its queue before.
-    fn error_of_exchange(&self, error: CommandError<'a>, is_queued: bool) -> CommandError<'a> {
-        if !is_queued {
-            return error.with_note(self.unanswered());
-        }
-        match self.device.timeout.deadline_over(self.rt) {
-            Some(deadline) => self.not_executed_yet(deadline),
-            None => error.with_note(self.queued()),
-        }
-    }
-
-    /// The error of a command that is still in the queue of the device at the deadline.
-    fn not_executed_yet(&self, deadline: &'a str) -> CommandError<'a> {
-        let reason = Reason::NotExecutedYet(self.device.address, deadline);
-        CommandError::of_reason(reason).with_note(self.queued())
-    }
-
-    /// The error of a device whose reply has another form.
-    fn malformed(&self) -> CommandError<'a> {
-        error_of_failure(
-            RequestFailure::Client(ClientFault::Malformed),
-            self.device.address,
-            None,
-        )
-    }
-
-    /// The error of a command that the ledger refused with a general status.
-    fn error_of_ledger(&self, status: u8) -> CommandError<'a> {
-        let refusal = LedgerRefusal::of(status);
-        let note = if refusal.may_be_executed() {
-            Note::StillPending
-        } else {
-            Note::NotExecuted
-        };
-        let reason = Reason::Ledger(self.device.address, refusal);
-        CommandError::new(fault_of_status(status, 0), reason).with_note(note)
-    }
-
-    /// The error of a command that is not sent because of the command file.
-    fn error_of_refusal(
-        &self,
-        commander: &Commander,
-        request: &[u8],
-        refusal: OnceRefusal,
-    ) -> CommandError<'a> {
-        match self.reason_of_refusal(commander, request, refusal) {
-            Ok(reason) => CommandError::new(Fault::Once(refusal), reason),
-            Err(error) => error,
-        }
-    }
-
-    fn reason_of_refusal(
-        &self,
-        commander: &Commander,
-        request: &[u8],
-        refusal: OnceRefusal,
-    ) -> Result<Reason<'a>, CommandError<'a>> {
-        let file = self.options.file;
-        match refusal {
-            OnceRefusal::Differs => {
-                let pending = self.digits_of_pending(commander)?;
-                let given = OwnedDigits::new(self.rt.alloc(), request)?;
-                Ok(Reason::OtherPending(file, pending, given))
-            }
-            OnceRefusal::OtherLife => {
-                Ok(Reason::OtherLife(file, self.digits_of_pending(commander)?))
-            }
-            OnceRefusal::NonePending => Ok(Reason::Named(file, NamedReason::NonePending)),
-            OnceRefusal::Command(CommandRefused::TooLong | CommandRefused::NotARequest) => {
-                Ok(Reason::Request)
-            }
-            OnceRefusal::Command(_) => Ok(Reason::State),
-        }
     }
 }
 
@@ -521,6 +501,6 @@ fn too_long<'a>() -> CommandError<'a> {
 }
 
 /// The fault of a request that the device refused and that is not settled by that.
-fn fault_of_status(status: u8, extended: u16) -> Fault {
+pub(crate) fn fault_of_status(status: u8, extended: u16) -> Fault {
     Fault::Request(RequestFailure::Client(ClientFault::Refused(status, extended)))
 }

@@ -1,11 +1,14 @@
 //! The options of `--once`.
 
 use clap::ArgMatches;
-use enip_commands::PendingChoice;
+use enip_commands::{PendingChoice, is_command_id};
 use enip_common::{ArgumentError, NumberArgument};
 
 /// How many tries a request has, unless `--tries` says otherwise (ours).
 const DEFAULT_TRIES: u64 = 3;
+
+/// How many commands with an id the file keeps, unless `--ids` says otherwise (ours).
+const DEFAULT_IDS: u64 = 64;
 
 /// The options of a command that is executed once.
 #[derive(Clone, Copy)]
@@ -16,9 +19,24 @@ pub(crate) struct OnceOptions<'a> {
     pub(crate) tries: u64,
     /// What becomes of a pending command.
     pub(crate) choice: PendingChoice,
+    /// The id of the command.
+    pub(crate) id: Option<&'a str>,
+    /// How many commands with an id the file keeps.
+    pub(crate) most_ids: u64,
 }
 
 impl<'a> OnceOptions<'a> {
+    /// The options without which a command file is only read.
+    pub(crate) fn of_file(file: &'a str) -> OnceOptions<'a> {
+        OnceOptions {
+            file,
+            tries: 1,
+            choice: PendingChoice::Same,
+            id: None,
+            most_ids: DEFAULT_IDS,
+        }
+    }
+
     /// The options in the arguments. `None` without `--once`.
     pub(crate) fn from_matches(
         matches: &ArgMatches<'a>,
@@ -39,6 +57,16 @@ impl<'a> OnceOptions<'a> {
                 .value(matches)?
                 .unwrap_or(DEFAULT_TRIES),
             choice,
+            id: id_of(matches)?,
+            most_ids: NumberArgument::IDS.value(matches)?.unwrap_or(DEFAULT_IDS),
         }))
+    }
+}
+
+/// The value of `--id`, if it is given.
+fn id_of<'a>(matches: &ArgMatches<'a>) -> Result<Option<&'a str>, ArgumentError<'a>> {
+    match matches.get_str("id") {
+        Some(id) if !is_command_id(id.as_bytes()) => Err(ArgumentError::Id(id)),
+        id => Ok(id),
     }
 }

@@ -1,13 +1,14 @@
 -- What the owner of the device is asked in a turn and in a round is what the calls of the adapter ask.
 use Rattle.std.proofs.Common.{◌≡◌, ℕ, List, [], ◌∷◌, ◌++◌}
-use Rattle.std.proofs.Common.{Option, append_assoc, append-nil, refl, sym, ap, ◌∙◌}
+use Rattle.std.proofs.Common.{Option, Some, None, append_assoc, append-nil, refl, sym, ap, ◌∙◌}
+use Rattle.cip_ledger.specs.Ledger.{LedgerState}
 use Rattle.cip_objects.specs.OwnRequests.{Asked}
 use Rattle.cip_owner.specs.Replies.{Reply}
 use Rattle.enip_adapter.proofs.AskedLemmas.{asked-alike, calls-ask}
 use Rattle.enip_adapter.specs.Asks.{asks_of_call, asks_of_calls, calls_asking, owner_after, prepared_feed, with_reply}
 use Rattle.enip_adapter.specs.Calls.{AdapterState, Call, after_call}
 use Rattle.enip_adapter.specs.Calls.Call.{Feeds}
-use Rattle.enip_adapter.specs.OwnerLaws.{asks_call_by_call}
+use Rattle.enip_adapter.specs.OwnerLaws.{EndsNone, asks_call_by_call}
 use Rattle.enip_adapter.specs.OwnWrites.{Prepares}
 use Rattle.enip_adapter.specs.Runs.{after_calls}
 
@@ -25,6 +26,11 @@ asks_then a calls more =
     calls-ask a (calls ++ more) ∙ asks_two a calls more
     ∙ ap (λ asked. asked ++ asks_call_by_call (after_calls a calls) more) (sym (calls-ask a calls))
     ∙ ap (λ asked. asks_of_calls a calls ++ asked) (sym (calls-ask (after_calls a calls) more))
+
+-- a reply that is prepared ends no command
+prepares_ends_none : (ledger : Option LedgerState) (reply : Option Reply) → EndsNone ledger (Prepares reply)
+prepares_ends_none None reply = tt
+prepares_ends_none (Some ledger) reply = tt
 
 module _ {O : Type 0} (answer : O → Asked → Option Reply) (next : O → Asked → O) where
   owner_two : (first : O) (asked more : List Asked)
@@ -52,4 +58,5 @@ module _ {O : Type 0} (answer : O → Asked → Option Reply) (next : O → Aske
   feed_asks a owner now peer piece (one ∷ more) is =
       calls-ask a (prepared_feed now peer piece (answer owner one))
       ∙ append-nil (asks_of_call (with_reply a (answer owner one)) (Feeds now peer piece))
-      ∙ asked-alike a (Prepares (answer owner one)) now peer piece tt ∙ is
+      ∙ asked-alike a (Prepares (answer owner one)) now peer piece tt
+      (prepares_ends_none a.state.shared.objects.ledger (answer owner one)) ∙ is

@@ -1,5 +1,5 @@
 -- What holds of every ledger still holds after every step of a device whose requests consist of bytes.
-use Rattle.std.proofs.Common.{◌≡◌, ℕ, zero, suc, ◌+◌, ◌*◌, ◌<◌, ◌≤◌, ◌^◌, ◌==◌, nat_lt, not, Bool, true, false, cond}
+use Rattle.std.proofs.Common.{◌≡◌, ℕ, zero, suc, ◌+◌, ◌*◌, ◌<◌, ◌≤◌, ◌^◌, ◌==◌, ◌&&◌, nat_lt, not, Bool, true, false, cond}
 use Rattle.std.proofs.Common.{if◌then◌else◌, Option, Some, None, List, [], ◌∷◌, length, take, drop, refl, ap, sym, ◌∙◌}
 use Rattle.std.proofs.Common.{subst, arith, Result, Ok, Err}
 use Rattle.std.specs.Prelude.{⊤, option_map, IfSome}
@@ -21,6 +21,7 @@ use Rattle.cip_ledger.specs.Doubt.{is_doubtful, is_in_doubt_at, is_in_doubt, is_
 use Rattle.cip_ledger.specs.Doubt.{settled}
 use Rattle.cip_ledger.specs.Kept.{IsLedger}
 use Rattle.cip_ledger.specs.Ledger.{LedgerState, SlotState, slot_of, with_slot, without_slot, AreSlots, IsSlot}
+use Rattle.cip_ledger.specs.Ledger.{is_pending}
 use Rattle.cip_ledger.specs.Requests.{LedgerRequest, Command, command_of, ledger_request, request_by_parts}
 use Rattle.cip_ledger.specs.Requests.{request_by_path, is_barred}
 use Rattle.cip_ledger.specs.Runs.{Request, command_given}
@@ -139,8 +140,9 @@ room_by_slot ledger max_size command None is = by_free (nat_lt (length ledger.ta
 room_by_slot ledger max_size command (Some slot) is =
     room_if ledger (nat_lt command.number slot.number) _ _ tt
     (room_if ledger (command.number == slot.number) _ _ tt
+    (room_if ledger (is_pending slot) _ _ tt
     (room_if ledger (nat_lt max_size (HEAD_SIZE + 1 + KEPT_LIMIT)) _ _ tt
-    (λ none. absurd (some_not_none slot (slot_of command.originator ledger.taken) is none))))
+    (λ none. absurd (some_not_none slot (slot_of command.originator ledger.taken) is none)))))
 
 room_forget : (ledger : LedgerState) (bytes : List ℕ) → HasRoom ledger (forget ledger bytes)
 room_forget ledger bytes =
@@ -152,7 +154,8 @@ room_forget ledger bytes =
   where
     by_slot : (originator number : ℕ) (found : Option SlotState) → HasRoom ledger (forget_in originator number found)
     by_slot originator number None = tt
-    by_slot originator number (Some slot) = room_if ledger (slot.number == number) _ _ tt tt
+    by_slot originator number (Some slot) =
+        room_if ledger ((slot.number == number) && not (is_pending slot)) _ _ tt tt
 
 room_action : (ledger : LedgerState) (max_size : ℕ) (asked : LedgerRequest)
     → HasRoom ledger (action_of ledger max_size asked)
@@ -166,7 +169,9 @@ room_action ledger max_size asked =
     (room_by_slot ledger max_size command (slot_of command.originator ledger.taken) refl)))
     (room_if ledger (asked.service == services.GET_LAST) _ _ tt
     (room_if ledger (asked.service == services.FORGET) _ _ (room_forget ledger asked.data)
-    (room_if ledger (asked.service == 0x0e) _ _ tt (room_if ledger (asked.service == 0x03) _ _ tt tt)))))
+    (room_if ledger (asked.service == 0x0e) _ _ tt
+    (room_if ledger (asked.service == 0x03) _ _ tt
+    (room_if ledger (asked.service == services.GET_SLOTS) _ _ tt tt))))))
     tt)
 
 -- The router decides what becomes of a command, and not whether there is room for it.

@@ -10,6 +10,7 @@ pub mod QueueBack
 pub mod LedgerBack
 pub mod Restarted
 pub mod LifeLemmas
+pub mod PendingStays
 pub mod StepLemmas
 pub mod NewLives
 pub mod ValuesBack

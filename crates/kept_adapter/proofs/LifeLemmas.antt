@@ -130,7 +130,7 @@ own_sizes : (own : Sizes) (device : Device) (start : AdapterStart) → IsRunning
     → GoesOn (sizes_of device) start
 own_sizes own device start runs on = subst (λ k. GoesOn k start) (sym runs.sizes) on
 
-going_on : (own : Sizes) (device : Device) (start : AdapterStart) → IsRunning own device → GoesOn own start
+pub going_on : (own : Sizes) (device : Device) (start : AdapterStart) → IsRunning own device → GoesOn own start
     → (restarted start device).ledger ≡ device.ledger
 going_on own device start runs on = goes_on start device runs.is (own_sizes own device start runs on)
 
@@ -161,7 +161,7 @@ pub record AreGoingOn (own : Sizes) (device : Device) (steps : List LifeStep) : 
   pub fit : AllByRecursion IsStep steps
   pub on : AllByRecursion (IsGoingOn own) steps
 
-later : (own : Sizes) (device : Device) (step : LifeStep) (steps : List LifeStep)
+pub later : (own : Sizes) (device : Device) (step : LifeStep) (steps : List LifeStep)
     → AreGoingOn own device (step ∷ steps) → AreGoingOn own (after_life_step device step) steps
 later own device step steps are = record {
   runs = running_on own device step are.fit.0 are.on.0 are.runs;

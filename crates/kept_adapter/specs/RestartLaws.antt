@@ -1,11 +1,12 @@
 -- What holds of a device over restarts.
-use Rattle.std.specs.Prelude.{option_map, None, ◌≡◌, ◌≢◌, ◌⊎◌, ℕ, List, [], ◌∷◌, map, Bool}
+use Rattle.std.specs.Prelude.{option_map, Some, None, ◌≡◌, ◌≢◌, ◌⊎◌, ℕ, List, [], ◌∷◌, map, Bool}
 use Rattle.std.specs.List.{AllByRecursion}
 use Rattle.cip_ledger.specs.Device.{Device}
 use Rattle.cip_ledger.specs.Laws.{HasNoDoubles, Rises, IsNotFreed, Succeeds}
 use Rattle.cip_ledger.specs.declared.service.TheConstants.{DO_ONCE}
 use Rattle.cip_ledger.specs.Device.{owned_standing}
-use Rattle.cip_ledger.specs.Runs.{Request, answer_to}
+use Rattle.cip_ledger.specs.Ledger.{SlotState}
+use Rattle.cip_ledger.specs.Runs.{Request, slot_in, answer_to}
 use Rattle.cip_ledger.specs.Services.{PENDING, reply_to, success}
 use Rattle.cip_objects.specs.Configuration.{contents_of_config}
 use Rattle.cip_objects.specs.Contents.{value_at}
@@ -30,6 +31,7 @@ use Rattle.kept_adapter.specs.Restarts.{RestartsGoOn}
 use Rattle.kept_adapter.specs.Restarts.{HasValues, IsServing, KeepsTables, HasObjects, IsRestartable, IsConfiguration, IsStep}
 use Rattle.kept_adapter.specs.Restarts.{sizes_of, configured_sizes, GoesOn, IsGoingOn, queue_steps_over_restarts}
 use Rattle.kept_adapter.specs.Restarts.{IsLedgerAfter, IsQueueAfter, SettlesNothingOf, IsOnceInEachLife, BeginNewLives}
+use Rattle.kept_adapter.specs.Restarts.{IsUnfinished}
 use Rattle.kept_adapter.specs.Saved.{saved_adapter, saved_objects}
 use Rattle.kept_adapter.specs.Started.{started}
 
@@ -178,6 +180,15 @@ same_bytes_over_restarts_law =
     ≡ answer_to objects_after objects_answer owned_standing device first)
     ⊎ (answer_to objects_after objects_answer owned_standing device first
     ≡ reply_to DO_ONCE (success (PENDING ∷ [])))
+
+-- A command of the ledger that is pending keeps its slot until the owner finishes it, whatever restarts come between. Until
+-- then no later one of its originator is taken, and no Forget frees the slot.
+abbrev pub keeps_slot_over_restarts_law : Type 0
+keeps_slot_over_restarts_law =
+    (device : Device) (steps : List LifeStep) (originator ticket : ℕ) (slot : SlotState) → GoOn device steps →
+    slot_in originator device.ledger ≡ Some slot → slot.reply ≡ None → slot.ticket ≡ Some ticket →
+    AllByRecursion (IsUnfinished ticket) steps →
+    slot_in originator (after_life_steps device steps).ledger ≡ Some slot
 
 -- A device without a queue never says that a command is pending, so the bytes are the same.
 abbrev pub final_bytes_over_restarts_law : Type 0

@@ -26,7 +26,7 @@ use Rattle.enip_adapter.specs.Calls.Call.{Begins_peer, Feeds, Ends_peer, Ticks, 
 use Rattle.enip_adapter.specs.DeviceRuns.{DeviceStep, Requested, WrittenBy, device_after_step, journal_by_step}
 use Rattle.enip_adapter.specs.DeviceRuns.{steps_of_calls}
 use Rattle.enip_adapter.specs.OwnWrites.{OwnWrite, Settles}
-use Rattle.enip_adapter.specs.QueueLaws.{queue_steps_by_step}
+use Rattle.enip_adapter.specs.QueueLaws.{queue_steps_by_step, IsNoFinish}
 use Rattle.enip_adapter.specs.Runs.{after_calls}
 use Rattle.enip_keep.specs.declared.lives.Event.{Event}
 use Rattle.enip_keep.specs.declared.lives.Event.TheVariants.{Round, Restart}
@@ -285,6 +285,11 @@ IsForOthers originator (WrittenBy write) = SettlesOthers originator write
 abbrev pub SettlesNothingOf : ℕ → LifeStep → Type 0
 SettlesNothingOf originator (Does step) = IsForOthers originator step
 SettlesNothingOf originator (Restarts start) = ⊤
+
+-- The owner does not finish the command with this ticket.
+abbrev pub IsUnfinished : ℕ → LifeStep → Type 0
+IsUnfinished ticket (Does step) = IsNoFinish ticket step
+IsUnfinished ticket (Restarts start) = ⊤
 
 -- ---- lives
 

@@ -12,7 +12,7 @@ ghost use Rattle.kept_adapter.specs.RestartLaws.{device_over_restarts_law, serve
 ghost use Rattle.kept_adapter.specs.RestartLaws.{once_over_restarts_law, rising_over_restarts_law};
 ghost use Rattle.kept_adapter.specs.RestartLaws.{steps_fit_law, adapter_once_law};
 ghost use Rattle.kept_adapter.specs.RestartLaws.{same_bytes_over_restarts_law, final_bytes_over_restarts_law};
-ghost use Rattle.kept_adapter.specs.RestartLaws.{each_life_once_law};
+ghost use Rattle.kept_adapter.specs.RestartLaws.{each_life_once_law, keeps_slot_over_restarts_law};
 
 use enip_server::Wire;
 
@@ -80,6 +80,12 @@ pub fn once_over_restarts()
 pub fn same_bytes_over_restarts()
     ensures any { same_bytes_over_restarts_law }
     ensures without_queue { final_bytes_over_restarts_law }
+{}
+
+/// Over restarts that go on with the ledger, a command that is pending keeps its slot until the owner finishes it: until
+/// then no later command of its originator is taken, and no Forget frees the slot.
+pub fn one_pending_over_restarts()
+    ensures { keeps_slot_over_restarts_law }
 {}
 
 /// Over restarts with any configurations, no number of an originator is executed twice in one life of the device, unless

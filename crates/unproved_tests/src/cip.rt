@@ -8,6 +8,7 @@ mod class3_long;
 mod class3_originator;
 mod commander;
 mod commander_crashes;
+mod commander_slots;
 mod counting;
 mod device_state;
 mod device_writes;

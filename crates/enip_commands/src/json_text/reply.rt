@@ -2,7 +2,7 @@
 
 ghost use Rattle.std.specs.Prelude.{◌≡◌, ◌++◌, IfOk, codes, decimal, map, string_bytes};
 ghost use Rattle.cip_values.specs.Values.{value_in};
-ghost use Rattle.enip_commands.specs.Json.{data_told, AreValuesJson, IsValuesLine, refusal_json};
+ghost use Rattle.enip_commands.specs.Json.{data_told, AreValuesJson, IsValuesLine, refusal_json, resumed_text};
 ghost use Rattle.serde_json.specs.View.{view};
 ghost use Rattle.serde_json.specs.Written.{compact_text};
 
@@ -86,4 +86,21 @@ pub fn timed_line(alloc: Global, moment: u64, line: &str) -> Result<String, Allo
         ≡ codes "{\"microseconds\":" ++ decimal moment ++ codes ",\"reply\":" ++ line.now ++ codes "}") }
 {
     format!(in alloc; "{{\"microseconds\":{moment},\"reply\":{line}}}")
+}
+
+/// The line of a reply to a command with this number, which an earlier run has sent. `line` is the object of the reply,
+/// and what is added follows its first member.
+///
+/// # Errors
+///
+/// `AllocError` if memory is refused.
+pub fn resumed_line(alloc: Global, number: u32, line: &str) -> Result<String, AllocError>
+    ensures { IfOk result (λ resumed. string_bytes resumed ≡ resumed_text number line.now) }
+{
+    match line.split_once(',') {
+        Some((first, rest)) => {
+            format!(in alloc; "{first},\"number\":{number},\"resumed\":true,{rest}")
+        }
+        None => String::from_str(alloc, line),
+    }
 }

@@ -7,6 +7,7 @@ mod doubt;
 mod embedded;
 mod forget;
 mod get_last;
+mod listing;
 mod node;
 mod paths;
 mod queued;

@@ -4,7 +4,7 @@ use crate::texts::check_texts;
 use cip_application::{ObjectFault, SetFault};
 use cip_bytes::Full;
 use cip_class3::Refused;
-use cip_commander::CommandRefused;
+use cip_commander::{CommandRefused, SlotsFault};
 use cip_message::{LengthFault, PathFault, ReplyFault, RequestFault};
 use cip_objects::ConfigFault;
 use cip_route::{HopFault, RouteFailure, RouteFault};
@@ -165,7 +165,15 @@ fn of_cip_commander(rt: HostRuntime) -> Result<(), Fail> {
             "no command number is left for this originator",
         ),
     ];
-    check_texts(&rt, rt.alloc(), &rows)
+    let slots = [
+        (
+            SlotsFault::Refused(0x0c, 0),
+            "the device refused with general status 0x0c",
+        ),
+        (SlotsFault::Malformed, "not a reply of a command ledger"),
+    ];
+    check_texts(&rt, rt.alloc(), &rows)?;
+    check_texts(&rt, rt.alloc(), &slots)
 }
 
 #[test]

@@ -311,11 +311,16 @@ fn refusals_of_a_ledger(rt: HostRuntime) -> Result<(), Fail> {
         (0x10, LedgerRefusal::OtherLife, true),
         (0x11, LedgerRefusal::ReplyTooLarge, true),
         (0x13, LedgerRefusal::Other(0x13), true),
+        (0xcf, LedgerRefusal::Other(0xcf), true),
+        (0xd0, LedgerRefusal::LastPending, false),
+        (0xd1, LedgerRefusal::Other(0xd1), true),
     ];
     for (status, refusal, may_be_executed) in rows {
         assert_eq!(rt; LedgerRefusal::of(status), refusal);
         assert_eq!(rt; refusal.may_be_executed(), may_be_executed);
     }
+    assert!(rt; !LedgerRefusal::SlotsTaken.may_be_executed());
+    assert!(rt; !LedgerRefusal::QueueFull.may_be_executed());
     let other = format!(in rt.alloc(); "{}", LedgerRefusal::of(0x13))?;
     assert_eq!(rt;
         other.as_str(),

@@ -95,6 +95,14 @@ fn of_commands_that_are_executed_once(rt: HostRuntime) -> Result<(), Fail> {
             LedgerRefusal::NoSlot,
             "all slots of the command ledger are taken, or its queue of commands is full",
         ),
+        (
+            LedgerRefusal::SlotsTaken,
+            "all slots of the command ledger are taken (see enip ledger and --forget, or configure more originators)",
+        ),
+        (
+            LedgerRefusal::QueueFull,
+            "the device's queue of commands is full (try again later, or configure a larger queue)",
+        ),
         (LedgerRefusal::NoLedger, "the device has no command ledger"),
         (
             LedgerRefusal::NumberPassed,
@@ -104,6 +112,10 @@ fn of_commands_that_are_executed_once(rt: HostRuntime) -> Result<(), Fail> {
         (
             LedgerRefusal::ReplyTooLarge,
             "the ledger's reply does not fit the connection",
+        ),
+        (
+            LedgerRefusal::LastPending,
+            "the last command of this originator is still in the queue of the device, which takes no other until it has ended",
         ),
         (
             LedgerRefusal::Other(0x0e),

@@ -1,7 +1,7 @@
 use Rattle.std.proofs.Common.{◌≡◌, ◌||◌, get_or, ap, sym, ◌∙◌}
 use Rattle.std.specs.Prelude.{slice_set}
 use Rattle.cip_ledger.specs.Pending.{is_pending_at, completed_slot}
-use Rattle.cip_ledger.proofs.CompletedSlots.{any_front, front-at, front-step, front-end, any-step, any-end}
+use Rattle.cip_ledger.proofs.CompletedSlots.{front-at, front-step, front-end, any-step, any-end}
 use Rattle.cip_ledger.proofs.slots.complete_in.Goals as goal
 use Rattle.cip_ledger.proofs.slots.complete_in.Goals.{then-any, else-any}
 

@@ -26,6 +26,15 @@ const PENDING: &[u8] = b"\xcb\x00\x00\x00\x01";
 /// The reply to Do_Once while the queue is full.
 const FULL: &[u8] = b"\xcb\x00\x02\x00";
 
+/// The reply to Do_Once with a greater number while the originator's last command is pending.
+const WAITS: &[u8] = b"\xcb\x00\xd0\x00";
+
+/// Forget of originator 1 and command 4, and its refusal.
+const FORGET_FOUR: &[u8] =
+    b"\x4d\x02\x20\x65\x24\x01\x01\x00\x00\x00\x00\x00\x00\x00\x04\x00\x00\x00";
+
+const NOT_FORGOTTEN: &[u8] = b"\xcd\x00\x0c\x00";
+
 /// Get_Last of originator 1.
 const LAST: &[u8] = b"\x4c\x02\x20\x65\x24\x01\x01\x00\x00\x00\x00\x00\x00\x00";
 
@@ -146,7 +155,7 @@ fn full(rt: HostRuntime) -> Result<(), Fail> {
     check(&rt, &mut device, 504, &once(LIFE, 2, 7, QUEUED), FULL);
     let last_of_2 = b"\x4c\x02\x20\x65\x24\x01\x02\x00\x00\x00\x00\x00\x00\x00";
     check(&rt, &mut device, 504, last_of_2, b"\xcc\x00\x16\x00");
-    check(&rt, &mut device, 504, &once(LIFE, 1, 2, QUEUED), FULL);
+    check(&rt, &mut device, 504, &once(LIFE, 1, 2, QUEUED), WAITS);
     check(&rt, &mut device, 504, &once(LIFE, 1, 1, QUEUED), PENDING);
     // what is not queued is executed, and what is refused inside is recorded, with or without room
     check(&rt, &mut device, 504, &once(LIFE, 2, 7, ADD_FIVE), FIVE);
@@ -174,7 +183,8 @@ fn full(rt: HostRuntime) -> Result<(), Fail> {
     Ok(())
 }
 
-/// The checks of Do_Once that come before the queue: two that both apply.
+/// The checks of Do_Once that come before the queue: two that both apply. A command that is pending comes before the
+/// reply limit, and that before the queue.
 #[test]
 fn before_the_queue(rt: HostRuntime) -> Result<(), Fail> {
     let mut device = device(rt.alloc(), 1)?;
@@ -185,19 +195,34 @@ fn before_the_queue(rt: HostRuntime) -> Result<(), Fail> {
     check(&rt, &mut device, 504, &once(8, 1, 6, QUEUED), OTHER_LIFE);
     check(&rt, &mut device, 504, &once(LIFE, 1, 4, QUEUED), TOO_OLD);
     check(&rt, &mut device, 504, &once(LIFE, 1, 5, QUEUED), PENDING);
-    check(&rt, &mut device, 484, &once(LIFE, 1, 6, QUEUED), TOO_LARGE);
-    check(&rt, &mut device, 485, &once(LIFE, 1, 6, QUEUED), FULL);
+    check(&rt, &mut device, 484, &once(LIFE, 1, 6, QUEUED), WAITS);
+    check(&rt, &mut device, 485, &once(LIFE, 1, 6, QUEUED), WAITS);
+    check(&rt, &mut device, 484, &once(LIFE, 2, 2, QUEUED), TOO_LARGE);
+    check(&rt, &mut device, 485, &once(LIFE, 2, 2, QUEUED), FULL);
     check(&rt, &mut device, 484, &once(LIFE, 3, 1, QUEUED), NO_SLOT);
     check(&rt, &mut device, 504, &once(LIFE, 3, 1, QUEUED), NO_SLOT);
     Ok(())
 }
 
-/// A later command of the originator takes the slot. The earlier one is finished in the queue alone.
+/// A later command of the originator is taken once the earlier one has ended, whatever it embeds and whatever limit it
+/// has. Until then nothing changes.
 #[test]
 fn later_command(rt: HostRuntime) -> Result<(), Fail> {
     let mut device = device(rt.alloc(), 2)?;
     check(&rt, &mut device, 504, &once(LIFE, 1, 1, QUEUED), PENDING);
-    check(&rt, &mut device, 504, &once(LIFE, 1, 2, QUEUED), PENDING);
+    for request in [QUEUED, ABSENT, LARGEST, ADD_FIVE, &QUEUED[..11]] {
+        check(&rt, &mut device, 504, &once(LIFE, 1, 2, request), WAITS);
+    }
+    for limit in [8, 484, 485] {
+        check(&rt, &mut device, limit, &once(LIFE, 1, 2, QUEUED), WAITS);
+    }
+    check(&rt, &mut device, 504, &once(LIFE, 1, 0, QUEUED), TOO_OLD);
+    check(&rt, &mut device, 504, &once(8, 1, 2, QUEUED), OTHER_LIFE);
+    check(&rt, &mut device, 504, &once(LIFE, 1, 1, QUEUED), PENDING);
+    assert_eq!(rt; queue(&device)?.waiting_count(), 1);
+    // a reply that the service does not allow does not end it
+    assert!(rt; !device.finish(1, &reply(0, b"\x01\x02\x03\x04\x05")?));
+    check(&rt, &mut device, 504, &once(LIFE, 1, 2, QUEUED), WAITS);
     assert!(rt; device.finish(1, &reply(0, b"\x01")?));
     check(&rt, &mut device, 504, &once(LIFE, 1, 2, QUEUED), PENDING);
     check(&rt, &mut device, 504, &once(LIFE, 1, 1, QUEUED), TOO_OLD);
@@ -235,7 +260,7 @@ fn two_originators(rt: HostRuntime) -> Result<(), Fail> {
     Ok(())
 }
 
-/// A pending command is not in doubt, and is not settled. Forget frees its slot, and the command still waits.
+/// A pending command is not in doubt, is not settled, and is not forgotten before it has ended.
 #[test]
 fn neither_in_doubt_nor_lost(rt: HostRuntime) -> Result<(), Fail> {
     let mut device = device(rt.alloc(), 2)?;
@@ -243,11 +268,12 @@ fn neither_in_doubt_nor_lost(rt: HostRuntime) -> Result<(), Fail> {
     assert!(rt; ledger(&mut device)?.in_doubt(0).is_none());
     assert!(rt; !ledger(&mut device)?.settle(1, 4, b"\xb3\x00\x00\x00"));
     check(&rt, &mut device, 504, &once(LIFE, 1, 4, QUEUED), PENDING);
-    let forget = b"\x4d\x02\x20\x65\x24\x01\x01\x00\x00\x00\x00\x00\x00\x00\x04\x00\x00\x00";
-    check(&rt, &mut device, 504, forget, b"\xcd\x00\x00\x00");
-    check(&rt, &mut device, 504, LAST, b"\xcc\x00\x16\x00");
+    check(&rt, &mut device, 504, FORGET_FOUR, NOT_FORGOTTEN);
+    let last = b"\xcc\x00\x00\x00\x04\x00\x00\x00\x01";
+    check(&rt, &mut device, 504, LAST, last);
     assert_eq!(rt; queue(&device)?.waiting_count(), 1);
     assert!(rt; device.finish(1, &reply(0, b"\x01")?));
+    check(&rt, &mut device, 504, FORGET_FOUR, b"\xcd\x00\x00\x00");
     check(&rt, &mut device, 504, LAST, b"\xcc\x00\x16\x00");
     check_result(&rt, &mut device, 1, b"\xce\x00\x00\x00\x00\x00\x01");
     Ok(())

@@ -1,8 +1,8 @@
-use Rattle.std.proofs.Common.{rules, ◌≡◌, List, ap, sym, ◌∙◌, subst}
+use Rattle.std.proofs.Common.{rules, ◌≡◌, ap, sym, ◌∙◌, subst}
 use Rattle.std.specs.Prelude.{map}
 use Rattle.std.specs.Vec.{with_items}
 use Rattle.std.proofs.lemmas.List.{with_items_is}
-use Rattle.cip_ledger.specs.Ledger.{SlotState, AreApart, AreSlots}
+use Rattle.cip_ledger.specs.Ledger.{AreApart, AreSlots}
 use Rattle.cip_ledger.specs.Pending.{completed_slot}
 use Rattle.cip_ledger.proofs.CompletedSlots.{apart-completed, slots-completed}
 use Rattle.cip_ledger.proofs.slots.Slots.complete.Goals as goal
