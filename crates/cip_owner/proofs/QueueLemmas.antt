@@ -1,13 +1,13 @@
 -- What every step keeps of a queue, and what a step does by its tests.
-use Rattle.std.proofs.Common.{◌≡◌, ℕ, ◌+◌, ◌<◌, ◌≤◌, ◌^◌, ◌==◌, Bool, true, false, ◌&&◌, not, if◌then◌else◌, nat_lt, nat_le, Option, Some, None, unwrap_or, List, [], ◌∷◌, ◌++◌, length, drop, refl, ap, ◌∙◌, arith}
+use Rattle.std.proofs.Common.{◌≡◌, ℕ, ◌+◌, ◌<◌, ◌≤◌, ◌^◌, ◌==◌, Bool, true, false, ◌&&◌, not, if◌then◌else◌, max, nat_lt, nat_le, Option, Some, None, unwrap_or, is_some, List, [], ◌∷◌, ◌++◌, length, drop, refl, ap, subst, ◌∙◌, arith}
 use Rattle.std.proofs.lemmas.Bool.Decides.{nat_tests}
 use Rattle.std.proofs.lemmas.List.{length-append}
 use Rattle.std.specs.List.{AllByRecursion}
 use Rattle.cip_objects.specs.OwnRequests.{Asked}
-use Rattle.cip_owner.specs.Queue.{QueueState, QueuedCommand, QueueResult, IsQueued, IsResult, IsQueue, has_room, has_widths, takes, next_ticket, command_with, pushed, after_push, command_ticket, command_of, without_command, can_be_reply, result_with, with_result, with_finished, finished_by, finished}
-use Rattle.cip_owner.specs.QueueRuns.{QueueStep, Pushes, Finishes, after_step, after_steps}
+use Rattle.cip_owner.specs.Queue.{QueueState, QueuedCommand, QueueResult, IsQueued, IsResult, IsQueue, has_room, has_widths, takes, next_ticket, command_with, pushed, after_push, command_ticket, command_of, without_command, can_be_reply, result_with, with_result, with_finished, finished_by, finished, with_handed, marked}
+use Rattle.cip_owner.specs.QueueRuns.{QueueStep, Pushes, Finishes, Marks, after_step, after_steps}
 use Rattle.cip_owner.specs.Replies.{Reply}
-use Rattle.cip_owner.proofs.ListLemmas.{all-append, all-filter, all-rest, length-filter_at_most, first-all}
+use Rattle.cip_owner.proofs.ListLemmas.{all-append, all-filter, all-rest, length-filter_at_most, first-all, first-number}
 
 pub both_true : (a b : Bool) → a && b ≡ true → (a ≡ true) × (b ≡ true)
 both_true true b e = (refl, e)
@@ -131,6 +131,7 @@ pushed_stays : (q : QueueState) (asked : Asked) → IsQueue q → IsTaken q aske
 pushed_stays q asked h t = record {
   few = h.few;
   next = (let below = t.next in omega arith);
+  handed = h.handed;
   within = (let place = t.place in rw (length-append q.waiting (command_with q.next asked ∷ [])) (omega arith));
   kept = h.kept;
   commands = all-append IsQueued q.waiting (command_with q.next asked ∷ []) h.commands (
@@ -154,6 +155,7 @@ with_finished_stays q ticket reply c h e f =
     record {
       few = h.few;
       next = h.next;
+      handed = h.handed;
       within = (let less : length (without_command ticket q.waiting) ≤ length q.waiting = length-filter_at_most (λ d. not (d.ticket == ticket)) q.waiting in let old = h.within in omega arith);
       kept = length-with_result q.results (result_with c reply) h.kept;
       commands = all-filter IsQueued (λ d. not (d.ticket == ticket)) q.waiting h.commands;
@@ -183,9 +185,38 @@ by_finish P q ticket reply same more = go (command_of ticket q.waiting) refl
     go None e = same
     go (Some c) e = if_given c (can_be_reply c reply) e refl
 
+pub by_mark : (P : QueueState → Type 0) (q : QueueState) (ticket : ℕ) → P q
+    → ((c : QueuedCommand) → command_of ticket q.waiting ≡ Some c → P (with_handed (max q.handed ticket) q))
+    → P (marked q ticket)
+by_mark P q ticket same more = go (command_of ticket q.waiting) refl
+  where
+    go : (found : Option QueuedCommand) → command_of ticket q.waiting ≡ found
+        → P (if is_some found then with_handed (max q.handed ticket) q else q)
+    go None e = same
+    go (Some c) e = more c e
+
+larger_below : (a b n : ℕ) → a < n → b < n → max a b < n
+larger_below a b n one other = grind (arith)
+
+marked_stays : (q : QueueState) (ticket : ℕ) (c : QueuedCommand) → IsQueue q → command_of ticket q.waiting ≡ Some c
+    → IsQueue (with_handed (max q.handed ticket) q)
+marked_stays q ticket c h e =
+    let own : IsQueued c = first-all IsQueued command_ticket ticket q.waiting c h.commands e in
+    let named : c.ticket ≡ ticket = first-number command_ticket ticket q.waiting c e in
+    record {
+      few = h.few;
+      next = h.next;
+      handed = larger_below q.handed ticket (2 ^ 32) h.handed (subst (λ n. n < 2 ^ 32) named own.ticket);
+      within = h.within;
+      kept = h.kept;
+      commands = h.commands;
+      done = h.done;
+    }
+
 pub step_stays : (q : QueueState) (s : QueueStep) → IsQueue q → IsQueue (after_step q s)
 step_stays q (Pushes asked) h = by_push IsQueue q asked h (λ e. pushed_stays q asked h (taken_is q asked e))
 step_stays q (Finishes ticket reply) h = by_finish IsQueue q ticket reply h (λ c e f. with_finished_stays q ticket reply c h e f)
+step_stays q (Marks ticket) h = by_mark IsQueue q ticket h (λ c e. marked_stays q ticket c h e)
 
 pub queue_stays : (q : QueueState) (steps : List QueueStep) → IsQueue q → IsQueue (after_steps q steps)
 queue_stays q [] h = h
@@ -195,6 +226,7 @@ queue_stays q (s ∷ steps) h = queue_stays (after_step q s) steps (step_stays q
 pub step_rises : (q : QueueState) (s : QueueStep) → q.next ≤ (after_step q s).next
 step_rises q (Pushes asked) = by_push (λ p. q.next ≤ p.next) q asked (omega arith) (λ e. omega arith)
 step_rises q (Finishes ticket reply) = by_finish (λ p. q.next ≤ p.next) q ticket reply (omega arith) (λ c e f. omega arith)
+step_rises q (Marks ticket) = by_mark (λ p. q.next ≤ p.next) q ticket (omega arith) (λ c e. omega arith)
 
 pub next_rises : (q : QueueState) (steps : List QueueStep) → q.next ≤ (after_steps q steps).next
 next_rises q [] = omega arith

@@ -1,5 +1,5 @@
 -- The laws of a Reset.
-use Rattle.std.proofs.Common.{◌≡◌, ℕ, ◌+◌, Bool, true, false, cond, ◌&&◌, nat_lt, Option, Some, None, Result, Ok, Err, List, [], ◌∷◌, slice_index, ap, ap₂, refl, ◌∙◌}
+use Rattle.std.proofs.Common.{◌≡◌, ℕ, ◌+◌, Bool, true, false, cond, ◌&&◌, nat_lt, Option, Some, None, Result, Ok, Err, List, slice_index, ap, ap₂, refl, ◌∙◌}
 use Rattle.std.specs.Prelude.{is_some}
 use Rattle.cip_application.specs.declared.config.ServiceKind.{ServiceKind}
 use Rattle.cip_application.specs.declared.config.ServiceKind.TheVariants as kinds

@@ -1,18 +1,18 @@
 -- The queue over any number of steps.
-use Rattle.std.proofs.Common.{◌≡◌, ◌≢◌, ℕ, suc, ◌+◌, ◌-◌, ◌<◌, ◌≤◌, ◌==◌, Bool, true, false, not, ◌&&◌, ◌||◌, if◌then◌else◌, nat_lt, Option, Some, None, unwrap_or, List, [], ◌∷◌, ◌++◌, length, map, drop, append_assoc, refl, ap, sym, subst, ◌∙◌, arith}
+use Rattle.std.proofs.Common.{◌≡◌, ◌≢◌, ℕ, suc, ◌+◌, ◌-◌, ◌<◌, ◌≤◌, ◌==◌, Bool, true, false, not, ◌&&◌, ◌||◌, if◌then◌else◌, max, nat_lt, Option, Some, None, unwrap_or, List, [], ◌∷◌, ◌++◌, length, map, drop, append_assoc, refl, ap, sym, subst, ◌∙◌, arith}
 use Rattle.std.proofs.lemmas.Bool.{eq-eqb, ne_eqb, eqb-true}
 use Rattle.std.proofs.lemmas.Bool.Decides.{nat_tests}
 use Rattle.std.proofs.lemmas.List.{append-nil, length-append}
 use Rattle.std.proofs.lemmas.List.Elements.{filter-append}
 use Rattle.std.specs.List.{AllByRecursion, list_any, range_with_len}
 use Rattle.cip_objects.specs.OwnRequests.{Asked}
-use Rattle.cip_owner.specs.Queue.{QueueState, QueuedCommand, QueueResult, Done, Unknown, takes, command_with, pushed, command_ticket, result_ticket, command_of, kept_result, without_command, can_be_reply, result_with, with_result, with_finished, finished_by, outcome_by, outcome_of}
+use Rattle.cip_owner.specs.Queue.{QueueState, QueuedCommand, QueueResult, Done, Unknown, takes, command_with, pushed, command_ticket, result_ticket, command_of, kept_result, without_command, can_be_reply, result_with, with_result, with_finished, with_handed, finished_by, outcome_by, outcome_of}
 use Rattle.cip_owner.specs.QueueLaws.{AreApart, HasTickets, numbers_law, unfinished, waiting_law, last_results, results_law, IsResultOf, IsResultOfSome, once_law, finished_law}
-use Rattle.cip_owner.specs.QueueRuns.{QueueStep, Pushes, Finishes, after_step, after_steps, result_of_reply, commands_in, results_in}
+use Rattle.cip_owner.specs.QueueRuns.{QueueStep, Pushes, Finishes, Marks, after_step, after_steps, result_of_reply, commands_in, results_in}
 use Rattle.cip_owner.specs.Replies.{Reply}
 use Rattle.cip_owner.proofs.ListLemmas.{all-rest, all-weaker, all-both, first-absent, first-number, first-front, first-behind}
-use Rattle.cip_owner.proofs.QueueLemmas.{reply_is, finish_done, length-with_result}
-use Rattle.cip_owner.proofs.TicketLemmas.{gone, still_gone, behind_others, ticket_given, no_result_yet, some_none, step_tickets}
+use Rattle.cip_owner.proofs.QueueLemmas.{reply_is, finish_done, by_mark, length-with_result}
+use Rattle.cip_owner.proofs.TicketLemmas.{marked_tickets, gone, still_gone, behind_others, ticket_given, no_result_yet, some_none, step_tickets}
 
 -- what one step does to the commands and the results of a run
 abbrev Run : QueueState → List QueuedCommand → List QueueResult → List QueueStep → (List QueuedCommand → List QueueResult → QueueState → Type 0) → Type 0
@@ -45,6 +45,12 @@ by_first_finish P q ticket reply steps same more = go (command_of ticket q.waiti
     go None e = same
     go (Some c) e = if_given c (can_be_reply c reply) e refl
 
+by_first_mark : (P : List QueuedCommand → List QueueResult → QueueState → Type 0) (q : QueueState) (ticket : ℕ) (steps : List QueueStep)
+    → Run q [] [] steps P
+    → ((c : QueuedCommand) → command_of ticket q.waiting ≡ Some c → Run (with_handed (max q.handed ticket) q) [] [] steps P)
+    → P (commands_in q (Marks ticket ∷ steps)) (results_in q (Marks ticket ∷ steps)) (after_steps q (Marks ticket ∷ steps))
+by_first_mark P q ticket steps same more = by_mark (λ p. Run p [] [] steps P) q ticket same more
+
 -- ---- the numbers of the tickets
 
 numbered : (q : QueueState) (steps : List QueueStep)
@@ -61,6 +67,9 @@ numbered q (Finishes ticket reply ∷ steps) =
     by_first_finish (λ commands results p. (map command_ticket commands ≡ range_with_len q.next (length commands)) × (p.next ≡ q.next + length commands)) q ticket reply steps
     (numbered q steps)
     (λ c e f. numbered (with_finished q ticket c reply) steps)
+numbered q (Marks ticket ∷ steps) =
+    by_first_mark (λ commands results p. (map command_ticket commands ≡ range_with_len q.next (length commands)) × (p.next ≡ q.next + length commands)) q ticket steps
+    (numbered q steps) (λ c e. numbered (with_handed (max q.handed ticket) q) steps)
 
 pub numbers : numbers_law
 numbers = numbered
@@ -76,6 +85,9 @@ from_next q (Finishes ticket reply ∷ steps) =
     by_first_finish (λ commands results p. AllByRecursion (λ c. q.next ≤ c.ticket) commands) q ticket reply steps
     (from_next q steps)
     (λ c e f. from_next (with_finished q ticket c reply) steps)
+from_next q (Marks ticket ∷ steps) =
+    by_first_mark (λ commands results p. AllByRecursion (λ c. q.next ≤ c.ticket) commands) q ticket steps
+    (from_next q steps) (λ c e. from_next (with_handed (max q.handed ticket) q) steps)
 
 -- ---- the commands that wait
 
@@ -137,6 +149,9 @@ wait q (Finishes ticket reply ∷ steps) h =
         ∙ ap (unfinished results) (sym (filter-append (λ d. not (d.ticket == ticket)) q.waiting commands))
         ∙ ap (λ n. unfinished results (without_command n (q.waiting ++ commands))) (sym own.0)
         ∙ sym (one_finished (result_with c reply) results (q.waiting ++ commands))
+wait q (Marks ticket ∷ steps) h =
+    by_first_mark (λ commands results p. p.waiting ≡ unfinished results (q.waiting ++ commands)) q ticket steps
+    (wait q steps h) (λ c e. wait (with_handed (max q.handed ticket) q) steps (marked_tickets q ticket c h e))
 
 pub waiting : waiting_law
 waiting = wait
@@ -187,6 +202,9 @@ keep q (Finishes ticket reply ∷ steps) few =
     (keep q steps few)
     (λ c e f. keep (with_finished q ticket c reply) steps (kept_few q ticket reply c few)
     ∙ one_more q.results (results_in (with_finished q ticket c reply) steps) (result_with c reply) few)
+keep q (Marks ticket ∷ steps) few =
+    by_first_mark (λ commands results p. p.results ≡ last_results (q.results ++ results)) q ticket steps
+    (keep q steps few) (λ c e. keep (with_handed (max q.handed ticket) q) steps few)
 
 pub results : results_law
 results = keep
@@ -207,6 +225,9 @@ never_again q (Finishes given reply ∷ steps) ticket below none =
       λ same. some_none c (sym e ∙ ap (λ n. command_of n q.waiting) (sym (first-number command_ticket given q.waiting c e) ∙ same) ∙ none),
       never_again (with_finished q given c reply) steps ticket below (still_gone given ticket q.waiting none),
     ))
+never_again q (Marks given ∷ steps) ticket below none =
+    by_first_mark (λ commands results p. AllByRecursion (λ r. r.ticket ≢ ticket) results) q given steps
+    (never_again q steps ticket below none) (λ c e. never_again (with_handed (max q.handed given) q) steps ticket below none)
 
 apart : (q : QueueState) (steps : List QueueStep) → HasTickets q → AreApart (results_in q steps)
 apart q [] h = tt
@@ -228,6 +249,9 @@ apart q (Finishes ticket reply ∷ steps) h =
           subst (λ n. AllByRecursion (λ r. r.ticket ≢ n) (results_in p steps)) (sym own.0) (never_again p steps ticket own.1 (gone ticket q.waiting)),
           later kept,
         )
+apart q (Marks ticket ∷ steps) h =
+    by_first_mark (λ commands results p. AreApart results) q ticket steps
+    (apart q steps h) (λ c e. apart (with_handed (max q.handed ticket) q) steps (marked_tickets q ticket c h e))
 
 -- a result is that of the command that has its ticket
 abbrev Owned : List QueuedCommand → QueueResult → Type 0
@@ -279,6 +303,9 @@ owned q (Finishes ticket reply ∷ steps) h =
               (λ r other o. subst (IsResultOfSome r) (search_others q.waiting commands ticket r.ticket other) o) (results_in p steps)
               (never_again p steps ticket own.1 (gone ticket q.waiting)) (later kept),
         )
+owned q (Marks ticket ∷ steps) h =
+    by_first_mark (λ commands results p. AllByRecursion (Owned (q.waiting ++ commands)) results) q ticket steps
+    (owned q steps h) (λ c e. owned (with_handed (max q.handed ticket) q) steps (marked_tickets q ticket c h e))
 
 pub once : once_law
 once q steps h = (apart q steps h, owned q steps h)

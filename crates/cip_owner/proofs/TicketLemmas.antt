@@ -1,14 +1,15 @@
 -- The tickets of a queue: they rise, and each has at most one command and one result.
-use Rattle.std.proofs.Common.{◌≡◌, ◌≢◌, ℕ, ◌+◌, ◌<◌, ◌≤◌, ◌==◌, Bool, true, false, not, if◌then◌else◌, nat_lt, Option, Some, None, List, [], ◌∷◌, ◌++◌, length, drop, refl, ap, sym, subst, ◌∙◌, arith}
+use Rattle.std.proofs.Common.{◌≡◌, ◌≢◌, ℕ, ◌+◌, ◌<◌, ◌≤◌, ◌==◌, Bool, true, false, not, if◌then◌else◌, max, nat_lt, nat_le, Option, Some, None, List, [], ◌∷◌, ◌++◌, length, drop, refl, ap, sym, subst, ◌∙◌, arith}
 use Rattle.std.proofs.lemmas.Bool.{ne_eqb, eqb-true, eqb-false}
+use Rattle.std.proofs.lemmas.Bool.Decides.{nat_tests}
 use Rattle.std.specs.List.{AllByRecursion, filter}
 use Rattle.cip_objects.specs.OwnRequests.{Asked}
-use Rattle.cip_owner.specs.Queue.{QueueState, QueuedCommand, QueueResult, command_with, pushed, command_ticket, command_of, without_command, result_with, with_result, with_finished}
-use Rattle.cip_owner.specs.QueueLaws.{TicketsRise, AreApart, HasTickets, tickets_law}
-use Rattle.cip_owner.specs.QueueRuns.{QueueStep, Pushes, Finishes, after_step, after_steps}
+use Rattle.cip_owner.specs.Queue.{QueueState, QueuedCommand, QueueResult, command_with, pushed, command_ticket, command_of, without_command, result_with, with_result, with_finished, with_handed, is_handed, after_push}
+use Rattle.cip_owner.specs.QueueLaws.{TicketsRise, AreApart, HasTickets, tickets_law, handed_law}
+use Rattle.cip_owner.specs.QueueRuns.{QueueStep, Pushes, Finishes, Marks, after_step, after_steps}
 use Rattle.cip_owner.specs.Replies.{Reply}
 use Rattle.cip_owner.proofs.ListLemmas.{all-append, all-filter, all-rest, all-weaker, all-both, first-number, first-all, first-behind}
-use Rattle.cip_owner.proofs.QueueLemmas.{by_push, by_finish, all-with_result}
+use Rattle.cip_owner.proofs.QueueLemmas.{by_push, by_finish, by_mark, all-with_result}
 
 -- commands whose tickets rise
 pub rise-weaker : (cs : List QueuedCommand) (m n : ℕ) → m ≤ n → TicketsRise cs m → TicketsRise cs n
@@ -105,6 +106,7 @@ pushed_tickets q asked h = record {
   finished = all-both (λ r. r.ticket < q.next) (λ r. command_of r.ticket q.waiting ≡ None)
       (λ r. command_of r.ticket (q.waiting ++ command_with q.next asked ∷ []) ≡ None)
       (λ r below none. behind_others q.waiting (command_with q.next asked) r.ticket none (λ e. omega arith)) q.results h.given h.finished;
+  handed = (let below = h.handed in omega (arith, below));
 }
 
 pub ticket_given : (q : QueueState) (ticket : ℕ) (c : QueuedCommand) → HasTickets q → command_of ticket q.waiting ≡ Some c → (c.ticket ≡ ticket) × (ticket < q.next)
@@ -132,16 +134,58 @@ finished_tickets q ticket reply c h e =
           (all-weaker (λ s. command_of s.ticket q.waiting ≡ None) (λ s. command_of s.ticket (without_command ticket q.waiting) ≡ None)
           (λ s none. still_gone ticket s.ticket q.waiting none) q.results h.finished)
           (subst (λ n. command_of n (without_command ticket q.waiting) ≡ None) (sym own.0) (gone ticket q.waiting));
+      handed = h.handed;
     }
+
+larger_below : (a b n : ℕ) → a < n → b < n → max a b < n
+larger_below a b n one other = grind (arith)
+
+pub marked_tickets : (q : QueueState) (ticket : ℕ) (c : QueuedCommand) → HasTickets q → command_of ticket q.waiting ≡ Some c
+    → HasTickets (with_handed (max q.handed ticket) q)
+marked_tickets q ticket c h e = record {
+  rising = h.rising;
+  apart = h.apart;
+  given = h.given;
+  finished = h.finished;
+  handed = larger_below q.handed ticket q.next h.handed (ticket_given q ticket c h e).1;
+}
 
 pub step_tickets : (q : QueueState) (s : QueueStep) → HasTickets q → HasTickets (after_step q s)
 step_tickets q (Pushes asked) h = by_push HasTickets q asked h (λ e. pushed_tickets q asked h)
 step_tickets q (Finishes ticket reply) h =
     by_finish HasTickets q ticket reply h (λ c e f. finished_tickets q ticket reply c h e)
+step_tickets q (Marks ticket) h = by_mark HasTickets q ticket h (λ c e. marked_tickets q ticket c h e)
 
 tickets_stay : (q : QueueState) (steps : List QueueStep) → HasTickets q → HasTickets (after_steps q steps)
 tickets_stay q [] h = h
 tickets_stay q (s ∷ steps) h = tickets_stay (after_step q s) steps (step_tickets q s h)
 
 pub tickets : tickets_law
-tickets = (λ limit. record { rising = tt; apart = tt; given = tt; finished = tt }, tickets_stay)
+tickets = (λ limit. record { rising = tt; apart = tt; given = tt; finished = tt; handed = omega arith }, tickets_stay)
+
+-- ---- what was handed over
+
+still_handed : (ticket handed other : ℕ) → nat_le ticket handed ≡ true → nat_le ticket (max handed other) ≡ true
+still_handed ticket handed other e = grind (arith, nat_tests)
+
+step_handed : (q : QueueState) (s : QueueStep) (c : QueuedCommand) → is_handed q c ≡ true → is_handed (after_step q s) c ≡ true
+step_handed q (Pushes asked) c h = by_push (λ p. is_handed p c ≡ true) q asked h (λ e. h)
+step_handed q (Finishes ticket reply) c h = by_finish (λ p. is_handed p c ≡ true) q ticket reply h (λ d e f. h)
+step_handed q (Marks ticket) c h =
+    by_mark (λ p. is_handed p c ≡ true) q ticket h (λ d e. still_handed c.ticket q.handed ticket h)
+
+steps_handed : (q : QueueState) (steps : List QueueStep) (c : QueuedCommand) → is_handed q c ≡ true
+    → is_handed (after_steps q steps) c ≡ true
+steps_handed q [] c h = h
+steps_handed q (s ∷ steps) c h = steps_handed (after_step q s) steps c (step_handed q s c h)
+
+above_handed : (next handed : ℕ) → handed < next → nat_le next handed ≡ false
+above_handed next handed below = grind (arith, nat_tests)
+
+new_not_handed : (q : QueueState) (asked : Asked) → HasTickets q → is_handed (after_push q asked) (command_with q.next asked) ≡ false
+new_not_handed q asked h =
+    by_push (λ p. is_handed p (command_with q.next asked) ≡ false) q asked (above_handed q.next q.handed h.handed)
+    (λ e. above_handed q.next q.handed h.handed)
+
+pub handed : handed_law
+handed = (steps_handed, new_not_handed)

@@ -1,5 +1,5 @@
 -- The commands that wait for the owner of the device, and the results of those that it finished.
-use Rattle.std.specs.Prelude.{ℕ, ◌+◌, ◌<◌, ◌≤◌, ◌^◌, ◌==◌, ◌&&◌, Bool, not, nat_lt, nat_le, if◌then◌else◌}
+use Rattle.std.specs.Prelude.{ℕ, ◌+◌, ◌<◌, ◌≤◌, ◌^◌, ◌==◌, ◌&&◌, Bool, max, not, nat_lt, nat_le, if◌then◌else◌}
 use Rattle.std.specs.Prelude.{Option, Some, None, List, [], ◌∷◌, ◌++◌, length, drop, filter, is_some}
 use Rattle.std.specs.List.{AllByRecursion}
 use Rattle.byteorder.specs.Endian.{little_number}
@@ -24,17 +24,18 @@ pub record QueueResult : Type 0 where
   pub status : ℕ
   pub content : List ℕ
 
--- The queue: how many commands may wait, the next ticket, the commands that wait and the results that are kept, oldest
--- first.
+-- The queue: how many commands may wait, the next ticket, the greatest ticket that was handed over (or 0), the commands
+-- that wait and the results that are kept, oldest first. Commands are handed over in the order of their tickets.
 pub record QueueState : Type 0 where
   pub limit : ℕ
   pub next : ℕ
+  pub handed : ℕ
   pub waiting : List QueuedCommand
   pub results : List QueueResult
 
 -- Tickets begin at 1.
 abbrev pub empty_queue : ℕ → QueueState
-empty_queue limit = record { limit = limit; next = 1; waiting = []; results = [] }
+empty_queue limit = record { limit = limit; next = 1; handed = 0; waiting = []; results = [] }
 
 -- One more command may wait, and there is a ticket for it: tickets are numbers of 32 bits, and none is used again.
 abbrev pub has_room : QueueState → Bool
@@ -89,6 +90,22 @@ command_of ticket commands = first_with command_ticket ticket commands
 
 abbrev pub without_command : ℕ → List QueuedCommand → List QueuedCommand
 without_command ticket commands = filter (λ c. not (c.ticket == ticket)) commands
+
+-- A waiting command was handed over to an owner.
+abbrev pub is_handed : QueueState → QueuedCommand → Bool
+is_handed q c = nat_le c.ticket q.handed
+
+-- The waiting commands that were handed over.
+abbrev pub handed_commands : QueueState → List QueuedCommand
+handed_commands q = filter (is_handed q) q.waiting
+
+abbrev pub with_handed : ℕ → QueueState → QueueState
+with_handed ticket q = record q { handed = ticket }
+
+-- The queue once the waiting command with this ticket is handed over, and so are those before it. As it is, if no such
+-- command waits.
+abbrev pub marked : QueueState → ℕ → QueueState
+marked q ticket = if is_some (command_of ticket q.waiting) then with_handed (max q.handed ticket) q else q
 
 -- A reply that the owner can give to a command: it is not longer than the service allows, and it does not say that it
 -- is too large, as the owner has executed the command.
@@ -184,6 +201,7 @@ pub record IsResult (r : QueueResult) : Type 0 where
 pub record IsQueue (q : QueueState) : Type 0 where
   pub few : q.limit ≤ 256
   pub next : q.next ≤ 2 ^ 32
+  pub handed : q.handed < 2 ^ 32
   pub within : length q.waiting ≤ q.limit
   pub kept : length q.results ≤ 256
   pub commands : AllByRecursion IsQueued q.waiting

@@ -1,10 +1,11 @@
 -- What the owner of a device and its peers may rely on of the queue, over any number of steps.
-use Rattle.std.specs.Prelude.{◌≡◌, ◌≢◌, ℕ, ◌+◌, ◌-◌, ◌<◌, ◌≤◌, ◌==◌, not, Option, Some, None, option_map, List, [], ◌∷◌}
+use Rattle.std.specs.Prelude.{◌≡◌, ◌≢◌, ℕ, ◌+◌, ◌-◌, ◌<◌, ◌≤◌, ◌==◌, true, false, not, Option, Some, None, option_map, List, [], ◌∷◌}
 use Rattle.std.specs.Prelude.{◌++◌, length, map, filter, drop}
 use Rattle.std.specs.List.{AllByRecursion, list_any, range_with_len}
+use Rattle.cip_objects.specs.OwnRequests.{Asked}
 use Rattle.cip_owner.specs.Owned.{OwnedState, exec_owned}
 use Rattle.cip_owner.specs.Queue.{QueueState, QueuedCommand, QueueResult, Done, command_ticket, command_of, empty_queue}
-use Rattle.cip_owner.specs.Queue.{finished, result_with, outcome_of}
+use Rattle.cip_owner.specs.Queue.{finished, result_with, outcome_of, is_handed, after_push, command_with}
 use Rattle.cip_owner.specs.QueueRuns.{QueueStep, after_steps, commands_in, results_in, steps_of}
 use Rattle.cip_owner.specs.Replies.{Reply}
 
@@ -23,12 +24,13 @@ AreApart [] = Unit {0}
 AreApart (r ∷ results) = AllByRecursion (λ s. s.ticket ≢ r.ticket) results × AreApart results
 
 -- What holds of a queue that began empty: the tickets of the waiting commands rise, and no kept result has a ticket of
--- another, of a waiting command, or that was not given.
+-- another, of a waiting command, or that was not given. No ticket was handed over that was not given.
 pub record HasTickets (q : QueueState) : Type 0 where
   pub rising : TicketsRise q.waiting q.next
   pub apart : AreApart q.results
   pub given : AllByRecursion (λ r. r.ticket < q.next) q.results
   pub finished : AllByRecursion (λ r. command_of r.ticket q.waiting ≡ None) q.results
+  pub handed : q.handed < q.next
 
 abbrev pub tickets_law : Type 0
 tickets_law =
@@ -84,6 +86,13 @@ once_law =
     → AreApart (results_in q steps)
     × AllByRecursion (λ r. IsResultOfSome r (command_of r.ticket (q.waiting ++ commands_in q steps)))
     (results_in q steps)
+
+-- What was handed over stays so over any steps, and a command that is put into the queue was not.
+abbrev pub handed_law : Type 0
+handed_law =
+    ((q : QueueState) (steps : List QueueStep) (c : QueuedCommand) → is_handed q c ≡ true →
+    is_handed (after_steps q steps) c ≡ true)
+    × ((q : QueueState) (asked : Asked) → HasTickets q → is_handed (after_push q asked) (command_with q.next asked) ≡ false)
 
 -- Get_Result of its object answers a command that was just finished with the owner's reply.
 abbrev pub finished_law : Type 0

@@ -5,7 +5,7 @@ use Rattle.cip_objects.specs.OwnRequests.{Asked}
 use Rattle.cip_owner.specs.Owned.{OwnedState, queued, result_answer}
 use Rattle.cip_owner.specs.Queue.{QueueState, QueuedCommand, QueueResult, Pending, Done, Unknown, empty_queue}
 use Rattle.cip_owner.specs.Queue.{next_ticket, after_push, finished, with_result, outcome_of}
-use Rattle.cip_owner.specs.Queue.{has_widths, restored_waiting, restored_result}
+use Rattle.cip_owner.specs.Queue.{has_widths, restored_waiting, restored_result, marked, with_handed, handed_commands}
 use Rattle.cip_owner.specs.Replies.{Reply}
 
 -- A request of the queued service 0x33 of instance 1 of class 768, with 4 bytes of data and up to 4 of the reply.
@@ -39,7 +39,7 @@ abbrev pub reply : ℕ → List ℕ → Reply
 reply status content = record { status = status; content = content }
 
 abbrev pub queue_of : ℕ → List QueuedCommand → List QueueResult → QueueState
-queue_of next waiting results = record { limit = 2; next = next; waiting = waiting; results = results }
+queue_of next waiting results = record { limit = 2; next = next; handed = 0; waiting = waiting; results = results }
 
 -- Two commands get the tickets 1 and 2. There is no room for a third.
 pub first_pushed : after_push (empty_queue 2) move ≡ queue_of 2 (moving 1 ∷ []) []
@@ -97,6 +97,25 @@ finished_too_long = refl
 
 pub finished_too_large : finished full 1 (reply 0x11 []) ≡ None
 finished_too_large = refl
+
+-- The second command is handed over, and so the first one is. The third is not. A ticket of nobody changes nothing.
+abbrev pub three : QueueState
+three = record full { limit = 3; next = 4; waiting = moving 1 ∷ moving 2 ∷ moving 3 ∷ [] }
+
+pub second_marked : marked three 2 ≡ with_handed 2 three
+second_marked = refl
+
+pub handed_two : handed_commands (marked three 2) ≡ moving 1 ∷ moving 2 ∷ []
+handed_two = refl
+
+pub first_marked_later : marked (marked three 2) 1 ≡ with_handed 2 three
+first_marked_later = refl
+
+pub unknown_marked : marked three 4 ≡ three
+unknown_marked = refl
+
+pub none_handed : handed_commands three ≡ []
+none_handed = refl
 
 -- Get_Result: a command that waits, one that is done, another object's, and a ticket that nobody has.
 pub pending : outcome_of second_done 1 768 1 ≡ Pending

@@ -1,5 +1,5 @@
 -- What a Reset leaves, and what peers and the owner may rely on.
-use Rattle.std.specs.Prelude.{◌≡◌, ℕ, Bool, true, false, ◌&&◌, List, [], ◌∷◌, Option, Some, None, slice_index, unwrap_or}
+use Rattle.std.specs.Prelude.{◌≡◌, ℕ, Bool, true, false, List, [], ◌∷◌, Option, Some, None, slice_index, unwrap_or}
 use Rattle.std.specs.Prelude.{refl, cond}
 use Rattle.std.proofs.Common.{◌∙◌}
 use Rattle.cip_application.specs.declared.kind.AttributeKind.{AttributeKind}

@@ -5,7 +5,7 @@ ghost use Rattle.cip_objects.specs.Router.{RepliesWellFormed};
 ghost use Rattle.cip_owner.specs.Owned.{OwnedState, exec_owned};
 ghost use Rattle.cip_owner.specs.OwnerLaws.{given_law, unasked_law, unprepared_law, asked_alike_law};
 ghost use Rattle.cip_owner.specs.QueueLaws.{tickets_law, numbers_law, waiting_law, results_law, once_law, finished_law};
-ghost use Rattle.cip_owner.specs.QueueLaws.{queue_law};
+ghost use Rattle.cip_owner.specs.QueueLaws.{queue_law, handed_law};
 ghost use Rattle.cip_owner.specs.ResetLaws.{unopted_law, unowned_law, answered_law, left_law, uncounted_law};
 
 /// Each reply has the head of a reply, its service answers the request's, and it has at most `max_size` bytes.
@@ -43,6 +43,11 @@ pub fn queue_takes_requests_alone()
 /// a waiting command, or that was not given.
 pub fn tickets_rise()
     ensures { tickets_law }
+{}
+
+/// What was handed over stays so, and a command that is put into the queue was not.
+pub fn handed_over_stays()
+    ensures { handed_law }
 {}
 
 /// Tickets are numbers in a row: no ticket is given twice.

@@ -5,7 +5,7 @@ ghost use Rattle.std.specs.Prelude.{slice_get, if◌then◌else◌};
 ghost use Rattle.cip_objects.specs.OwnRequests.{asked_in};
 ghost use Rattle.cip_owner.specs.Queue.{empty_queue, has_widths, takes, next_ticket, after_push, command_of};
 ghost use Rattle.cip_owner.specs.Queue.{is_reply_within, finished, can_finish, outcome_of, result_of, IsQueue};
-ghost use Rattle.cip_owner.specs.Queue.{with_next, restored_waiting, restored_result};
+ghost use Rattle.cip_owner.specs.Queue.{with_next, restored_waiting, restored_result, with_handed, marked};
 ghost use Rattle.cip_owner.specs.QueueViews.{waiting_in, result_in, outcome_in, IsShort};
 
 mod results;
@@ -110,6 +110,7 @@ pub enum Outcome<'a> {
 #[derive(Drop)]
 pub struct Queue {
     next: u64,
+    handed: u32,
     waiting: Waiting,
     results: Results,
 }
@@ -123,6 +124,7 @@ impl Model for Queue {
     ghost view = { λ q. record {
       limit = q.waiting.limit;
       next = q.next;
+      handed = q.handed;
       waiting = q.waiting.commands;
       results = q.results;
     } };
@@ -145,6 +147,7 @@ impl Queue {
         let results = Results::new(alloc)?;
         Ok(Queue {
             next: 1,
+            handed: 0,
             waiting,
             results,
         })
@@ -162,6 +165,33 @@ impl Queue {
         ensures { result ≡ self.now.next }
     {
         self.next
+    }
+
+    /// The greatest ticket that was handed over, or 0. Commands are handed over in the order of their tickets: each one
+    /// that waits with this ticket or a smaller one was handed over.
+    pub fn handed(&self) -> u32
+        ensures { result ≡ self.now.handed }
+    {
+        self.handed
+    }
+
+    /// Marks the waiting command with this ticket, and each before it, as handed over. Returns whether such a command
+    /// waits: if not, nothing changes. Call it before the owner hears of the command.
+    ///
+    /// ```
+    /// if queue.mark(command.ticket) {
+    ///     hand_over(command); // it cannot be withdrawn any more
+    /// }
+    /// ```
+    pub fn mark(&mut self, ticket: u32) -> bool
+        ensures state { self.new ≡ marked self.old ticket }
+        ensures reported { result ≡ is_some (command_of ticket self.old.waiting) }
+    {
+        let waits = self.waiting.find(ticket).is_some();
+        if waits {
+            self.handed = self.handed.max(ticket);
+        }
+        waits
     }
 
     /// The ticket that a request would have if it were put into the queue now. `None` if the queue does not take it: it
@@ -207,6 +237,7 @@ impl Queue {
         ensures queue { IsQueue self.now }
     {
         let _next = self.next;
+        let _handed = self.handed;
         let _results = self.results.len();
         self.waiting.len()
     }
@@ -309,7 +340,7 @@ impl Queue {
 
     /// Sets the next ticket, and returns whether it did. A number over 2^32 changes nothing.
     ///
-    /// With this call, `restore_waiting` and `restore_result` a device starts from what was kept of its queue, before
+    /// With this call, `set_handed`, `restore_waiting` and `restore_result` a device starts from what was kept of its queue, before
     /// it answers any peer.
     ///
     /// ```
@@ -327,6 +358,13 @@ impl Queue {
         }
         self.next = next;
         true
+    }
+
+    /// Sets the greatest ticket that was handed over, as it was kept.
+    pub fn set_handed(&mut self, ticket: u32)
+        ensures { self.new ≡ with_handed ticket self.old }
+    {
+        self.handed = ticket;
     }
 
     /// Puts a waiting command behind the others, as it was kept, and returns whether it did. If no more may wait, or

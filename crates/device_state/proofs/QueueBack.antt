@@ -5,17 +5,17 @@ use Rattle.std.proofs.Common.{◌∙◌, subst, arith, ◌⊎◌, inl, inr}
 use Rattle.std.specs.Prelude.{⊤, slice_get}
 use Rattle.std.specs.List.{AllByRecursion}
 use Rattle.std.specs.Option.{option_and_then}
-use Rattle.std.proofs.lemmas.Bool.{ne_eqb}
+use Rattle.std.proofs.lemmas.Bool.{ne_eqb, eqb-true}
 use Rattle.std.proofs.lemmas.Bool.Decides.{nat_tests}
 use Rattle.std.proofs.lemmas.List.{append-nil, length-append}
 use Rattle.byteorder.specs.Numbers.{little_number-reads_back}
 use Rattle.cip_bytes.specs.Numbers.{le, number_at}
 use Rattle.cip_owner.specs.Queue.{QueuedCommand, QueueResult, QueueState, IsQueue, IsQueued, IsResult, empty_queue}
-use Rattle.cip_owner.specs.Queue.{with_next, restored_waiting, restored_result}
+use Rattle.cip_owner.specs.Queue.{with_next, with_handed, restored_waiting, restored_result}
 use Rattle.device_state.specs.QueueEntries.{PLACES, QUEUE_ENTRIES, command_bytes, result_bytes, bytes_of_command}
 use Rattle.device_state.specs.QueueEntries.{bytes_of_result, place_bytes, queue_bytes, spelled_command, spelled_result}
 use Rattle.device_state.specs.QueueEntries.{command_put, result_put, next_put, place_put, queue_put, put_entries}
-use Rattle.device_state.specs.QueueEntries.{queue_law}
+use Rattle.device_state.specs.QueueEntries.{queue_law, has_handed_all, next_bytes, tickets_put}
 
 -- ---- a command
 
@@ -164,13 +164,14 @@ not_below a b h = grind (arith, nat_tests)
 at_most : (a b : ℕ) → a ≤ b → nat_le a b ≡ true
 at_most a b h = grind (arith, nat_tests)
 
-abbrev queue_of : ℕ → ℕ → List QueuedCommand → List QueueResult → QueueState
-queue_of limit next waiting results =
-    record { limit = limit; next = next; waiting = waiting; results = results }
+-- A queue with the tickets of another.
+abbrev queue_of : ℕ → QueueState → List QueuedCommand → List QueueResult → QueueState
+queue_of limit q waiting results =
+    record { limit = limit; next = q.next; handed = q.handed; waiting = waiting; results = results }
 
 -- A queue with places for so many, once the first places of a queue were put back, so many.
 abbrev pub at : QueueState → ℕ → ℕ → QueueState
-at q limit n = queue_of limit q.next (take n q.waiting) (take (n - 256) q.results)
+at q limit n = queue_of limit q (take n q.waiting) (take (n - 256) q.results)
 
 if_three : (a b c : Bool) (x : Option QueueState) → a ≡ true → b ≡ true → c ≡ true
     → (if a && b && c then x else None) ≡ x
@@ -205,26 +206,26 @@ module _ (q : QueueState) (limit n : ℕ) (c : QueuedCommand) (is : IsQueue q) (
   command_put_back room =
       command_goes
       ∙ if_three (nat_lt (length (take n q.waiting)) limit) (nat_le (length c.content) 500) (nat_le c.reply_limit 476)
-      (Some (queue_of limit q.next (take n q.waiting ++ c ∷ []) (take (n - 256) q.results)))
+      (Some (queue_of limit q (take n q.waiting ++ c ∷ []) (take (n - 256) q.results)))
       (below (length (take n q.waiting)) limit room) (at_most (length c.content) 500 own.content)
       (at_most c.reply_limit 476 own.reply_limit)
-      ∙ ap (λ w. Some (queue_of limit q.next w (take (n - 256) q.results))) (sym (take_one q.waiting n c e))
-      ∙ ap (λ k. Some (queue_of limit q.next (take (suc n) q.waiting) (take k q.results))) none_yet
+      ∙ ap (λ w. Some (queue_of limit q w (take (n - 256) q.results))) (sym (take_one q.waiting n c e))
+      ∙ ap (λ k. Some (queue_of limit q (take (suc n) q.waiting) (take k q.results))) none_yet
 
   command_lost : limit ≤ length (take n q.waiting) → place_put (at q limit n) n (command_bytes c) ≡ None
   command_lost full =
       command_goes
       ∙ not_first_of_three (nat_lt (length (take n q.waiting)) limit) (nat_le (length c.content) 500)
       (nat_le c.reply_limit 476)
-      (Some (queue_of limit q.next (take n q.waiting ++ c ∷ []) (take (n - 256) q.results)))
+      (Some (queue_of limit q (take n q.waiting ++ c ∷ []) (take (n - 256) q.results)))
       (not_below (length (take n q.waiting)) limit full)
 
 free_place : (q : QueueState) (limit n : ℕ) → n < 256 → slice_get q.waiting n ≡ None
     → place_put (at q limit n) n [] ≡ Some (at q limit (suc n))
 free_place q limit n less e =
     let none : n - 256 ≡ suc n - 256 = omega (arith, less) in
-    ap (λ w. Some (queue_of limit q.next w (take (n - 256) q.results))) (sym (take_none q.waiting n e))
-    ∙ ap (λ k. Some (queue_of limit q.next (take (suc n) q.waiting) (take k q.results))) none
+    ap (λ w. Some (queue_of limit q w (take (n - 256) q.results))) (sym (take_none q.waiting n e))
+    ∙ ap (λ k. Some (queue_of limit q (take (suc n) q.waiting) (take k q.results))) none
 
 -- ---- a result
 
@@ -237,15 +238,15 @@ all_waiting q n is past =
 
 result_restored : (q : QueueState) (limit n : ℕ) (waiting : List QueuedCommand) (r : QueueResult) → IsQueue q
     → slice_get q.results n ≡ Some r
-    → restored_result r (queue_of limit q.next waiting (take n q.results))
-    ≡ Some (queue_of limit q.next waiting (take n q.results ++ r ∷ []))
+    → restored_result r (queue_of limit q waiting (take n q.results))
+    ≡ Some (queue_of limit q waiting (take n q.results ++ r ∷ []))
 result_restored q limit n waiting r is e =
     let own = each_is IsResult q.results n r is.done e in
     let short = take_short q.results n in
     let inside = within q.results n r e in
     let most = is.kept in
     if_two (nat_lt (length (take n q.results)) 256) (nat_le (length r.content) 476)
-    (Some (queue_of limit q.next waiting (take n q.results ++ r ∷ [])))
+    (Some (queue_of limit q waiting (take n q.results ++ r ∷ [])))
     (below (length (take n q.results)) 256 (omega (arith, short, inside, most)))
     (at_most (length r.content) 476 own.content)
 
@@ -254,9 +255,9 @@ result_placed : (q : QueueState) (limit n : ℕ) (found : Option QueueResult) �
     → place_put (at q limit n) n (bytes_of_result found) ≡ Some (at q limit (suc n))
 result_placed q limit n None is past e =
     let next : suc (n - 256) ≡ suc n - 256 = omega (arith, past) in
-    ap (λ w. Some (queue_of limit q.next w (take (n - 256) q.results))) (all_waiting q n is past)
-    ∙ ap (λ r. Some (queue_of limit q.next (take (suc n) q.waiting) r)) (sym (take_none q.results (n - 256) e))
-    ∙ ap (λ k. Some (queue_of limit q.next (take (suc n) q.waiting) (take k q.results))) next
+    ap (λ w. Some (queue_of limit q w (take (n - 256) q.results))) (all_waiting q n is past)
+    ∙ ap (λ r. Some (queue_of limit q (take (suc n) q.waiting) r)) (sym (take_none q.results (n - 256) e))
+    ∙ ap (λ k. Some (queue_of limit q (take (suc n) q.waiting) (take k q.results))) next
 result_placed q limit n (Some r) is past e =
     let b = result_bytes r in
     let next : suc (n - 256) ≡ suc n - 256 = omega (arith, past) in
@@ -266,9 +267,9 @@ result_placed q limit n (Some r) is past e =
     else result_put (at q limit n) (spelled_result b)) (not_below n PLACES past)
     ∙ ap (result_put (at q limit n)) (result_back r (each_is IsResult q.results (n - 256) r is.done e))
     ∙ result_restored q limit (n - 256) (take n q.waiting) r is e
-    ∙ ap (λ w. Some (queue_of limit q.next w (take (n - 256) q.results ++ r ∷ []))) (all_waiting q n is past)
-    ∙ ap (λ r. Some (queue_of limit q.next (take (suc n) q.waiting) r)) (sym (take_one q.results (n - 256) r e))
-    ∙ ap (λ k. Some (queue_of limit q.next (take (suc n) q.waiting) (take k q.results))) next
+    ∙ ap (λ w. Some (queue_of limit q w (take (n - 256) q.results ++ r ∷ []))) (all_waiting q n is past)
+    ∙ ap (λ r. Some (queue_of limit q (take (suc n) q.waiting) r)) (sym (take_one q.results (n - 256) r e))
+    ∙ ap (λ k. Some (queue_of limit q (take (suc n) q.waiting) (take k q.results))) next
 
 -- ---- a place
 
@@ -351,12 +352,33 @@ next_back : (next : ℕ) → next ≤ 2 ^ 32 → number_at 0 8 (le 8 next) ≡ n
 next_back next h =
     ap (number_at 0 8) (sym (append-nil (le 8 next))) ∙ little_number-reads_back 8 next [] (omega (arith, h))
 
-first_back : (q : QueueState) (limit : ℕ) → IsQueue q → next_put (empty_queue limit) (le 8 q.next) ≡ Some (at q limit 0)
-first_back q limit is =
+handed_back : (next handed : ℕ) → handed < 2 ^ 32 → number_at 8 4 (le 8 next ++ le 4 handed) ≡ handed
+handed_back next handed h =
+    ap (λ bytes. number_at 8 4 (le 8 next ++ bytes)) (sym (append-nil (le 4 handed)))
+    ∙ little_number-reads_back 4 handed [] (omega (arith, h))
+
+next_before : (next handed : ℕ) → next ≤ 2 ^ 32 → number_at 0 8 (le 8 next ++ le 4 handed) ≡ next
+next_before next handed h = little_number-reads_back 8 next (le 4 handed) (omega (arith, h))
+
+-- the bytes of the tickets, put back
+tickets_back : (q : QueueState) (limit : ℕ) (all : Bool) → IsQueue q → has_handed_all q ≡ all
+    → next_put (empty_queue limit) (if all then le 8 q.next else le 8 q.next ++ le 4 q.handed) ≡ Some (at q limit 0)
+tickets_back q limit true is e =
     let same = next_back q.next is.next in
-    ap (λ t. if t then Some (with_next (number_at 0 8 (le 8 q.next)) (empty_queue limit)) else None)
+    ap (λ t. if t then tickets_put (empty_queue limit) (number_at 0 8 (le 8 q.next)) (le 8 q.next) else None)
     (ap (λ k. nat_le k (2 ^ 32)) same ∙ at_most q.next (2 ^ 32) is.next)
-    ∙ ap (λ k. Some (queue_of limit k [] [])) same
+    ∙ ap (λ k. Some (with_handed (k - 1) (with_next k (empty_queue limit)))) same
+    ∙ ap (λ k. Some (with_handed k (with_next q.next (empty_queue limit)))) (sym (eqb-true q.handed (q.next - 1) e))
+tickets_back q limit false is e =
+    let bytes = le 8 q.next ++ le 4 q.handed in
+    let same = next_before q.next q.handed is.next in
+    ap (λ t. if t then tickets_put (empty_queue limit) (number_at 0 8 bytes) bytes else None)
+    (ap (λ k. nat_le k (2 ^ 32)) same ∙ at_most q.next (2 ^ 32) is.next)
+    ∙ ap (λ k. Some (with_handed (number_at 8 4 bytes) (with_next k (empty_queue limit)))) same
+    ∙ ap (λ k. Some (with_handed k (with_next q.next (empty_queue limit)))) (handed_back q.next q.handed is.handed)
+
+first_back : (q : QueueState) (limit : ℕ) → IsQueue q → next_put (empty_queue limit) (next_bytes q) ≡ Some (at q limit 0)
+first_back q limit is = tickets_back q limit (has_handed_all q) is refl
 
 not_first : (n : ℕ) → (suc n == 0) ≡ false
 not_first n = ne_eqb (suc n) 0 (λ same. omega (arith, same))
@@ -367,7 +389,7 @@ entry_goes q limit n =
     let same : suc n - 1 ≡ n = omega arith in
     ap (λ t. if t then next_put (at q limit n) (queue_bytes q (suc n))
     else place_put (at q limit n) (suc n - 1) (queue_bytes q (suc n))) (not_first n)
-    ∙ ap (λ t. place_put (at q limit n) (suc n - 1) (if t then le 8 q.next else place_bytes q (suc n - 1))) (not_first n)
+    ∙ ap (λ t. place_put (at q limit n) (suc n - 1) (if t then next_bytes q else place_bytes q (suc n - 1))) (not_first n)
     ∙ ap (λ k. place_put (at q limit n) k (place_bytes q k)) same
 
 pub entry_back : (q : QueueState) (limit n : ℕ) → IsQueue q → length q.waiting ≤ limit
@@ -399,8 +421,8 @@ all_commands q n is past =
 pub all_places : (q : QueueState) (limit n : ℕ) → IsQueue q → 512 ≤ n → at q limit n ≡ record q { limit = limit }
 all_places q limit n is past =
     let most = is.kept in
-    ap (λ w. queue_of limit q.next w (take (n - 256) q.results)) (all_commands q n is past)
-    ∙ ap (queue_of limit q.next q.waiting) (take_all q.results (n - 256) (omega (arith, most, past)))
+    ap (λ w. queue_of limit q w (take (n - 256) q.results)) (all_commands q n is past)
+    ∙ ap (queue_of limit q q.waiting) (take_all q.results (n - 256) (omega (arith, most, past)))
 
 counted : (q : QueueState) (count n : ℕ) → count ≡ suc n → 512 ≤ n → IsQueue q
     → put_entries (queue_bytes q) count (empty_queue q.limit) ≡ Some q

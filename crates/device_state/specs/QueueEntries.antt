@@ -1,11 +1,11 @@
 -- The entries in which a queue of commands is kept, and a queue that starts from them. They are numbered, and no call and
 -- no configuration changes their numbers.
-use Rattle.std.specs.Prelude.{◌≡◌, ℕ, zero, suc, ◌-◌, ◌^◌, ◌==◌, ◌&&◌, nat_lt, nat_le, if◌then◌else◌}
+use Rattle.std.specs.Prelude.{◌≡◌, ℕ, zero, suc, ◌-◌, ◌^◌, ◌==◌, Bool, nat_lt, nat_le, if◌then◌else◌}
 use Rattle.std.specs.Prelude.{List, [], ◌∷◌, ◌++◌, length, drop, slice_get, slice_index, Option, Some, None}
 use Rattle.std.specs.Option.{option_and_then}
 use Rattle.cip_bytes.specs.Numbers.{le, number_at}
 use Rattle.cip_owner.specs.Queue.{QueuedCommand, QueueResult, QueueState, IsQueue, empty_queue}
-use Rattle.cip_owner.specs.Queue.{with_next, restored_waiting, restored_result}
+use Rattle.cip_owner.specs.Queue.{with_next, with_handed, restored_waiting, restored_result}
 
 -- The places for waiting commands. There are as many for results.
 abbrev pub PLACES : ℕ
@@ -42,9 +42,17 @@ place_bytes q index =
     if nat_lt index PLACES then bytes_of_command (slice_get q.waiting index)
     else bytes_of_result (slice_get q.results (index - PLACES))
 
+-- Each ticket that was given was handed over, or those of the waiting commands are not.
+abbrev pub has_handed_all : QueueState → Bool
+has_handed_all q = q.handed == q.next - 1
+
+-- The next ticket, and behind it the greatest one that was handed over, unless each one was.
+abbrev pub next_bytes : QueueState → List ℕ
+next_bytes q = if has_handed_all q then le 8 q.next else le 8 q.next ++ le 4 q.handed
+
 -- The content of an entry, by its number: 0 is the next ticket, and the places are numbered from 1.
 abbrev pub queue_bytes : QueueState → ℕ → List ℕ
-queue_bytes q number = if number == 0 then le 8 q.next else place_bytes q (number - 1)
+queue_bytes q number = if number == 0 then next_bytes q else place_bytes q (number - 1)
 
 -- ---- a queue that starts from it
 
@@ -80,10 +88,16 @@ abbrev pub result_put : QueueState → Option QueueResult → Option QueueState
 result_put q None = None
 result_put q (Some r) = restored_result r q
 
+-- The queue with this next ticket, and with the greatest one that was handed over: the one in the bytes, or, if there is
+-- none, the last one that was given.
+abbrev pub tickets_put : QueueState → ℕ → List ℕ → Option QueueState
+tickets_put q next content =
+    if length content == 8 then Some (with_handed (next - 1) (with_next next q))
+    else (if length content == 12 then Some (with_handed (number_at 8 4 content) (with_next next q)) else None)
+
 abbrev pub next_put : QueueState → List ℕ → Option QueueState
 next_put q content =
-    if (length content == 8) && nat_le (number_at 0 8 content) (2 ^ 32) then Some (with_next (number_at 0 8 content) q)
-    else None
+    if nat_le (number_at 0 8 content) (2 ^ 32) then tickets_put q (number_at 0 8 content) content else None
 
 -- There is nothing to put back of a free place.
 abbrev pub place_put : QueueState → ℕ → List ℕ → Option QueueState

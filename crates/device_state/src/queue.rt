@@ -1,7 +1,7 @@
 //! The entries of the queue of commands.
 ghost use Rattle.std.specs.Prelude.{◌≡◌, ◌≤◌, length, is_some, unwrap_or};
 ghost use Rattle.cip_owner.specs.QueueViews.{waiting_in, result_in};
-ghost use Rattle.device_state.specs.QueueEntries.{command_bytes, result_bytes, place_bytes, queue_bytes};
+ghost use Rattle.device_state.specs.QueueEntries.{command_bytes, result_bytes, place_bytes, next_bytes, queue_bytes};
 ghost use Rattle.device_state.specs.QueueEntries.{spelled_command, spelled_result};
 ghost use Rattle.device_state.specs.QueueEntries.{command_put, next_put, queue_put, result_put};
 
@@ -17,6 +17,11 @@ pub const QUEUE_ENTRIES: u16 = 513;
 /// The places for waiting commands.
 const PLACES: usize = 256;
 
+/// The bytes of the next ticket, and with the greatest one that was handed over.
+const NEXT_SIZE: usize = 8;
+
+const BOTH_SIZE: usize = 12;
+
 /// The bytes of a waiting command before its data.
 const COMMAND_HEAD: usize = 13;
 
@@ -29,17 +34,30 @@ const RESULT_HEAD: usize = 11;
 ///
 /// ```
 /// let mut bytes = ReplyBuf::new();
-/// write_queue_entry(queue, 0, &mut bytes); // the 8 bytes of the next ticket
+/// write_queue_entry(queue, 0, &mut bytes); // the 8 bytes of the next ticket, and 4 more if commands wait unseen
 /// ```
 pub fn write_queue_entry(queue: &Queue, number: u16, bytes: &mut ReplyBuf)
     ensures { bytes.new.items ≡ queue_bytes queue.now number }
 {
     if number == 0 {
-        bytes.clear();
-        append(bytes, &queue.next().to_le_bytes());
+        write_next(queue, bytes);
         return;
     }
     write_place(queue, usize::from(number - 1), bytes);
+}
+
+/// Writes the next ticket to `bytes`, in place of their old content, and behind it the greatest ticket that was handed
+/// over, unless each one was that was given.
+fn write_next(queue: &Queue, bytes: &mut ReplyBuf)
+    ensures { bytes.new.items ≡ next_bytes queue.now }
+{
+    let next = queue.next();
+    let handed = queue.handed();
+    bytes.clear();
+    append(bytes, &next.to_le_bytes());
+    if u64::from(handed) != next.saturating_sub(1) {
+        append_u32(bytes, handed);
+    }
 }
 
 /// Writes the content of a place to `bytes`, in place of their old content.
@@ -110,12 +128,23 @@ pub fn restore_queue_entry(queue: &mut Queue, number: u16, bytes: &[u8]) -> bool
     }
 }
 
-/// Puts the next ticket back.
+/// Puts the next ticket back, and the greatest one that was handed over.
 fn restore_next(queue: &mut Queue, bytes: &[u8]) -> bool
     ensures state { queue.new ≡ unwrap_or (next_put queue.old bytes.now) queue.old }
     ensures reported { result ≡ is_some (next_put queue.old bytes.now) }
 {
-    bytes.len() == 8 && queue.set_next(LittleEndian::read_u64(bytes))
+    let handed = match bytes.len() {
+        NEXT_SIZE => None,
+        BOTH_SIZE => Some(LittleEndian::read_u32(&bytes[NEXT_SIZE..])),
+        _ => return false,
+    };
+    let next = LittleEndian::read_u64(bytes);
+    if !queue.set_next(next) {
+        return false;
+    }
+    // without it, each waiting command may have been handed over
+    queue.set_handed(handed.unwrap_or(next.saturating_sub(1) as u32));
+    true
 }
 
 /// Puts a waiting command back.

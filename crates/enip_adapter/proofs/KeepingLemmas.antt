@@ -13,7 +13,7 @@ use Rattle.cip_ledger.proofs.OnePending.{waiting, stays-by, settled-keeps, compl
 use Rattle.cip_owner.specs.Replies.{Reply}
 use Rattle.enip_adapter.specs.Calls.{AdapterState, Call}
 use Rattle.enip_adapter.specs.DeviceRuns.{DeviceStep, Requested, WrittenBy, device_after_step, device_after, objects_after, objects_answer, steps_of_calls}
-use Rattle.enip_adapter.specs.OwnWrites.{OwnWrite, WritesData, WritesAttribute, SetsStatus, SetsState, Prepares, Settles, Finishes, ledger_written}
+use Rattle.enip_adapter.specs.OwnWrites.{OwnWrite, WritesData, WritesAttribute, SetsStatus, SetsState, Prepares, Settles, Finishes, Marks, ledger_written}
 use Rattle.enip_adapter.specs.QueueLaws.{IsNoFinish}
 use Rattle.enip_adapter.specs.Runs.{after_calls}
 use Rattle.enip_adapter.proofs.DeviceLemmas.{calls-end}
@@ -47,6 +47,7 @@ module _ (originator ticket : ℕ) (slot : SlotState) (none : slot.reply ≡ Non
   written_has (Settles by number reply) device left found = settled_has device.ledger by number reply found
   written_has (Finishes given reply) device left found =
       finished_has given device.ledger _ (finished-ledger given reply device) left found
+  written_has (Marks given) device left found = found
 
   pub step_has : (step : DeviceStep) (device : Device) → IsNoFinish ticket step → HasSlot device.ledger
       → HasSlot (device_after_step device step).ledger

@@ -13,7 +13,7 @@ use Rattle.enip_adapter.specs.Calls.{AdapterState, Call, after_call}
 use Rattle.enip_adapter.specs.Calls.Call.{Begins_peer, Feeds, Ends_peer, Ticks, Writes}
 use Rattle.enip_adapter.specs.DeviceRuns.{IsNoWrite, objects_after, objects_answer, requests_of_calls}
 use Rattle.enip_adapter.specs.LedgerSteps.{step_of_finish, step_of_write, ledger_steps_of_call, ledger_steps_of_calls, IsNoSettling}
-use Rattle.enip_adapter.specs.OwnWrites.{OwnWrite, WritesData, WritesAttribute, SetsStatus, SetsState, Prepares, Settles, Finishes, objects_written, device_written}
+use Rattle.enip_adapter.specs.OwnWrites.{OwnWrite, WritesData, WritesAttribute, SetsStatus, SetsState, Prepares, Settles, Finishes, Marks, objects_written, device_written}
 use Rattle.enip_adapter.specs.Runs.{after_calls}
 use Rattle.enip_adapter.proofs.DeviceLemmas.{calls-run}
 
@@ -45,6 +45,7 @@ write-step (Settles originator number reply) device is = absurd is
 write-step (Finishes ticket reply) device is =
     finish-step ticket reply device (objects_written (Finishes ticket reply) device.router)
     (finished_of ticket reply device.router.queue)
+write-step (Marks ticket) device is = refl
 
 -- ---- any other call
 

@@ -21,14 +21,14 @@ use Rattle.cip_objects.specs.Contents.{Contents}
 use Rattle.cip_objects.specs.OwnRequests.{Asked, own_request}
 use Rattle.cip_owner.specs.Owned.{OwnedState}
 use Rattle.cip_owner.specs.Queue.{QueueState, QueuedCommand, takes, command_with, pushed, command_of, can_be_reply, with_finished as finished_queue}
-use Rattle.cip_owner.specs.QueueRuns.{after_steps, steps_of_own, steps_of_kind}
+use Rattle.cip_owner.specs.QueueRuns.{after_step, after_steps, steps_of_own, steps_of_kind, Marks as Marked}
 use Rattle.cip_owner.specs.Replies.{Reply}
 use Rattle.cip_owner.proofs.OwnedLemmas.{queue as queue_after}
-use Rattle.cip_owner.proofs.QueueLemmas.{reply_is}
+use Rattle.cip_owner.proofs.QueueLemmas.{reply_is, by_mark}
 use Rattle.cip_owner.proofs.TicketLemmas.{others_stay}
 use Rattle.enip_adapter.specs.Calls.{AdapterState, Call}
 use Rattle.enip_adapter.specs.DeviceRuns.{DeviceStep, Requested, WrittenBy, device_after_step, device_after, objects_after, objects_answer, steps_of_calls}
-use Rattle.enip_adapter.specs.OwnWrites.{OwnWrite, WritesData, WritesAttribute, SetsStatus, SetsState, Prepares, Settles, Finishes, device_written}
+use Rattle.enip_adapter.specs.OwnWrites.{OwnWrite, WritesData, WritesAttribute, SetsStatus, SetsState, Prepares, Settles, Finishes, Marks, device_written}
 use Rattle.enip_adapter.specs.QueueLaws.{is_waiting, PendingWait}
 use Rattle.enip_adapter.specs.Runs.{after_calls}
 use Rattle.enip_adapter.proofs.DeviceLemmas.{calls-end}
@@ -305,6 +305,13 @@ settled-wait by number reply device wait = λ originator ticket slot found is.
     by_ledger (Some ledger) slot originator ticket found is =
         by_case ledger (can_settle ledger by number reply) slot originator ticket found is
 
+-- a mark leaves all that waits
+marked-waits : (queue : Option QueueState) (ticket other : ℕ) → is_waiting other queue ≡ true
+    → is_waiting other (option_map (λ q. after_step q (Marked ticket)) queue) ≡ true
+marked-waits None ticket other is = is
+marked-waits (Some queue) ticket other is =
+    by_mark (λ q. is_some (command_of other q.waiting) ≡ true) queue ticket is (λ c e. is)
+
 written-wait : (write : OwnWrite) (device : Device) → PendingWait device → PendingWait (device_written write device)
 written-wait (WritesData instance offset bytes) device wait = wait
 written-wait (WritesAttribute class instance attribute offset bytes) device wait = wait
@@ -313,6 +320,8 @@ written-wait (SetsState state) device wait = wait
 written-wait (Prepares reply) device wait = wait
 written-wait (Settles by number reply) device wait = settled-wait by number reply device wait
 written-wait (Finishes ticket reply) device wait = finished-wait ticket reply device wait
+written-wait (Marks ticket) device wait = λ originator other slot found is.
+    marked-waits device.router.queue ticket other (wait originator other slot found is)
 
 -- ---- lists of calls
 

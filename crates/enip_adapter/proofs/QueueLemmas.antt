@@ -14,7 +14,7 @@ use Rattle.cip_owner.proofs.TicketLemmas.{tickets}
 use Rattle.enip_adapter.specs.Calls.{AdapterState, Call}
 use Rattle.enip_adapter.specs.DeviceRuns.{DeviceStep, Requested, WrittenBy, device_after_step, device_after, objects_after, objects_answer, objects_after_steps}
 use Rattle.enip_adapter.specs.DeviceRuns.{steps_of_calls}
-use Rattle.enip_adapter.specs.OwnWrites.{OwnWrite, WritesData, WritesAttribute, SetsStatus, SetsState, Prepares, Settles, Finishes, objects_written}
+use Rattle.enip_adapter.specs.OwnWrites.{OwnWrite, WritesData, WritesAttribute, SetsStatus, SetsState, Prepares, Settles, Finishes, Marks, objects_written}
 use Rattle.enip_adapter.specs.OwnerLaws.{owned_in}
 use Rattle.enip_adapter.specs.QueueLaws.{AreHandedOver, queue_steps_by_write, queue_steps_by_reached, queue_steps_by_step, queue_steps_by_steps, queue_steps_of_calls}
 use Rattle.enip_adapter.specs.Runs.{after_calls}
@@ -48,6 +48,7 @@ written-queue (SetsState state) owned = run-nothing owned.queue
 written-queue (Prepares reply) owned = run-nothing owned.queue
 written-queue (Settles originator number reply) owned = run-nothing owned.queue
 written-queue (Finishes ticket reply) owned = refl
+written-queue (Marks ticket) owned = refl
 
 few-queue : (owned : OwnedState) (requests : List Request) → AtMostOne requests
     → (objects_after_steps owned (map Requested requests)).queue

@@ -21,7 +21,7 @@ use Rattle.cip_owner.specs.Owned.{OwnedState}
 use Rattle.cip_owner.specs.Queue.{QueueState, QueuedCommand, command_of as waiting_command, finished_by, finished}
 use Rattle.cip_owner.specs.Replies.{Reply}
 use Rattle.enip_adapter.specs.OwnerLaws.{EndsNone}
-use Rattle.enip_adapter.specs.OwnWrites.{OwnWrite, WritesData, WritesAttribute, SetsStatus, SetsState, Prepares, Settles, Finishes, objects_written, ledger_written, device_written}
+use Rattle.enip_adapter.specs.OwnWrites.{OwnWrite, WritesData, WritesAttribute, SetsStatus, SetsState, Prepares, Settles, Finishes, Marks, objects_written, ledger_written, device_written}
 
 -- ---- what the ledger alone lets through
 
@@ -241,6 +241,7 @@ written-through (Settles by given reply) device request none = by_ledger device.
         → LetsThrough request (option_map (λ ledger. settled ledger by given reply) ledger) ledger
     by_ledger None = refl
     by_ledger (Some ledger) = alike-through (settled ledger by given reply) ledger request (settled-same ledger by given reply)
+written-through (Marks ticket) device request none = refl
 written-through (Finishes ticket reply) device request none =
     go device.ledger _ (finished-ledger ticket reply device) none
   where
@@ -270,6 +271,7 @@ written-settled (Settles by given reply) device originator number kept is = by_l
         → StaysSettled originator number (option_map (λ ledger. settled ledger by given reply) ledger)
     by_ledger None is = absurd is
     by_ledger (Some ledger) is = settled-stays ledger by given reply originator number kept is
+written-settled (Marks ticket) device originator number kept is = (kept, is)
 written-settled (Finishes ticket reply) device originator number kept is =
     go device.ledger _ (finished-ledger ticket reply device) is
   where

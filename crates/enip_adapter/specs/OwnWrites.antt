@@ -13,8 +13,9 @@ use Rattle.cip_owner.specs.QueueRuns.{after_step}
 use Rattle.cip_owner.specs.Replies.{Reply}
 
 -- Bytes of an assembly's data or of an attribute, from an offset on; the device's status, or its state; the reply that
--- the next request to the owner takes; the reply with which an originator's command in doubt is settled; or the owner's
--- reply with which the queued command of a ticket is finished.
+-- the next request to the owner takes; the reply with which an originator's command in doubt is settled; the owner's
+-- reply with which the queued command of a ticket is finished; or the mark that the command of a ticket, and each before
+-- it, was handed over.
 pub data OwnWrite : Type 0 where
   WritesData : (instance offset : ℕ) → (bytes : List ℕ) → OwnWrite
   WritesAttribute : (class instance attribute offset : ℕ) → (bytes : List ℕ) → OwnWrite
@@ -23,6 +24,7 @@ pub data OwnWrite : Type 0 where
   Prepares : (reply : Option Reply) → OwnWrite
   Settles : (originator number : ℕ) → (reply : List ℕ) → OwnWrite
   Finishes : (ticket : ℕ) → (reply : Reply) → OwnWrite
+  Marks : (ticket : ℕ) → OwnWrite
 
 -- The objects after the device wrote bytes into an attribute, from an offset on. The attribute is the data of an
 -- assembly or an attribute of an application object. None if it is neither, or if its value cannot hold the bytes.
@@ -49,6 +51,8 @@ objects_written (Prepares reply) owned = record owned { prepared = reply }
 objects_written (Settles originator number reply) owned = owned
 objects_written (Finishes ticket reply) owned =
     record owned { queue = option_map (λ queue. after_step queue (queue_runs.Finishes ticket reply)) owned.queue }
+objects_written (Marks ticket) owned =
+    record owned { queue = option_map (λ queue. after_step queue (queue_runs.Marks ticket)) owned.queue }
 
 -- The ledger after it, if there is one. Only settling a command changes it, and finishing a queued one that it executed.
 abbrev pub ledger_written : OwnWrite → Device → Option LedgerState
@@ -60,6 +64,7 @@ ledger_written (Prepares reply) device = device.ledger
 ledger_written (Settles originator number reply) device =
     option_map (λ ledger. settled ledger originator number reply) device.ledger
 ledger_written (Finishes ticket reply) device = (unwrap_or (finished_in ticket reply device) device).ledger
+ledger_written (Marks ticket) device = device.ledger
 
 -- Whether a command of the ledger, if there is one, can be settled with this reply.
 abbrev pub can_settle_in : Option LedgerState → ℕ → ℕ → List ℕ → Bool

@@ -20,15 +20,16 @@ use Rattle.cip_owner.specs.Replies.{Reply}
 use Rattle.enip_adapter.specs.Calls.{AdapterState, Call}
 use Rattle.enip_adapter.specs.DeviceRuns.{DeviceStep, Requested, WrittenBy, device_after_step, objects_after, objects_answer}
 use Rattle.enip_adapter.specs.DeviceRuns.{steps_of_calls}
-use Rattle.enip_adapter.specs.OwnWrites.{OwnWrite, Finishes, device_written}
+use Rattle.enip_adapter.specs.OwnWrites.{OwnWrite, Finishes, Marks, device_written}
 use Rattle.enip_adapter.specs.OwnerLaws.{owned_in}
 use Rattle.enip_adapter.specs.Runs.{after_calls}
 
 -- ---- the steps of the queue
 
--- Of the device's own writes, only a finish is one.
+-- Of the device's own writes, only a finish and a mark are.
 abbrev pub queue_steps_by_write : OwnWrite → List QueueStep
 queue_steps_by_write (Finishes ticket reply) = queue_runs.Finishes ticket reply ∷ []
+queue_steps_by_write (Marks ticket) = queue_runs.Marks ticket ∷ []
 queue_steps_by_write other = []
 
 -- A request that reaches the objects is a push if its service is queued.

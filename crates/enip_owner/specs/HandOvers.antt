@@ -37,10 +37,6 @@ after_next h waiting = with_handed h (next_ticket h waiting)
 abbrev pub with_new_session : HandOver → HandOver
 with_new_session h = record { ahead = h.ahead; earlier = max h.earlier h.handed; handed = 0 }
 
--- The greatest ticket before this one. There are tickets of 32 bits alone.
-abbrev pub earlier_than : ℕ → ℕ
-earlier_than next = min (next - 1) (2 ^ 32 - 1)
-
 -- ---- a queue, and sessions with owners
 
 -- The tickets that wait, the next ticket, and what was handed over.

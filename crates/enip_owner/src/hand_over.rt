@@ -1,7 +1,7 @@
 //! Which of the waiting commands an owner is handed next.
 
 ghost use Rattle.std.specs.Prelude.{◌≡◌, ◌-◌, max};
-ghost use Rattle.enip_owner.specs.HandOvers.{next_in, after_next, with_new_session, first_above, earlier_than, in_hand, next_ticket};
+ghost use Rattle.enip_owner.specs.HandOvers.{next_in, after_next, with_new_session, first_above, in_hand, next_ticket};
 
 /// A command that is handed over.
 #[derive(Clone, Copy, Debug, PartialEq, Eq)]
@@ -46,13 +46,13 @@ impl HandOver {
         }
     }
 
-    /// After a restart of the device, whose next ticket is `next`. All commands that wait may have been handed over before.
-    pub fn restarted(ahead: u16, next: u64) -> HandOver
-        ensures { result ≡ record { ahead = ahead; earlier = earlier_than next; handed = 0 } }
+    /// After a start of the device, when `earlier` is the greatest ticket that may have been handed over before, or 0.
+    pub fn restarted(ahead: u16, earlier: u32) -> HandOver
+        ensures { result ≡ record { ahead = ahead; earlier = earlier; handed = 0 } }
     {
         HandOver {
             ahead,
-            earlier: u32::try_from(next.saturating_sub(1)).unwrap_or(u32::MAX),
+            earlier,
             handed: 0,
         }
     }

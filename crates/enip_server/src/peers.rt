@@ -8,6 +8,7 @@ ghost use Rattle.cip_ledger.specs.Device.{finished_in};
 ghost use Rattle.cip_objects.specs.DeviceWrites.{device_write};
 ghost use Rattle.enip_adapter.specs.Discovery.{discovered};
 ghost use Rattle.enip_adapter.specs.OwnWrites.{OwnWrite, attribute_write};
+ghost use Rattle.enip_adapter.specs.QueueLaws.{is_waiting};
 ghost use Rattle.enip_server.specs.Rounds.{IsRound, ended_in};
 ghost use Rattle.enip_server.specs.Rounds.{state_of, new_peers, first_free, IsAdded, marked_ready, is_ready, earliest_of, next_moment};
 ghost use Rattle.enip_server.specs.Rounds.{idle_of, moment_or_none, written_by};
@@ -418,6 +419,21 @@ impl<W: Wire + Drop> Peers<W> {
             ≡ is_some (finished_in ticket reply.now (state_of self.old).adapter.state.shared.objects) }
     {
         self.adapter.finish(ticket, reply)
+    }
+
+    /// Marks a queued command, by its ticket, and each that waits before it, as handed over to the owner.
+    ///
+    /// Returns `false`, and changes nothing, if no command with this ticket waits (`Adapter::mark`). No slot, wire, buffer
+    /// or idle timeout changes.
+    ///
+    /// ```
+    /// let waits = peers.mark(ticket);
+    /// ```
+    pub fn mark(&mut self, ticket: u32) -> bool
+        ensures call { state_of self.new ≡ written_by (OwnWrite.Marks ticket) (state_of self.old) }
+        ensures told { result ≡ is_waiting ticket (state_of self.old).adapter.state.shared.objects.router.queue }
+    {
+        self.adapter.mark(ticket)
     }
 
     /// Closes all peers if the device was reset, that is, if `Adapter::resets` is not `before` any more. Call it after

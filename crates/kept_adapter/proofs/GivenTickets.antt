@@ -29,7 +29,7 @@ use Rattle.cip_owner.proofs.OwnedLemmas.{queue as exec_queue}
 use Rattle.cip_owner.proofs.QueueLemmas.{queue_stays, next_rises, push_passes}
 use Rattle.enip_adapter.specs.DeviceRuns.{DeviceStep, Requested, WrittenBy, device_after_step, objects_after, objects_answer}
 use Rattle.enip_adapter.specs.OwnWrites.{OwnWrite, WritesData, WritesAttribute, SetsStatus, SetsState, Prepares}
-use Rattle.enip_adapter.specs.OwnWrites.{Settles, Finishes, ledger_written, objects_written}
+use Rattle.enip_adapter.specs.OwnWrites.{Settles, Finishes, Marks, ledger_written, objects_written}
 use Rattle.enip_adapter.specs.QueueLaws.{queue_steps_by_step}
 use Rattle.enip_adapter.proofs.QueueLemmas.{step-queue}
 use Rattle.enip_adapter.proofs.SettleLemmas.{IsFinished, Unchanged, Completed, finished-ledger}
@@ -334,6 +334,7 @@ written_given (Settles originator number reply) device all =
 written_given (Finishes ticket reply) device all =
     finished_given ticket device.ledger (ledger_written (Finishes ticket reply) device) device.router.queue
     (finished-ledger ticket reply device) all
+written_given (Marks ticket) device all = all
 
 pub step_given : (device : Device) (step : DeviceStep) → has_given_all device.ledger device.router.queue ≡ true
     → has_given_all (device_after_step device step).ledger (device_after_step device step).router.queue ≡ true

@@ -45,7 +45,7 @@ use Rattle.enip_adapter.specs.DeviceRuns.{DeviceStep, Requested, WrittenBy, devi
 use Rattle.enip_adapter.specs.DeviceRuns.{objects_answer}
 use Rattle.kept_adapter.specs.Restarts.{IsOfBytes}
 use Rattle.enip_adapter.specs.OwnWrites.{OwnWrite, WritesData, WritesAttribute, SetsStatus, SetsState, Prepares}
-use Rattle.enip_adapter.specs.OwnWrites.{Settles, Finishes, ledger_written}
+use Rattle.enip_adapter.specs.OwnWrites.{Settles, Finishes, Marks, ledger_written}
 use Rattle.enip_adapter.proofs.SettleLemmas.{IsFinished, Unchanged, Completed, finished-ledger}
 use Rattle.kept_adapter.proofs.GivenTickets.{StandsQueued, stands_queued, pending_narrow}
 
@@ -385,6 +385,7 @@ written_stays (Settles originator number reply) device is =
 written_stays (Finishes ticket reply) device is =
     finished_stays ticket device.ledger (ledger_written (Finishes ticket reply) device)
     (finished-ledger ticket reply device) is
+written_stays (Marks ticket) device is = is
 
 pub step_stays : (device : Device) (step : DeviceStep) → IsOfBytes step → IfSome device.ledger IsLedger
     → IfSome (device_after_step device step).ledger IsLedger

@@ -26,7 +26,7 @@ use Rattle.cip_owner.specs.QueueRuns.{after_step, after_steps, QueueStep}
 use Rattle.enip_adapter.specs.DeviceRuns.{DeviceStep, Requested, WrittenBy, device_after_step, objects_after}
 use Rattle.enip_adapter.specs.DeviceRuns.{objects_answer}
 use Rattle.enip_adapter.specs.OwnWrites.{OwnWrite, WritesData, WritesAttribute, SetsStatus, SetsState, Prepares}
-use Rattle.enip_adapter.specs.OwnWrites.{Settles, Finishes, ledger_written, device_written}
+use Rattle.enip_adapter.specs.OwnWrites.{Settles, Finishes, Marks, ledger_written, device_written}
 use Rattle.enip_adapter.specs.QueueLaws.{queue_steps_by_step}
 use Rattle.enip_adapter.proofs.DeviceLemmas.{above-append}
 use Rattle.enip_adapter.proofs.QueueLemmas.{step-queue}
@@ -95,6 +95,7 @@ written_slots (Settles originator number reply) device =
 written_slots (Finishes ticket reply) device =
     finished_slots ticket device.ledger (ledger_written (Finishes ticket reply) device)
     (finished-ledger ticket reply device)
+written_slots (Marks ticket) device = refl
 
 step_slots : (device : Device) (step : DeviceStep)
     → slots_of (device_after_step device step).ledger ≡ slots_of device.ledger
@@ -328,6 +329,7 @@ written_final (Settles by given reply) device originator number content other fi
 written_final (Finishes ticket reply) device originator number content other final is =
     finished_final ticket device.ledger (ledger_written (Finishes ticket reply) device) originator number content
     (finished-ledger ticket reply device) final is
+written_final (Marks ticket) device originator number content other final is = is
 
 pub stays_settled : (own : Sizes) (device : Device) (steps : List LifeStep) (originator number : ℕ) (content : List ℕ)
     → AreGoingOn own device steps → AllByRecursion (SettlesNothingOf originator) steps

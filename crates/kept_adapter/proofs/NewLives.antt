@@ -20,7 +20,7 @@ use Rattle.cip_ledger.proofs.Settled.{Settled, next_by, settled-run, settled-com
 use Rattle.cip_ledger.proofs.Settled.{journal-life}
 use Rattle.enip_adapter.specs.DeviceRuns.{Requested, WrittenBy, objects_after, objects_answer}
 use Rattle.enip_adapter.specs.OwnWrites.{OwnWrite, WritesData, WritesAttribute, SetsStatus, SetsState, Prepares}
-use Rattle.enip_adapter.specs.OwnWrites.{Settles, Finishes, ledger_written, device_written}
+use Rattle.enip_adapter.specs.OwnWrites.{Settles, Finishes, Marks, ledger_written, device_written}
 use Rattle.enip_adapter.proofs.DeviceLemmas.{above-append}
 use Rattle.enip_adapter.proofs.SettleLemmas.{IsFinished, Unchanged, Completed, finished-ledger}
 use Rattle.kept_adapter.specs.declared.adapter_start.AdapterStart.{AdapterStart}
@@ -82,6 +82,7 @@ written_life (Settles originator number reply) device =
 written_life (Finishes ticket reply) device =
     finished_life ticket device.ledger (ledger_written (Finishes ticket reply) device)
     (finished-ledger ticket reply device)
+written_life (Marks ticket) device = refl
 
 -- ---- a number that is never executed again
 
@@ -198,6 +199,7 @@ written_blocked (Settles by given reply) device life originator number is =
 written_blocked (Finishes ticket reply) device life originator number is =
     finished_blocked ticket device.ledger (ledger_written (Finishes ticket reply) device) life originator number
     (finished-ledger ticket reply device) is
+written_blocked (Marks ticket) device life originator number is = is
 
 new_blocked : (ledger : Option LedgerStart) (life originator number : ℕ) → IfSome ledger (λ l. l.life ≢ life)
     → Blocked life originator number (new_ledger ledger)

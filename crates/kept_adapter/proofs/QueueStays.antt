@@ -2,7 +2,8 @@
 use Rattle.std.proofs.Common.{◌≡◌, ℕ, true, false, if◌then◌else◌, Option, Some, None, unwrap_or, List, [], ◌∷◌, refl, ◌∙◌}
 use Rattle.cip_owner.specs.Queue.{QueueState, QueuedCommand, takes, pushed, command_of, can_be_reply, with_finished}
 use Rattle.cip_owner.specs.Queue.{finished_by}
-use Rattle.cip_owner.specs.QueueRuns.{QueueStep, Pushes, Finishes, after_step, after_steps}
+use Rattle.cip_owner.specs.QueueRuns.{QueueStep, Pushes, Finishes, Marks, after_step, after_steps}
+use Rattle.cip_owner.proofs.QueueLemmas.{by_mark}
 use Rattle.cip_owner.specs.Replies.{Reply}
 
 finished_limit : (q : QueueState) (ticket : ℕ) (reply : Reply) (found : Option QueuedCommand)
@@ -19,6 +20,7 @@ step_limit : (q : QueueState) (step : QueueStep) → (after_step q step).limit �
 step_limit q (Pushes asked) =
     elim (takes q asked) as (λ t. (if t then pushed q asked else q).limit ≡ q.limit) [ true ↦ refl | false ↦ refl ]
 step_limit q (Finishes ticket reply) = finished_limit q ticket reply (command_of ticket q.waiting)
+step_limit q (Marks ticket) = by_mark (λ p. p.limit ≡ q.limit) q ticket refl (λ c e. refl)
 
 pub after_steps_limit : (q : QueueState) (steps : List QueueStep) → (after_steps q steps).limit ≡ q.limit
 after_steps_limit q [] = refl

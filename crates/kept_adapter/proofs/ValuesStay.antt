@@ -77,7 +77,7 @@ use Rattle.enip_adapter.specs.Calls.{AdapterState, Call}
 use Rattle.enip_adapter.specs.DeviceRuns.{DeviceStep, Requested, WrittenBy, device_after, device_after_step}
 use Rattle.enip_adapter.specs.DeviceRuns.{steps_of_calls, objects_after, objects_answer}
 use Rattle.enip_adapter.specs.OwnWrites.{OwnWrite, WritesData, WritesAttribute, SetsStatus, SetsState, Prepares, Settles}
-use Rattle.enip_adapter.specs.OwnWrites.{Finishes}
+use Rattle.enip_adapter.specs.OwnWrites.{Finishes, Marks}
 use Rattle.enip_adapter.specs.OwnWrites.{attribute_write, device_written}
 use Rattle.enip_adapter.specs.Runs.{after_calls}
 use Rattle.enip_adapter.proofs.DeviceLemmas.{calls-end}
@@ -861,6 +861,7 @@ written_values (SetsState state) device have = identity_values device.router.obj
 written_values (Prepares reply) device have = have
 written_values (Settles originator number reply) device have = have
 written_values (Finishes ticket reply) device have = have
+written_values (Marks ticket) device have = have
 
 -- ---- all steps
 

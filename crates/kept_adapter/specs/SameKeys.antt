@@ -56,7 +56,7 @@ use Rattle.enip_adapter.specs.Calls.{AdapterState, Call}
 use Rattle.enip_adapter.specs.DeviceRuns.{DeviceStep, Requested, WrittenBy, device_after, device_after_step, steps_of_calls}
 use Rattle.enip_adapter.specs.DeviceRuns.{objects_after, objects_answer}
 use Rattle.enip_adapter.specs.OwnWrites.{OwnWrite, WritesData, WritesAttribute, SetsStatus, SetsState, Prepares, Settles}
-use Rattle.enip_adapter.specs.OwnWrites.{Finishes, attribute_write, ledger_written, device_written}
+use Rattle.enip_adapter.specs.OwnWrites.{Finishes, Marks, attribute_write, ledger_written, device_written}
 use Rattle.enip_adapter.specs.QueueLaws.{queue_steps_by_step}
 use Rattle.enip_adapter.specs.Runs.{after_calls}
 use Rattle.enip_adapter.proofs.DeviceLemmas.{calls-end}
@@ -385,6 +385,7 @@ write_shapes (SetsState state) device = refl
 write_shapes (Prepares reply) device = refl
 write_shapes (Settles originator number reply) device = refl
 write_shapes (Finishes ticket reply) device = refl
+write_shapes (Marks ticket) device = refl
 
 finished_alike : (ticket : ℕ) (old new : Option LedgerState) → IsFinished ticket old new → is_some new ≡ is_some old
 finished_alike ticket old new Unchanged = refl
@@ -401,6 +402,7 @@ write_ledger (Settles originator number reply) device =
 write_ledger (Finishes ticket reply) device =
     finished_alike ticket device.ledger (ledger_written (Finishes ticket reply) device)
     (finished-ledger ticket reply device)
+write_ledger (Marks ticket) device = refl
 
 -- ---- all steps
 

@@ -1,16 +1,17 @@
 -- Commands that are handed over.
 use Rattle.std.proofs.Common.{◌≡◌, ◌++◌, drop, length, is_ok, Result, Ok, Err, ℕ, zero, suc, ◌+◌, ◌<◌, ◌≤◌, ◌==◌, nat_lt, Bool, true, false, if◌then◌else◌, List, [], ◌∷◌, map, Option, Some, None, refl, sym, ap, subst, ◌∙◌, append_assoc, arith}
-use Rattle.std.specs.Prelude.{option_map, slice_get, OnOk}
-use Rattle.std.proofs.lemmas.Bool.{false≢true, eq-eqb, ltb-true, ltb-false, lt-ltb, le-ltb}
+use Rattle.std.specs.Prelude.{filter, nat_le, option_map, slice_get, OnOk}
+use Rattle.std.proofs.lemmas.Bool.{false≢true, eq-eqb, eqb-true, ltb-true, ltb-false, lt-ltb, le-ltb}
 use Rattle.std.proofs.lemmas.Option.{none-some, same_Some}
-use Rattle.cip_owner.specs.Queue.{QueueState, QueuedCommand, command_of, command_ticket}
+use Rattle.cip_owner.specs.Queue.{QueueState, QueuedCommand, command_of, command_ticket, is_handed, handed_commands}
+use Rattle.cip_owner.proofs.ListLemmas.{first-number}
 use Rattle.enip_owner.specs.declared.hand_over.HandOver.{HandOver}
 use Rattle.enip_owner.specs.declared.hand_over.HandedOver.{HandedOver}
 use Rattle.enip_owner.specs.HandOvers.{first_above, next_ticket, handed_over, next_in, after_next, with_handed}
 use Rattle.enip_owner.proofs.HandOverLemmas.{next_first}
 use Rattle.owner_port.specs.declared.senders.Sender.{Sender}
 use Rattle.owner_port.specs.declared.session.Session.{Session}
-use Rattle.owner_port.specs.Handing.{waits_law, AreAllHanded, NoneLeft, Hands, IsCommandSent}
+use Rattle.owner_port.specs.Handing.{waits_law, marked_tickets, AreAllHanded, NoneLeft, Hands, IsCommandSent}
 use Rattle.owner_port.specs.Sessions.{has_space}
 
 -- ---- what is handed over waits
@@ -43,11 +44,38 @@ first_of None h handed is = absurd (none-some handed is)
 first_of (Some ticket) h handed is =
     ap (λ (o : HandedOver). Some o.ticket) (same_Some (handed_over h ticket) handed is)
 
+-- What is among the commands that pass a test is among all, and passes it. Two commands with the same ticket pass alike.
+among_filter : (queue : QueueState) (commands : List QueuedCommand) (ticket : ℕ)
+    → IsAmong (filter (is_handed queue) commands) ticket
+    → (command : QueuedCommand) × (command_of ticket commands ≡ Some command) × (is_handed queue command ≡ true)
+among_filter queue [] ticket is = absurd (none-some is.0 is.1)
+among_filter queue (command ∷ commands) ticket is =
+    go (is_handed queue command) (command.ticket == ticket) refl refl is (among_filter queue commands ticket)
+  where
+    same_mark : (a b : ℕ) (last : ℕ) → a ≡ b → nat_le a last ≡ nat_le b last
+    same_mark a b last e = ap (λ n. nat_le n last) e
+
+    go : (passes own : Bool) → is_handed queue command ≡ passes → (command.ticket == ticket) ≡ own
+        → IsAmong (if passes then command ∷ filter (is_handed queue) commands else filter (is_handed queue) commands) ticket
+        → (IsAmong (filter (is_handed queue) commands) ticket
+        → (other : QueuedCommand) × (command_of ticket commands ≡ Some other) × (is_handed queue other ≡ true))
+        → (other : QueuedCommand) × (command_of ticket (command ∷ commands) ≡ Some other) × (is_handed queue other ≡ true)
+    go true true h e among later = (command, rw e refl, h)
+    go true false h e among later =
+        let rest = later (among.0, rw e at among.1) in (rest.0, rw e rest.1, rest.2)
+    go false true h e among later =
+        let rest = later among in
+        let own : command.ticket ≡ ticket = eqb-true command.ticket ticket e in
+        let other : rest.0.ticket ≡ ticket = first-number command_ticket ticket commands rest.0 rest.1 in
+        absurd (false≢true (sym h ∙ same_mark command.ticket rest.0.ticket queue.handed (own ∙ sym other) ∙ rest.2))
+    go false false h e among later = let rest = later among in (rest.0, rw e rest.1, rest.2)
+
 pub waits : waits_law
 waits queue h handed is =
-    let next : next_ticket h (map command_ticket queue.waiting) ≡ Some handed.ticket =
-    first_of (next_ticket h (map command_ticket queue.waiting)) h handed is in
-    found-at queue.waiting h.handed handed.ticket (next_first h (map command_ticket queue.waiting) handed.ticket next)
+    let marked = marked_tickets queue in
+    let next : next_ticket h marked ≡ Some handed.ticket = first_of (next_ticket h marked) h handed is in
+    among_filter queue queue.waiting handed.ticket
+    (found-at (handed_commands queue) h.handed handed.ticket (next_first h marked handed.ticket next))
 
 -- ---- each hand-over leaves fewer
 
@@ -164,13 +192,41 @@ on_ok : {A E : Type 0} {P Q : Type 0} (r : Result A E) → (P → Q) → OnOk r 
 on_ok (Ok x) f p = f p
 on_ok (Err e) f p = tt
 
+-- The commands from an index on, by the first of them.
+abbrev from_index : QueueState → List QueuedCommand → ℕ → List ℕ
+from_index queue waiting index = map command_ticket (filter (is_handed queue) (drop index waiting))
+
+first_from : (queue : QueueState) (waiting : List QueuedCommand) (index : ℕ) (command : QueuedCommand) (passes : Bool)
+    → slice_get waiting index ≡ Some command → is_handed queue command ≡ passes
+    → from_index queue waiting index
+    ≡ (if passes then command.ticket ∷ from_index queue waiting (index + 1) else from_index queue waiting (index + 1))
+first_from queue waiting index command passes is h =
+    ap (λ l. map command_ticket (filter (is_handed queue) l)) (drop-at waiting index command is) ∙ go passes h
+  where
+    go : (b : Bool) → is_handed queue command ≡ b
+        → map command_ticket (if is_handed queue command then command ∷ filter (is_handed queue) (drop (index + 1) waiting)
+        else filter (is_handed queue) (drop (index + 1) waiting))
+        ≡ (if b then command.ticket ∷ from_index queue waiting (index + 1) else from_index queue waiting (index + 1))
+    go true e = rw e refl
+    go false e = rw e refl
+
 -- One more ticket, and then the others.
-pub collected : {E : Type 0} (r : Result (Unit {0}) E) (waiting : List QueuedCommand) (index : ℕ) (command : QueuedCommand)
-    (old pushed new : List ℕ) → slice_get waiting index ≡ Some command → pushed ≡ old ++ command.ticket ∷ []
-    → OnOk r (new ≡ pushed ++ map command_ticket (drop (index + 1) waiting))
-    → OnOk r (new ≡ old ++ map command_ticket (drop index waiting))
-collected r waiting index command old pushed new is pushes more =
-    on_ok r (λ (e : new ≡ pushed ++ map command_ticket (drop (index + 1) waiting)).
-    e ∙ ap (λ l. l ++ map command_ticket (drop (index + 1) waiting)) pushes
-    ∙ append_assoc old (command.ticket ∷ []) (map command_ticket (drop (index + 1) waiting))
-    ∙ ap (λ l. old ++ map command_ticket l) (sym (drop-at waiting index command is))) more
+pub collected : {E : Type 0} (r : Result (Unit {0}) E) (queue : QueueState) (index : ℕ) (command : QueuedCommand)
+    (old pushed new : List ℕ) → slice_get queue.waiting index ≡ Some command → is_handed queue command ≡ true
+    → pushed ≡ old ++ command.ticket ∷ []
+    → OnOk r (new ≡ pushed ++ from_index queue queue.waiting (index + 1))
+    → OnOk r (new ≡ old ++ from_index queue queue.waiting index)
+collected r queue index command old pushed new is marked pushes more =
+    on_ok r (λ (e : new ≡ pushed ++ from_index queue queue.waiting (index + 1)).
+    e ∙ ap (λ l. l ++ from_index queue queue.waiting (index + 1)) pushes
+    ∙ append_assoc old (command.ticket ∷ []) (from_index queue queue.waiting (index + 1))
+    ∙ ap (λ l. old ++ l) (sym (first_from queue queue.waiting index command true is marked))) more
+
+-- One that was not handed over is left out.
+pub left_out : {E : Type 0} (r : Result (Unit {0}) E) (queue : QueueState) (index : ℕ) (command : QueuedCommand)
+    (old new : List ℕ) → slice_get queue.waiting index ≡ Some command → is_handed queue command ≡ false
+    → OnOk r (new ≡ old ++ from_index queue queue.waiting (index + 1))
+    → OnOk r (new ≡ old ++ from_index queue queue.waiting index)
+left_out r queue index command old new is unmarked more =
+    on_ok r (λ (e : new ≡ old ++ from_index queue queue.waiting (index + 1)).
+    e ∙ ap (λ l. old ++ l) (sym (first_from queue queue.waiting index command false is unmarked))) more

@@ -2,9 +2,11 @@
 use Rattle.std.proofs.Common.{◌≡◌, ℕ, Bool, true, false, List, [], ◌∷◌, Option, Some, None, unwrap_or, Result, Ok, Err, refl, sym, ap, subst, ◌∙◌, ◌⊎◌, inl, inr}
 use Rattle.std.specs.Prelude.{option_map}
 use Rattle.cip_owner.specs.Queue.{QueueState, QueuedCommand, command_of, can_be_reply, with_finished, finished_by}
+use Rattle.cip_owner.specs.QueueRuns.{after_step, Marks as Marked}
+use Rattle.cip_owner.proofs.QueueLemmas.{by_mark}
 use Rattle.cip_owner.specs.Replies.{Reply}
 use Rattle.cip_values.specs.declared.element.ValueType.{ValueType}
-use Rattle.enip_adapter.specs.OwnWrites.{OwnWrite, WritesData, WritesAttribute, SetsStatus, SetsState, Prepares, Settles, Finishes}
+use Rattle.enip_adapter.specs.OwnWrites.{OwnWrite, WritesData, WritesAttribute, SetsStatus, SetsState, Prepares, Settles, Finishes, Marks}
 use Rattle.enip_owner.specs.declared.attribute_ref.AttributeRef.{AttributeRef}
 use Rattle.enip_owner.specs.declared.line_buffer.LineOutcome.{LineOutcome}
 use Rattle.enip_owner.specs.declared.line_buffer.LineOutcome.TheVariants as outcomes
@@ -62,6 +64,11 @@ next-of : (queue : Option QueueState) (ticket : ℕ) (reply : Reply)
 next-of None ticket reply = refl
 next-of (Some queue) ticket reply = next-finished queue ticket reply (command_of ticket queue.waiting)
 
+next-marked : (queue : Option QueueState) (ticket : ℕ)
+    → next_in (option_map (λ q. after_step q (Marked ticket)) queue) ≡ next_in queue
+next-marked None ticket = refl
+next-marked (Some queue) ticket = by_mark (λ q. q.next ≡ queue.next) queue ticket refl (λ c e. refl)
+
 own_next : {W : Type 0} (write : OwnWrite) (before : ServerState W)
     → next_in (queue_in (written_by write before).adapter) ≡ next_in (queue_in before.adapter)
 own_next (WritesData instance offset bytes) before = refl
@@ -71,6 +78,7 @@ own_next (SetsState state) before = refl
 own_next (Prepares reply) before = refl
 own_next (Settles originator number reply) before = refl
 own_next (Finishes ticket reply) before = next-of before.adapter.state.shared.objects.router.queue ticket reply
+own_next (Marks ticket) before = next-marked before.adapter.state.shared.objects.router.queue ticket
 
 own_resets : {W : Type 0} (write : OwnWrite) (before : ServerState W)
     → resets_of (written_by write before).adapter ≡ resets_of before.adapter
@@ -81,6 +89,7 @@ own_resets (SetsState state) before = refl
 own_resets (Prepares reply) before = refl
 own_resets (Settles originator number reply) before = refl
 own_resets (Finishes ticket reply) before = refl
+own_resets (Marks ticket) before = refl
 
 written-unseen : {W : Type 0} (write : OwnWrite) (before after : ServerState W) → after ≡ written_by write before
     → IsUnseen before after

@@ -15,7 +15,7 @@ use Rattle.cip_objects.specs.ObjectMap.{Key, key}
 use Rattle.cip_objects.specs.Tables.{Shape, AttributeShape, shape_at, object_at, attribute_at}
 use Rattle.enip_adapter.specs.Calls.{AdapterState, after_call}
 use Rattle.enip_adapter.specs.Calls.Call.{Writes}
-use Rattle.enip_adapter.specs.OwnWrites.{OwnWrite, WritesData, WritesAttribute, SetsStatus, SetsState, Prepares, Settles, Finishes, attribute_write}
+use Rattle.enip_adapter.specs.OwnWrites.{OwnWrite, WritesData, WritesAttribute, SetsStatus, SetsState, Prepares, Settles, Finishes, Marks, attribute_write}
 use Rattle.owner_port.specs.declared.set_count.SetCount.{SetCount}
 use Rattle.owner_port.specs.Sets.{tallies_in, key_of, count_of, sets_since, after_sets, how_often, reports_law, own_write_law}
 
@@ -73,6 +73,7 @@ own_write a (SetsState state) = refl
 own_write a (Prepares reply) = refl
 own_write a (Settles originator number reply) = refl
 own_write a (Finishes ticket reply) = refl
+own_write a (Marks ticket) = refl
 
 -- ---- keys
 

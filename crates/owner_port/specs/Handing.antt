@@ -1,7 +1,7 @@
--- Which of the waiting commands are queued for the owner.
-use Rattle.std.specs.Prelude.{◌≡◌, ◌⊎◌, ℕ, Bool, true, false, List, map, Option, Some, None, Result, Vec}
+-- Which of the waiting commands are marked, and which of those are queued for the owner.
+use Rattle.std.specs.Prelude.{◌≡◌, ◌⊎◌, ℕ, ◌-◌, ◌==◌, min, if◌then◌else◌, Bool, true, false, List, length, map, slice_get, option_map, Option, Some, None, Result, Vec}
 use Rattle.std.specs.declared.alloc.Global.{Global}
-use Rattle.cip_owner.specs.Queue.{QueueState, QueuedCommand, command_of, command_ticket}
+use Rattle.cip_owner.specs.Queue.{QueueState, QueuedCommand, command_of, command_ticket, is_handed, handed_commands}
 use Rattle.enip_owner.specs.declared.event.CommandEvent.{CommandEvent}
 use Rattle.enip_owner.specs.declared.event_fault.EventFault.{EventFault}
 use Rattle.enip_owner.specs.declared.hand_over.HandOver.{HandOver}
@@ -47,16 +47,37 @@ pub data AreAllHanded (queue : QueueState) (known : List Sender) (waiting : List
       → AreAllHanded queue known waiting (after_next h waiting) between last new
       → AreAllHanded queue known waiting h s last new
 
--- The commands that wait, in their order. If memory is refused, the session is over.
+-- The tickets of the waiting commands that were marked as handed over, in their order.
+abbrev pub marked_tickets : QueueState → List ℕ
+marked_tickets queue = map command_ticket (handed_commands queue)
+
+-- The commands that are marked, in their order. If memory is refused, the session is over.
 abbrev pub AreHanded : QueueState → List Sender → HandOver → Session → HandOver → Session → Type 0
 AreHanded queue known h s last new =
-    AreAllHanded queue known (map command_ticket queue.waiting) h s last new
+    AreAllHanded queue known (marked_tickets queue) h s last new
     ⊎ ((last ≡ h) × (has_space s ≡ true) × (new ≡ with_end ends.Memory s))
 
 -- ---- the law
 
--- What is handed over waits, so that its line is queued.
+-- What is handed over waits, so that its line is queued, and is marked.
 abbrev pub waits_law : Type 0
 waits_law = (queue : QueueState) (h : HandOver) (handed : HandedOver)
-    → next_in h (map command_ticket queue.waiting) ≡ Some handed
+    → next_in h (marked_tickets queue) ≡ Some handed
     → (command : QueuedCommand) × (command_of handed.ticket queue.waiting ≡ Some command)
+    × (is_handed queue command ≡ true)
+
+-- ---- marking
+
+-- The ticket of the command at a place, of those that wait.
+abbrev pub ticket_at : List QueuedCommand → ℕ → Option ℕ
+ticket_at waiting index = option_map command_ticket (slice_get waiting index)
+
+-- The ticket up to which the owner may have commands in hand: that of the last of the first `ahead` that wait. None if
+-- none waits, or if the owner may have none.
+abbrev pub last_ahead : ℕ → List QueuedCommand → Option ℕ
+last_ahead ahead waiting =
+    if min ahead (length waiting) == 0 then None else ticket_at waiting (min ahead (length waiting) - 1)
+
+abbrev pub last_in : ℕ → Option QueueState → Option ℕ
+last_in ahead None = None
+last_in ahead (Some queue) = last_ahead ahead queue.waiting

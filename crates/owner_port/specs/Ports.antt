@@ -1,5 +1,5 @@
 -- The port of a device's owner: what a frame of a peer, a line of the owner and a round do to it.
-use Rattle.std.specs.Prelude.{◌≡◌, ◌↔◌, ℕ, ◌-◌, Bool, true, false, IsTrue, is_some, map, option_map, List, [], ◌∷◌, Option, Some, None, Vec}
+use Rattle.std.specs.Prelude.{◌≡◌, ◌↔◌, ℕ, ◌-◌, Bool, true, false, IsTrue, if◌then◌else◌, nat_lt, is_some, map, option_map, List, [], ◌∷◌, Option, Some, None, Vec}
 use Rattle.std.specs.declared.alloc.Global.{Global}
 use Rattle.std.specs.declared.net.ip_addr.IpAddr.{IpAddr}
 use Rattle.cip_ledger.specs.Device.{Device}
@@ -11,9 +11,10 @@ use Rattle.enip_adapter.specs.Endings.{updated}
 use Rattle.enip_owner.specs.declared.hand_over.HandOver.{HandOver}
 use Rattle.enip_owner.specs.declared.line_buffer.LineOutcome.{LineOutcome}
 use Rattle.enip_owner.specs.declared.line_buffer.LineOutcome.TheVariants as outcomes
-use Rattle.enip_owner.specs.HandOvers.{with_new_session, earlier_than}
+use Rattle.enip_owner.specs.HandOvers.{with_new_session}
 use Rattle.enip_owner.specs.Streams.{no_line, IsFed}
-use Rattle.enip_server.specs.Rounds.{ServerState}
+use Rattle.enip_adapter.specs.OwnWrites.{Marks}
+use Rattle.enip_server.specs.Rounds.{ServerState, written_by}
 use Rattle.owner_port.specs.declared.attribute_table.TypedAttribute.{TypedAttribute}
 use Rattle.owner_port.specs.declared.device_table.DeviceTable.{DeviceTable}
 use Rattle.owner_port.specs.declared.execution.Answer.{Answer}
@@ -24,7 +25,7 @@ use Rattle.owner_port.specs.declared.senders.Sender.{Sender}
 use Rattle.owner_port.specs.declared.session.Session.{Session}
 use Rattle.owner_port.specs.declared.set_count.SetCount.{SetCount}
 use Rattle.owner_port.specs.Execution.{IsAnswered}
-use Rattle.owner_port.specs.Handing.{AreHanded}
+use Rattle.owner_port.specs.Handing.{AreHanded, last_in}
 use Rattle.owner_port.specs.Questions.{IsNoQuestions, with_list}
 use Rattle.owner_port.specs.Senders.{next_in, without_sender, AreNoted, IsNobody}
 use Rattle.owner_port.specs.Sessions.{no_session, begun, opened, is_open, awaits_token, can_feed, with_end, with_next_line, AreSent, IsSent, IsSetReported, IsResetSeen, AreEndsReported, IsHelloLine, IsErrorLine, IsLineAnswered}
@@ -35,6 +36,11 @@ contents_in a = a.state.shared.objects.router.objects
 
 abbrev pub queue_in : AdapterState → Option QueueState
 queue_in a = a.state.shared.objects.router.queue
+
+-- The greatest ticket that was handed over, or 0.
+abbrev pub handed_of : Option QueueState → ℕ
+handed_of None = 0
+handed_of (Some queue) = queue.handed
 
 -- The life of the command ledger, if there is one.
 abbrev pub life_in : AdapterState → Option ℕ
@@ -109,13 +115,26 @@ pub record IsHelloSent (table : DeviceTable) (life : Option ℕ) (old new : Sess
   pub while_open : is_open old.phase ≡ true → IsSent (IsHelloLine table life) old new
   pub while_closed : is_open old.phase ≡ false → new ≡ old
 
--- All sets up to now count as reported. Commands that wait already may have been handed over before.
+-- The ticket up to which commands are marked now: there is an owner, and it may have them in hand.
+abbrev pub mark_of : OwnerPort → AdapterState → Option ℕ
+mark_of port a = if is_open port.session.phase then last_in port.table.ahead (queue_in a) else None
+
+-- The peers and their device after a mark.
+abbrev pub after_mark : {W : Type 0} → Option ℕ → ServerState W → ServerState W
+after_mark None before = before
+after_mark (Some ticket) before = written_by (Marks ticket) before
+
+abbrev pub is_above : ℕ → Option ℕ → Bool
+is_above handed None = false
+is_above handed (Some ticket) = nat_lt handed ticket
+
+-- All sets up to now count as reported. Commands that are marked already were handed over before.
 pub record IsNewPort (table : DeviceTable) (timeout : ℕ) (a : AdapterState) (new : OwnerPort) : Type 0 where
   pub table_is : new.table ≡ table
   pub counts : new.counts.sets.items ≡ map (new_count (tallies_in a)) table.settable.items
   pub resets : new.counts.resets ≡ resets_of a
   pub senders : IsNobody (queue_in a) new.senders
-  pub hand_over : new.hand_over ≡ record { ahead = table.ahead; earlier = earlier_than (next_in (queue_in a)); handed = 0 }
+  pub hand_over : new.hand_over ≡ record { ahead = table.ahead; earlier = handed_of (queue_in a); handed = 0 }
   pub lines : new.lines ≡ no_line
   pub session : new.session ≡ no_session
   pub questions : IsNoQuestions timeout new.questions

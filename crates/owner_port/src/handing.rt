@@ -1,9 +1,9 @@
 //! Queues the commands that wait.
 
-ghost use Rattle.std.specs.Prelude.{◌≡◌, ◌++◌, OnOk, map, drop};
-ghost use Rattle.cip_owner.specs.Queue.{command_ticket};
+ghost use Rattle.std.specs.Prelude.{◌≡◌, ◌++◌, OnOk, map, drop, filter};
+ghost use Rattle.cip_owner.specs.Queue.{command_ticket, is_handed};
 ghost use Rattle.cip_owner.specs.QueueViews.{waiting_in};
-ghost use Rattle.owner_port.specs.Handing.{AreHanded, AreAllHanded, IsCommandSent, IsCommandLine};
+ghost use Rattle.owner_port.specs.Handing.{AreHanded, AreAllHanded, IsCommandSent, IsCommandLine, marked_tickets, last_ahead};
 ghost use Rattle.owner_port.specs.Sessions.{IsSent};
 
 use crate::fault::SessionEnd;
@@ -13,8 +13,8 @@ use cip_owner::{Queue, WaitingCommand};
 use enip_owner::{CommandEvent, HandOver, HandedOver, write_command};
 use std::alloc::{AllocError, Global};
 
-/// Queues the commands that wait and were not handed over in this session, in their order, as far as they fit and the
-/// owner may have more in hand. `tickets` is the memory for their tickets.
+/// Queues the commands that are marked and were not handed over in this session, in their order, as far as they fit and
+/// the owner may have more in hand. `tickets` is the memory for their tickets.
 pub(crate) fn hand_waiting(
     alloc: Global,
     queue: &Queue,
@@ -35,26 +35,43 @@ pub(crate) fn hand_waiting(
     hand_all(alloc, queue, senders, tickets, hand_over, session);
 }
 
-/// Collects the tickets of the commands that wait, in their order.
+/// Collects the tickets of the waiting commands that are marked, in their order.
 fn collect_tickets(queue: &Queue, tickets: &mut Vec<u32>) -> Result<(), AllocError>
-    ensures { OnOk result (tickets.new.items ≡ map command_ticket queue.now.waiting) }
+    ensures { OnOk result (tickets.new.items ≡ marked_tickets queue.now) }
 {
     tickets.clear();
     collect_from(queue, 0, tickets)
 }
 
-/// Appends the tickets of the commands that wait, from this index on.
+/// Appends the tickets of the waiting commands that are marked, from this index on.
 fn collect_from(queue: &Queue, index: usize, tickets: &mut Vec<u32>) -> Result<(), AllocError>
     ensures { OnOk result (tickets.new.items
-        ≡ tickets.old.items ++ map command_ticket (drop index queue.now.waiting)) }
+        ≡ tickets.old.items ++ map command_ticket (filter (is_handed queue.now) (drop index queue.now.waiting))) }
 {
     let Some(command) = queue.waiting(index) else {
         return Ok(());
     };
-    tickets.push(command.ticket)?;
     // At most 256 commands wait.
     let _count = queue.waiting_count();
+    if command.ticket <= queue.handed() {
+        tickets.push(command.ticket)?;
+    }
     collect_from(queue, index + 1, tickets)
+}
+
+/// The ticket up to which the owner may have commands in hand: that of the last of the first `ahead` that wait. `None` if
+/// none waits, or if the owner may have none.
+pub(crate) fn last_ahead(ahead: u16, queue: &Queue) -> Option<u32>
+    ensures { result ≡ last_ahead ahead queue.now.waiting }
+{
+    let count = queue.waiting_count().min(usize::from(ahead));
+    if count == 0 {
+        return None;
+    }
+    match queue.waiting(count - 1) {
+        Some(command) => Some(command.ticket),
+        None => None,
+    }
 }
 
 /// Queues the commands with these tickets that were not handed over in this session, as far as they fit and the owner may

@@ -40,7 +40,7 @@ pub fn replies_are_given_once()
     ensures asked { given_to_asked_law }
 {}
 
-/// Each command that is handed over waits, so that its line is queued.
+/// Each command that is handed over waits, so that its line is queued, and is marked as handed over.
 pub fn handed_commands_wait()
     ensures { waits_law }
 {}

@@ -4,6 +4,7 @@ ghost use Rattle.std.specs.Prelude.{◌≡◌, ◌<◌, ◌-◌, ◌^◌, IfOk, 
 ghost use Rattle.cip_ledger.specs.Device.{Device};
 ghost use Rattle.enip_server.specs.Rounds.{IsWritten, state_of};
 ghost use Rattle.owner_port.specs.Ports.{HasSeen, IsNewPort, IsBegun, IsFrameSeen, IsPortFed, IsHandedOver, IsQueueHanded};
+ghost use Rattle.owner_port.specs.Ports.{mark_of, after_mark, handed_of, is_above, queue_in};
 ghost use Rattle.owner_port.specs.Ports.{IsHelloSent, IsRight, IsFirstLineTaken, IsTokenRefused, IsRequestTaken, IsLineTaken, IsEndTaken, IsLongLineRefused, SameRest, life_in, senders_after, with_output, with_session};
 ghost use Rattle.owner_port.specs.Asking.{unanswered};
 ghost use Rattle.owner_port.specs.Questions.{failed, with_list};
@@ -13,7 +14,7 @@ use crate::asked_request::AskedRequest;
 use crate::device_table::DeviceTable;
 use crate::execution::{Answer, answer_to};
 use crate::fault::{LineFault, SessionEnd};
-use crate::handing::hand_waiting;
+use crate::handing::{hand_waiting, last_ahead};
 use crate::prepared_reply::PreparedReply;
 use crate::questions::{Question, QuestionState, Questions};
 use crate::senders::{HasAddress, Senders};
@@ -99,7 +100,7 @@ impl OwnerPort {
             resets: adapter.resets(),
         };
         let senders = Senders::new(alloc, usize::from(QUEUE_LIMIT), queue)?;
-        let hand_over = HandOver::restarted(table.ahead, senders.next);
+        let hand_over = HandOver::restarted(table.ahead, handed_in(queue));
         let lines = LineBuffer::new(alloc)?;
         let session = Session::new(alloc)?;
         let questions = Questions::new(alloc, owner_timeout)?;
@@ -172,6 +173,46 @@ impl OwnerPort {
         ensures { self.new ≡ with_output (drop size self.old.session.output) self.old }
     {
         self.session.output.drop_front(size);
+    }
+
+    /// Marks the commands that the owner may have in hand as handed over, before it hears of them: of those that wait the
+    /// first `ahead`. A mark is the device's own write. Nothing is marked while no session is open.
+    ///
+    /// Call it in each round before the frames of the peers, so that a mark is kept with the round, and `hand_over` after
+    /// the round.
+    pub fn mark<W: Wire + Drop>(&self, peers: &mut Peers<W>)
+        ensures marked { state_of peers.new
+            ≡ after_mark (mark_of self.now (state_of peers.old).adapter) (state_of peers.old) }
+        ensures writes { IsWritten (state_of peers.old) (state_of peers.new) }
+        ensures seen { HasSeen self.now (state_of peers.old).adapter.state.shared.objects →
+            HasSeen self.now (state_of peers.new).adapter.state.shared.objects }
+    {
+        if let Some(ticket) = self.next_mark(peers.adapter()) {
+            peers.mark(ticket);
+        }
+    }
+
+    /// Whether `mark` would mark a command that is not marked: a round is due now.
+    pub fn has_unmarked(&self, adapter: &Adapter) -> bool
+        ensures { result ≡ is_above (handed_of (queue_in adapter.now)) (mark_of self.now adapter.now) }
+    {
+        match self.next_mark(adapter) {
+            Some(ticket) => ticket > handed_in(adapter.queue()),
+            None => false,
+        }
+    }
+
+    /// The ticket of the last command that the owner may have in hand now.
+    fn next_mark(&self, adapter: &Adapter) -> Option<u32>
+        ensures { result ≡ mark_of self.now adapter.now }
+    {
+        if !self.session.is_open() {
+            return None;
+        }
+        match adapter.queue() {
+            Some(queue) => last_ahead(self.table.ahead, queue),
+            None => None,
+        }
     }
 
     /// An owner has connected. Its session begins: with `hello`, or with the token if there is one. It is handed the
@@ -314,9 +355,9 @@ impl OwnerPort {
         );
     }
 
-    /// Reports the connections that ended since the last call, and queues the commands that wait and were not handed
-    /// over in this session, in their order, as far as they fit and the owner may have more in hand. Call it after each
-    /// round.
+    /// Reports the connections that ended since the last call, and queues the commands that are marked and were not
+    /// handed over in this session, in their order, as far as they fit and the owner may have more in hand. Call it after
+    /// each round.
     ///
     /// If there is no session, or its token has not come, nothing is reported of what happens.
     pub fn hand_over(&mut self, adapter: &Adapter)
@@ -494,6 +535,16 @@ impl<W: HasAddress> Watcher<W> for OwnerPort {
 
     fn served(&mut self, wire: &W, adapter: &Adapter) {
         self.see_frame(wire.address(), adapter);
+    }
+}
+
+/// The greatest ticket that was handed over, or 0.
+fn handed_in(queue: Option<&Queue>) -> u32
+    ensures { result ≡ handed_of (option_map (λ q. q.now) queue.entry) }
+{
+    match queue {
+        Some(queue) => queue.handed(),
+        None => 0,
     }
 }
 

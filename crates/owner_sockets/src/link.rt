@@ -95,7 +95,9 @@ impl<L: OwnerLog + Drop> OwnerLink<L> {
         }
         self.sockets.send(now, &mut self.port, adapter);
         // If the session has just ended, nobody answers the questions that were open.
-        let is_due = self.port.has_settled() || self.sockets.is_ready(&self.port);
+        let is_due = self.port.has_settled()
+            || self.port.has_unmarked(adapter)
+            || self.sockets.is_ready(&self.port);
         RoundEnd {
             ended: end.ended,
             ready: end.ready || is_due,
@@ -136,6 +138,7 @@ impl<W: GatedWire + HasAddress + Drop, L: OwnerLog + Drop> RoundGuest<W> for Own
 
     fn begin_round(&mut self, now: u64, peers: &mut Peers<HeldWire<W>>) -> PreparedReply {
         self.receive(now, peers);
+        self.port.mark(peers);
         self.port.take_reply()
     }
 

@@ -8,6 +8,7 @@ ghost use Rattle.cip_ledger.specs.Doubt.{settled};
 ghost use Rattle.cip_objects.specs.DeviceWrites.{device_write, with_device_status, with_device_state};
 ghost use Rattle.enip_adapter.specs.Device.{with_device, with_objects, with_prepared, with_ledger};
 ghost use Rattle.enip_adapter.specs.OwnWrites.{OwnWrite, attribute_write, can_settle_in};
+ghost use Rattle.enip_adapter.specs.QueueLaws.{is_waiting};
 
 use super::Adapter;
 use cip_bytes::protocol::ASSEMBLY;
@@ -142,5 +143,25 @@ impl Adapter {
         ensures call { self.new ≡ after_call self.old (Call.Writes (OwnWrite.Finishes ticket reply.now)) }
     {
         self.shared.objects.finish(ticket, reply)
+    }
+
+    /// Marks the queued command with this ticket, and each that waits before it, as handed over to the owner. Call it
+    /// before the owner hears of the command.
+    ///
+    /// Returns `false`, and changes nothing, if no command with this ticket waits. Nothing else of the adapter changes.
+    ///
+    /// ```
+    /// if adapter.mark(ticket) {
+    ///     // keep the state of the device, and then send the command to its owner
+    /// }
+    /// ```
+    pub fn mark(&mut self, ticket: u32) -> bool
+        ensures told { result ≡ is_waiting ticket self.old.state.shared.objects.router.queue }
+        ensures call { self.new ≡ after_call self.old (Call.Writes (OwnWrite.Marks ticket)) }
+    {
+        match &mut self.shared.objects.router.queue {
+            Some(queue) => queue.mark(ticket),
+            None => false,
+        }
     }
 }
