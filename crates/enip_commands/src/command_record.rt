@@ -137,7 +137,13 @@ pub fn record_text(alloc: Global, kept: &CommandRecord<'_>) -> Result<Vec<u8>, A
         text.extend_from_slice(whole.as_bytes())?;
         return Ok(text);
     }
-    text_with_ids(alloc, &kept.commander, kept.pending_id, kept.done.as_slice(), &[])
+    text_with_ids(
+        alloc,
+        &kept.commander,
+        kept.pending_id,
+        kept.done.as_slice(),
+        &[],
+    )
 }
 
 /// The text of a file with ids, whose executed commands are these and then the last ones.
@@ -148,8 +154,11 @@ fn text_with_ids(
     done: &[DoneCommand<'_>],
     last: &[DoneCommand<'_>],
 ) -> Result<Vec<u8>, AllocError>
-    ensures { IfOk result (λ text. text.items ≡ text_with_ids (record { commander = commander.now; pending_id = option_copied pending_id.entry;
-        done = map done_in done.now ++ map done_in last.now })) }
+    ensures { IfOk result (λ text. text.items ≡ text_with_ids (record {
+      commander = commander.now;
+      pending_id = option_copied pending_id.entry;
+      done = map done_in done.now ++ map done_in last.now;
+    })) }
 {
     let whole = format!(in alloc; "{}", CommandFile(commander))?;
     let mut text = Vec::new(alloc);
