@@ -35,8 +35,8 @@ pub fn marked_states_are_refused_by_version_1()
     ensures { marked_law }
 {}
 
-/// A queue with as many places that starts from the entries of a queue is that queue: the next ticket, the commands that
-/// wait and the results are the same.
+/// A queue with as many places that starts from the entries of a queue is that queue: the next ticket, what was handed over,
+/// the commands that wait and the results are the same.
 pub fn queue_is_kept()
     ensures { queue_law }
 {}
