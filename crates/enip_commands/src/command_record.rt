@@ -137,7 +137,13 @@ pub fn record_text(alloc: Global, kept: &CommandRecord<'_>) -> Result<Vec<u8>, A
         text.extend_from_slice(whole.as_bytes())?;
         return Ok(text);
     }
-    text_with_ids(alloc, &kept.commander, kept.pending_id, kept.done.as_slice(), &[])
+    text_with_ids(
+        alloc,
+        &kept.commander,
+        kept.pending_id,
+        kept.done.as_slice(),
+        &[],
+    )
 }
 
 /// The text of a file with ids, whose executed commands are these and then the last ones.
