@@ -2,6 +2,7 @@
 use Rattle.std.proofs.Common.{◌≡◌, ◌++◌, drop, length, is_ok, Result, Ok, Err, ℕ, zero, suc, ◌+◌, ◌<◌, ◌≤◌, ◌==◌, nat_lt, Bool, true, false, if◌then◌else◌, List, [], ◌∷◌, map, Option, Some, None, refl, sym, ap, subst, ◌∙◌, append_assoc, arith}
 use Rattle.std.specs.Prelude.{filter, nat_le, option_map, slice_get, OnOk}
 use Rattle.std.proofs.lemmas.Bool.{false≢true, eq-eqb, eqb-true, ltb-true, ltb-false, lt-ltb, le-ltb}
+use Rattle.std.proofs.lemmas.List.{append-nil}
 use Rattle.std.proofs.lemmas.Option.{none-some, same_Some}
 use Rattle.cip_owner.specs.Queue.{QueueState, QueuedCommand, command_of, command_ticket, is_handed, handed_commands}
 use Rattle.cip_owner.proofs.ListLemmas.{first-number}
@@ -207,6 +208,19 @@ first_from queue waiting index command is =
         ≡ (if b then command.ticket ∷ [] else []) ++ map command_ticket later
     go true later = refl
     go false later = refl
+
+drop-none : (waiting : List QueuedCommand) (index : ℕ) → slice_get waiting index ≡ None → drop index waiting ≡ []
+drop-none [] zero is = refl
+drop-none [] (suc index) is = refl
+drop-none (command ∷ waiting) zero is = absurd (cc)
+drop-none (command ∷ waiting) (suc index) is = drop-none waiting index is
+
+-- There are none behind the last one.
+pub none_from : (queue : QueueState) (index : ℕ) (old : List ℕ) → slice_get queue.waiting index ≡ None
+    → old ≡ old ++ from_index queue queue.waiting index
+none_from queue index old is =
+    sym (ap (λ l. old ++ map command_ticket (filter (is_handed queue) l)) (drop-none queue.waiting index is)
+    ∙ append-nil old)
 
 -- The ticket of the first one, if it is marked, and then the others.
 pub collected : {E : Type 0} (r : Result (Unit {0}) E) (queue : QueueState) (index : ℕ) (command : QueuedCommand)

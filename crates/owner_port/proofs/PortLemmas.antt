@@ -28,7 +28,7 @@ use Rattle.owner_port.specs.Questions.{answered_in, fault_in}
 use Rattle.owner_port.proofs.QuestionLemmas.{refused_still}
 use Rattle.owner_port.specs.declared.senders.Sender.{Sender}
 use Rattle.owner_port.specs.declared.session.Session.{Session}
-use Rattle.owner_port.specs.Ports.{contents_in, queue_in, after_mark, HasSeen, SameRest, senders_after, IsRequestTaken, IsLineTaken, IsLineTakenBy, IsEndTaken, IsLineFed, IsPortFed, IsPortFedBy}
+use Rattle.owner_port.specs.Ports.{contents_in, queue_in, HasSeen, SameRest, senders_after, IsRequestTaken, IsLineTaken, IsLineTakenBy, IsEndTaken, IsLineFed, IsPortFed, IsPortFedBy}
 use Rattle.owner_port.specs.Senders.{next_in}
 use Rattle.owner_port.specs.Sessions.{awaits_token, can_feed, with_next_line, IsAnswerSent, IsLineAnswered}
 use Rattle.owner_port.specs.Sets.{tallies_in, AreCounted}
@@ -118,15 +118,6 @@ still_seen_after port writes before after is seen =
       resets = seen.resets ∙ sym unseen.resets;
       next = seen.next ∙ sym unseen.next;
     }
-
--- ---- a mark
-
-pub marked_by : {W : Type 0} (mark : Option ℕ) (ticket : ℕ) (before after : ServerState W) → mark ≡ Some ticket
-    → after ≡ written_by (Marks ticket) before → after ≡ after_mark mark before
-marked_by mark ticket before after is done = done ∙ sym (ap (λ m. after_mark m before) is)
-
-pub none_marked : {W : Type 0} (mark : Option ℕ) (before : ServerState W) → mark ≡ None → before ≡ after_mark mark before
-none_marked mark before is = sym (ap (λ m. after_mark m before) is)
 
 -- ---- lines
 

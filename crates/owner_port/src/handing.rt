@@ -64,7 +64,8 @@ fn push_if_marked(queue: &Queue, ticket: u32, tickets: &mut Vec<u32>) -> Result<
     if ticket > queue.handed() {
         return Ok(());
     }
-    tickets.push(ticket)
+    tickets.push(ticket)?;
+    Ok(())
 }
 
 /// The ticket up to which the owner may have commands in hand: that of the last of the first `ahead` that wait. `None` if

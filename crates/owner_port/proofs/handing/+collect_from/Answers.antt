@@ -1,7 +1,7 @@
 use Rattle.std.proofs.Common.{◌<◌, ◌≤◌, length, sym, arith}
 use Rattle.std.proofs.lemmas.Option.{slice_get_within}
 use Rattle.cip_owner.specs.QueueViews.{waiting_in}
-use Rattle.owner_port.proofs.HandLemmas.{collected}
+use Rattle.owner_port.proofs.HandLemmas.{collected, none_from}
 use Rattle.owner_port.proofs.handing.+collect_from.Goals as goal
 
 pub overflow_add-index : goal.overflow_add-index
@@ -17,6 +17,10 @@ collect_from-requires t c =
     let within : c.args.index < length c.args.queue.now.waiting =
     slice_get_within c.args.queue.now.waiting c.args.index (waiting_in c.in-Some.command) (sym c.in-Some.ensures.command) in
     (omega (arith, within, c.decreases), tt)
+
+pub returns-in_default : goal.returns-in_default
+returns-in_default t c =
+    none_from c.args.queue.now c.args.index c.args.tickets.now.items (sym c.in_default.ensures.command)
 
 pub returns : goal.returns
 returns t c =
