@@ -8,6 +8,7 @@ pub mod Finals
 pub mod Answered
 pub mod Executions
 pub mod Doubts
+pub mod Withdrawals
 pub mod Pendings
 pub mod OnePending
 pub mod Lives

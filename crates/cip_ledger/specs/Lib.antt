@@ -22,3 +22,4 @@ pub mod Runs
 pub mod Reaching
 pub mod Executing
 pub mod Device
+pub mod Withdrawing

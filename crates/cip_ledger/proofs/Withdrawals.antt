@@ -1,0 +1,227 @@
+-- What a request withdraws, and what that leaves of the ledger.
+use Rattle.std.proofs.Common.{◌≡◌, ◌≢◌, ◌⊎◌, inl, inr, ℕ, ◌<◌, ◌≤◌, ◌==◌, ◌&&◌, nat_lt, not, Bool, true, false, if◌then◌else◌, Option, Some, None, unwrap_or, List, [], ◌∷◌, length, refl, ap, sym, ◌∙◌, subst, arith}
+use Rattle.std.specs.Prelude.{option_map, is_some}
+use Rattle.std.specs.Option.{option_and_then}
+use Rattle.std.proofs.lemmas.Bool.{eqb-true, eqb-false, ltb-true, ne_eqb}
+use Rattle.cip_bytes.specs.Numbers.{number_at}
+use Rattle.cip_ledger.specs.declared.service.TheConstants as services
+use Rattle.cip_ledger.specs.declared.withdrawal.Withdrawal.{Withdrawal}
+use Rattle.cip_ledger.specs.Device.{Device}
+use Rattle.cip_ledger.specs.Ledger.{LedgerState, SlotState, slot_of, is_pending, is_withdrawn, slot_withdrawn}
+use Rattle.cip_ledger.specs.Requests.{LedgerRequest, ledger_request}
+use Rattle.cip_ledger.specs.Runs.{slot_in}
+use Rattle.cip_ledger.specs.Services.{last_content, state_content, WITHDRAWN}
+use Rattle.cip_ledger.specs.Withdrawing.{of_command, of_pending, of_unused, withdraw_by_slot, by_withdraw, forget_by_slot, by_forget, withdrawal_by, withdrawal_of, can_withdraw, with_withdrawn, withdrawn, left_queue, with_withdrawal, withdrawn_from, withdrawn_by, found_by}
+use Rattle.cip_owner.specs.Queue.{QueueState}
+use Rattle.cip_ledger.proofs.Fates.{IsNewAt, HasEnded}
+use Rattle.cip_ledger.proofs.SlotLemmas.{slot_of-with_slot, slot_of-with_other}
+
+same-some : {A : Type 0} (a b : A) → ◌≡◌ {A = Option A} (Some a) (Some b) → a ≡ b
+same-some a b e = cc
+
+none-some : {A : Type 0} (a : A) → ◌≡◌ {A = Option A} None (Some a) → ⊥
+none-some a e = absurd (cc)
+
+-- ---- what a request withdraws
+
+-- the last command of the originator, which is pending
+pub record IsOfPending (ledger : LedgerState) (w : Withdrawal) : Type 0 where
+  pub slot : SlotState
+  pub found : slot_of w.originator ledger.taken ≡ Some slot
+  pub waits : is_pending slot ≡ true
+  pub number_is : slot.number ≡ w.number
+  pub ticket_is : slot.ticket ≡ w.ticket
+
+-- a number that is greater than that of a command that has ended, or the first one, and then a slot is free
+pub record IsOfUnused (ledger : LedgerState) (w : Withdrawal) : Type 0 where
+  pub no_ticket : w.ticket ≡ None
+  pub newer : IsNewAt (slot_of w.originator ledger.taken) w.number
+  pub ended : HasEnded (slot_of w.originator ledger.taken)
+  pub free : slot_of w.originator ledger.taken ≡ None → length ledger.taken < ledger.slots
+
+abbrev pub Withdraws : LedgerState → Withdrawal → Type 0
+Withdraws ledger w = IsOfPending ledger w ⊎ IsOfUnused ledger w
+
+module _ (ledger : LedgerState) (w : Withdrawal) where
+  pending-facts : (originator number : ℕ) (slot : SlotState) → slot_of originator ledger.taken ≡ Some slot → is_pending slot ≡ true
+      → of_pending originator number slot ≡ Some w → Withdraws ledger w
+  pending-facts originator number slot found waits = go (slot.number == number) refl
+    where
+      go : (own : Bool) → (slot.number == number) ≡ own
+          → ◌≡◌ {A = Option Withdrawal} (if own then Some (of_command originator number slot.ticket) else None) (Some w)
+          → Withdraws ledger w
+      go false is e = absurd (none-some w e)
+      go true is e =
+          let same = same-some (of_command originator number slot.ticket) w e in
+          inl (record {
+            slot = slot;
+            found = ap (λ (v : Withdrawal). slot_of v.originator ledger.taken) (sym same) ∙ found;
+            waits = waits;
+            number_is = eqb-true slot.number number is ∙ ap (λ (v : Withdrawal). v.number) same;
+            ticket_is = ap (λ (v : Withdrawal). v.ticket) same;
+          })
+
+  unused-facts : (originator number : ℕ) (found : Option SlotState) → slot_of originator ledger.taken ≡ found
+      → IsNewAt found number → HasEnded found → (found ≡ None → length ledger.taken < ledger.slots)
+      → ◌≡◌ {A = Option Withdrawal} (Some (of_command originator number None)) (Some w) → Withdraws ledger w
+  unused-facts originator number found is newer ended free e =
+      let same = same-some (of_command originator number None) w e in
+      let own : slot_of w.originator ledger.taken ≡ found
+      = ap (λ (v : Withdrawal). slot_of v.originator ledger.taken) (sym same) ∙ is in
+      inr (record {
+        no_ticket = sym (ap (λ (v : Withdrawal). v.ticket) same);
+        newer = subst (λ o. IsNewAt o w.number) (sym own)
+            (subst (λ n. IsNewAt found n) (ap (λ (v : Withdrawal). v.number) same) newer);
+        ended = subst HasEnded (sym own) ended;
+        free = λ none. free (sym own ∙ none);
+      })
+
+  slot-facts : (originator number : ℕ) (found : Option SlotState) → slot_of originator ledger.taken ≡ found
+      → withdraw_by_slot ledger originator number found ≡ Some w → Withdraws ledger w
+  slot-facts originator number None is = go (nat_lt (length ledger.taken) ledger.slots) refl
+    where
+      go : (free : Bool) → nat_lt (length ledger.taken) ledger.slots ≡ free
+          → ◌≡◌ {A = Option Withdrawal} (if free then Some (of_command originator number None) else None) (Some w)
+          → Withdraws ledger w
+      go true h e = unused-facts originator number None is tt tt (λ none. ltb-true (length ledger.taken) ledger.slots h) e
+      go false h e = absurd (none-some w e)
+  slot-facts originator number (Some slot) is = go (is_pending slot) refl
+    where
+      unused : (less : Bool) → nat_lt slot.number number ≡ less → is_pending slot ≡ false
+          → ◌≡◌ {A = Option Withdrawal} (if less then Some (of_command originator number None) else None) (Some w)
+          → Withdraws ledger w
+      unused true h ended e =
+          unused-facts originator number (Some slot) is (ltb-true slot.number number h) ended
+          (λ none. absurd (none-some slot (sym none))) e
+      unused false h ended e = absurd (none-some w e)
+
+      go : (waits : Bool) → is_pending slot ≡ waits
+          → (if waits then of_pending originator number slot else of_unused originator number slot) ≡ Some w
+          → Withdraws ledger w
+      go true h e = pending-facts originator number slot is h e
+      go false h e = unused (nat_lt slot.number number) refl h e
+
+  forget-facts : (originator number : ℕ) (found : Option SlotState) → slot_of originator ledger.taken ≡ found
+      → forget_by_slot originator number found ≡ Some w → Withdraws ledger w
+  forget-facts originator number None is = λ e. absurd (none-some w e)
+  forget-facts originator number (Some slot) is = go (is_pending slot) refl
+    where
+      go : (waits : Bool) → is_pending slot ≡ waits
+          → (if waits then of_pending originator number slot else None) ≡ Some w → Withdraws ledger w
+      go true h e = pending-facts originator number slot is h e
+      go false h e = absurd (none-some w e)
+
+  by_if : (b : Bool) (o : Option Withdrawal) → (if b then o else None) ≡ Some w → (o ≡ Some w → Withdraws ledger w) → Withdraws ledger w
+  by_if true o e more = more e
+  by_if false o e more = absurd (none-some w e)
+
+  request-facts : (request : LedgerRequest) → withdrawal_by ledger request ≡ Some w → Withdraws ledger w
+  request-facts request e =
+      by_if (request.instance == 1) _ e (go (request.service == services.WITHDRAW) (request.service == services.FORGET))
+    where
+      bytes : List ℕ
+      bytes = request.data
+
+      go : (asked forgets : Bool)
+          → (if asked then by_withdraw ledger bytes else (if forgets then by_forget ledger bytes else None)) ≡ Some w
+          → Withdraws ledger w
+      go true forgets f =
+          by_if ((length bytes == 20) && (number_at 0 8 bytes == ledger.life)) _ f
+          (slot-facts (number_at 8 8 bytes) (number_at 16 4 bytes) (slot_of (number_at 8 8 bytes) ledger.taken) refl)
+      go false true f =
+          by_if (length bytes == 12) _ f
+          (forget-facts (number_at 0 8 bytes) (number_at 8 4 bytes) (slot_of (number_at 0 8 bytes) ledger.taken) refl)
+      go false false f = absurd (none-some w f)
+
+  pub withdraws : (text : List ℕ) → withdrawal_of (Some ledger) text ≡ Some w → Withdraws ledger w
+  withdraws text = go (ledger_request text)
+    where
+      go : (asked : Option LedgerRequest) → option_and_then (withdrawal_by ledger) asked ≡ Some w → Withdraws ledger w
+      go None e = absurd (none-some w e)
+      go (Some request) e = request-facts request e
+
+-- if the originator has no slot, one is free
+pub withdraws-free : (ledger : LedgerState) (w : Withdrawal) → Withdraws ledger w → slot_of w.originator ledger.taken ≡ None
+    → length ledger.taken < ledger.slots
+withdraws-free ledger w (inl is) none = absurd (none-some is.slot (sym none ∙ is.found))
+withdraws-free ledger w (inr is) none = is.free none
+
+-- ---- the slots afterwards
+
+pub withdrawn-own : (ledger : LedgerState) (originator number : ℕ)
+    → slot_of originator (with_withdrawn originator number ledger).taken ≡ Some (slot_withdrawn originator number)
+withdrawn-own ledger originator number = slot_of-with_slot ledger.taken (slot_withdrawn originator number)
+
+pub withdrawn-other : (ledger : LedgerState) (originator number other : ℕ) → originator ≢ other
+    → slot_of other (with_withdrawn originator number ledger).taken ≡ slot_of other ledger.taken
+withdrawn-other ledger originator number other apart =
+    slot_of-with_other ledger.taken (slot_withdrawn originator number) other apart
+
+-- a pending command stays if another number is withdrawn
+pub withdrawn-keeps : (ledger : Option LedgerState) (by number originator : ℕ) (slot : SlotState)
+    → slot_in originator ledger ≡ Some slot → is_pending slot ≡ true → (by ≡ originator → number ≡ slot.number → ⊥)
+    → slot_in originator (option_map (withdrawn by number) ledger) ≡ Some slot
+withdrawn-keeps None by number originator slot found waits other = absurd (none-some slot found)
+withdrawn-keeps (Some ledger) by number originator slot found waits other = go (by == originator) refl
+  where
+    apart : (can : Bool) → by ≢ originator
+        → slot_of originator (if can then with_withdrawn by number ledger else ledger).taken ≡ Some slot
+    apart true differs = withdrawn-other ledger by number originator differs ∙ found
+    apart false differs = found
+
+    go : (same : Bool) → (by == originator) ≡ same → slot_of originator (withdrawn by number ledger).taken ≡ Some slot
+    go false h = apart (can_withdraw ledger by number) (eqb-false by originator h)
+    go true h =
+        let same = eqb-true by originator h in
+        let differs : (slot.number == number) ≡ false = ne_eqb slot.number number (λ e. other same (sym e)) in
+        let none : withdraw_by_slot ledger by number (slot_of by ledger.taken) ≡ None
+        = ap (withdraw_by_slot ledger by number) (ap (λ o. slot_of o ledger.taken) same ∙ found) ∙ rw (waits, differs) refl in
+        ap (λ o. slot_of originator (if is_some o then with_withdrawn by number ledger else ledger).taken) none ∙ found
+
+-- ---- the device as a request finds it
+
+-- by what the request withdraws
+pub by-withdrawal : (P : Device → Type 0) (device : Device) (text : List ℕ) → P device
+    → ((ledger : LedgerState) (w : Withdrawal) (queue : Option QueueState) → device.ledger ≡ Some ledger → Withdraws ledger w
+    → left_queue w.ticket device.router.queue ≡ Some queue → P (with_withdrawal device w queue))
+    → P (found_by text device)
+by-withdrawal P device text same more = go device.ledger refl
+  where
+    of_queue : (ledger : LedgerState) (w : Withdrawal) (left : Option (Option QueueState)) → device.ledger ≡ Some ledger
+        → Withdraws ledger w → left_queue w.ticket device.router.queue ≡ left
+        → P (unwrap_or (option_map (with_withdrawal device w) left) device)
+    of_queue ledger w None is facts e = same
+    of_queue ledger w (Some queue) is facts e = more ledger w queue is facts e
+
+    of_withdrawal : (ledger : LedgerState) (found : Option Withdrawal) → device.ledger ≡ Some ledger
+        → withdrawal_of (Some ledger) text ≡ found
+        → P (unwrap_or (option_and_then (withdrawn_from device) found) device)
+    of_withdrawal ledger None is e = same
+    of_withdrawal ledger (Some w) is e =
+        of_queue ledger w (left_queue w.ticket device.router.queue) is (withdraws ledger w text e) refl
+
+    go : (ledger : Option LedgerState) → device.ledger ≡ ledger
+        → P (unwrap_or (option_and_then (withdrawn_from device) (withdrawal_of ledger text)) device)
+    go None is = same
+    go (Some ledger) is = of_withdrawal ledger (withdrawal_of (Some ledger) text) is refl
+
+-- without a ledger, and of a request that is not to the ledger's class, it is as it was
+pub unasked : (device : Device) (text : List ℕ) → ledger_request text ≡ None → found_by text device ≡ device
+unasked device text none = go device.ledger
+  where
+    go : (ledger : Option LedgerState)
+        → unwrap_or (option_and_then (withdrawn_from device) (withdrawal_of ledger text)) device ≡ device
+    go None = refl
+    go (Some ledger) =
+        ap (λ o. unwrap_or (option_and_then (withdrawn_from device) (option_and_then (withdrawal_by ledger) o)) device) none
+
+-- ---- a command that was withdrawn
+
+pub withdrawn-content : (slot : SlotState) → is_withdrawn slot ≡ true → last_content slot ≡ WITHDRAWN ∷ []
+withdrawn-content slot is = go slot.reply slot.ticket is
+  where
+    go : (reply : Option (List ℕ)) (ticket : Option ℕ) → (is_some reply && is_some ticket) ≡ true
+        → state_content reply ticket ≡ WITHDRAWN ∷ []
+    go None ticket e = absurd (cc)
+    go (Some reply) None e = absurd (cc)
+    go (Some reply) (Some ticket) e = refl
