@@ -242,3 +242,25 @@ def dump(file):
             if Path(str(file) + suffix).exists():
                 shutil.copy(str(file) + suffix, os.path.join(folder, "copy" + suffix))
         return sqlite3(os.path.join(folder, "copy"), ".dump")
+
+
+def rewrite(file, statement):
+    """Writes a database, which no device uses, again from its content, changed by a statement of SQL, with the checksum of
+    all rows (docs/STATE.md, "The file of `--keep`"). Returns what sqlite3 prints, which is nothing."""
+    content = dump(file)
+    for suffix in ("", "-wal"):
+        Path(str(file) + suffix).unlink(missing_ok=True)
+    said = [sqlite3(file, content), sqlite3(file, statement)]
+    values = rows_of(file)
+    number = values.pop(0)[:8]
+    total = 0xCBF29CE484222325
+    for byte in number + b"".join(struct.pack("<QQ", key, len(value)) + value for key, value in sorted(values.items())):
+        total = (total ^ byte) * 0x100000001B3 % 2**64
+    first = (number + struct.pack("<Q", total)).hex()
+    return "".join([*said, sqlite3(file, "UPDATE kept SET value = x'%s' WHERE key = 0" % first)])
+
+
+def rows_of(file):
+    """The rows of a database, by their keys."""
+    rows = re.findall(r"INSERT INTO \"?kept\"? VALUES ?\((\d+),X'(\w*)'\);", dump(file))
+    return {int(key): bytes.fromhex(value) for key, value in rows}

@@ -340,12 +340,13 @@ impl Queue {
 
     /// Sets the next ticket, and returns whether it did. A number over 2^32 changes nothing.
     ///
-    /// With this call, `set_handed`, `restore_waiting` and `restore_result` a device starts from what was kept of its queue, before
-    /// it answers any peer.
+    /// With this call, `set_handed`, `restore_waiting` and `restore_result` a device starts from what was kept of its
+    /// queue, before it answers any peer.
     ///
     /// ```
     /// let mut queue = Queue::new(alloc, 16)?;
     /// queue.set_next(next);
+    /// queue.set_handed(handed);
     /// queue.restore_waiting(command); // each command that waited, in order
     /// queue.restore_result(result); // each result that was kept, oldest first
     /// ```

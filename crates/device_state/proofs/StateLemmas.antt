@@ -1,8 +1,9 @@
 -- A device that starts from what was saved.
-use Rattle.std.proofs.Common.{rules, ◌≡◌, ℕ, ◌/◌, ◌%◌, ◌^◌, eqb, nat_lt, Bool, true, false, cond, ◌&&◌, List, [], ◌∷◌, ◌++◌, map, Option, Some, None, option_map, IfSome, refl, sym, ap, ◌∙◌, subst, arith}
+use Rattle.std.proofs.Common.{rules, ◌≡◌, ℕ, ◌/◌, ◌%◌, ◌^◌, eqb, nat_lt, Bool, true, false, cond, if◌then◌else◌, ◌&&◌, ◌||◌, List, [], ◌∷◌, ◌++◌, length, map, Option, Some, None, option_map, IfSome, refl, sym, ap, ◌∙◌, subst, arith}
 use Rattle.std.specs.Str.{bytes_eq}
 use Rattle.std.proofs.lemmas.Bool.{eqb-true}
 use Rattle.std.proofs.lemmas.Bool.Decides.{nat_tests}
+use Rattle.std.proofs.lemmas.List.{length-append}
 use Rattle.std.proofs.lemmas.Slice.Eq.{bytes_eq-Decides}
 use Rattle.cip_application.specs.declared.kind.AttributeKind.{AttributeKind}
 use Rattle.cip_application.specs.declared.object.AttributeName.{AttributeName}
@@ -16,9 +17,10 @@ use Rattle.cip_objects.proofs.ReadAfterSet.{value_at-other}
 use Rattle.device_state.specs.declared.restoring.Outcome.TheVariants.{Used, OtherDevice}
 use Rattle.device_state.specs.Keys.{key_of, name_in}
 use Rattle.std.specs.List.{AllByRecursion}
-use Rattle.device_state.specs.Laws.{IsName, IsKept, IsFresh, IsRestored, saved_law, used_law, others_law, other_device_law}
+use Rattle.device_state.specs.Laws.{IsName, IsKept, IsFresh, IsRestored, saved_law, used_law, others_law, other_device_law, version_law, marked_law}
 use Rattle.device_state.specs.Restored.{Done, done, by_name, if_value, with_objects, to_ledger, restored_entry, restored}
-use Rattle.device_state.specs.Saved.{State, state_of, Entry, entry_of, identity_bytes, identity_entry, value_entry, value_entries, ledger_entries, saved}
+use Rattle.device_state.specs.QueueEntries.{has_handed_all}
+use Rattle.device_state.specs.Saved.{State, state_of, Entry, entry_of, MARKED, identity_bytes, identity_entry, value_entry, value_entries, ledger_entries, saved}
 use Rattle.device_state.proofs.KeyLemmas.{name_back, key_again}
 use Rattle.device_state.proofs.LedgerPuts.{ledger_leads}
 use Rattle.device_state.proofs.Puts.{Leads, leads_nowhere, leads_on, leads_further, put_all, shapes_stay, values_lead, used_lead, used_behind, entries_same, identity_stays}
@@ -33,7 +35,46 @@ same_bytes xs ys e = search (rules, bytes_eq-Decides)
 identity_put : (s : State) (content : List ℕ) → content ≡ identity_bytes s.objects → restored_entry s (entry_of (key_of IDENTITY 1 0) content) ≡ done s Used
 identity_put s content e =
     ap (by_name s content) own_name
-    ∙ ap (λ t. done s (cond t Used OtherDevice)) (same_bytes content (identity_bytes s.objects) e)
+    ∙ ap (λ t. done s (cond (t || bytes_eq content (identity_bytes s.objects ++ MARKED ∷ [])) Used OtherDevice))
+    (same_bytes content (identity_bytes s.objects) e)
+
+or_true : (a : Bool) → a || true ≡ true
+or_true true = refl
+or_true false = refl
+
+-- so is the one with the version behind it
+version_put : (s : State) (content : List ℕ) → content ≡ identity_bytes s.objects ++ MARKED ∷ []
+    → restored_entry s (entry_of (key_of IDENTITY 1 0) content) ≡ done s Used
+version_put s content e =
+    ap (by_name s content) own_name
+    ∙ ap (λ t. done s (cond (bytes_eq content (identity_bytes s.objects) || t) Used OtherDevice))
+    (same_bytes content (identity_bytes s.objects ++ MARKED ∷ []) e)
+    ∙ ap (λ t. done s (cond t Used OtherDevice)) (or_true (bytes_eq content (identity_bytes s.objects)))
+
+version_by : (s : State) (all : Bool)
+    → restored_entry s (entry_of (key_of IDENTITY 1 0) (if all then identity_bytes s.objects else identity_bytes s.objects ++ MARKED ∷ []))
+    ≡ done s Used
+version_by s true = identity_put s (identity_bytes s.objects) refl
+version_by s false = version_put s (identity_bytes s.objects ++ MARKED ∷ []) refl
+
+pub version_used : version_law
+version_used s None = identity_put s (identity_bytes s.objects) refl
+version_used s (Some q) = version_by s (has_handed_all q)
+
+-- bytes of another length differ
+other_bytes : (xs ys : List ℕ) → (xs ≡ ys → ⊥) → bytes_eq xs ys ≡ false
+other_bytes xs ys e = search (rules, bytes_eq-Decides)
+
+longer : (xs ys : List ℕ) → length xs ≡ length ys → xs ++ MARKED ∷ [] ≡ ys → ⊥
+longer xs ys same e =
+    let size = length-append xs (MARKED ∷ []) in
+    let whole : length (xs ++ MARKED ∷ []) ≡ length ys = ap length e in
+    absurd (omega (arith, size, whole, same))
+
+pub marked_refused : marked_law
+marked_refused m n q same marked =
+    ap (λ t. bytes_eq (if t then identity_bytes m else identity_bytes m ++ MARKED ∷ []) (identity_bytes n)) marked
+    ∙ other_bytes (identity_bytes m ++ MARKED ∷ []) (identity_bytes n) (longer (identity_bytes m) (identity_bytes n) same)
 
 pub other_device : other_device_law
 other_device s content e =

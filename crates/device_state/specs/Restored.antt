@@ -1,6 +1,6 @@
 -- A device that starts from entries.
-use Rattle.std.specs.Prelude.{ℕ, ◌==◌, nat_lt, Bool, not, ◌&&◌, is_some, if◌then◌else◌, slice_index}
-use Rattle.std.specs.Prelude.{List, [], ◌∷◌, length, drop, Option, Some, None, option_map, bytes_eq}
+use Rattle.std.specs.Prelude.{ℕ, ◌==◌, nat_lt, Bool, not, ◌&&◌, ◌||◌, is_some, if◌then◌else◌, slice_index}
+use Rattle.std.specs.Prelude.{List, [], ◌∷◌, ◌++◌, length, drop, Option, Some, None, option_map, bytes_eq}
 use Rattle.cip_application.specs.declared.object.AttributeName.{AttributeName}
 use Rattle.cip_bytes.specs.Numbers.{number_at}
 use Rattle.cip_bytes.specs.declared.protocol.TheConstants.{IDENTITY}
@@ -12,7 +12,7 @@ use Rattle.cip_objects.specs.Kept.{restored as value_restored}
 use Rattle.device_state.specs.declared.restoring.Outcome.{Outcome}
 use Rattle.device_state.specs.declared.restoring.Outcome.TheVariants.{Used, Unknown, Unfit, OtherDevice}
 use Rattle.device_state.specs.Keys.{name_in}
-use Rattle.device_state.specs.Saved.{State, state_of, Entry, identity_bytes}
+use Rattle.device_state.specs.Saved.{State, state_of, Entry, identity_bytes, MARKED}
 
 -- What an entry leaves, and what became of the entry.
 pub record Done (A : Type 0) : Type 0 where
@@ -24,8 +24,10 @@ done after outcome = record { after = after; outcome = outcome }
 
 -- ---- which device
 
+-- The version may be behind it.
 abbrev pub is_same_device : Contents → List ℕ → Bool
-is_same_device m content = bytes_eq content (identity_bytes m)
+is_same_device m content =
+    bytes_eq content (identity_bytes m) || bytes_eq content (identity_bytes m ++ MARKED ∷ [])
 
 -- The entry names this device, or another one.
 abbrev pub identity_outcome : Contents → AttributeName → List ℕ → Outcome

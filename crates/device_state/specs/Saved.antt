@@ -1,5 +1,5 @@
 -- The entries in which the state of a device is saved.
-use Rattle.std.specs.Prelude.{ℕ, suc, List, [], ◌∷◌, ◌++◌, map, Option, Some, None}
+use Rattle.std.specs.Prelude.{ℕ, suc, if◌then◌else◌, List, [], ◌∷◌, ◌++◌, map, Option, Some, None}
 use Rattle.cip_application.specs.declared.object.AttributeName.{AttributeName}
 use Rattle.cip_bytes.specs.Numbers.{le}
 use Rattle.cip_bytes.specs.declared.protocol.TheConstants.{IDENTITY}
@@ -7,7 +7,9 @@ use Rattle.cip_ledger.specs.declared.request.TheConstants.{LEDGER}
 use Rattle.cip_ledger.specs.Ledger.{SlotState, LedgerState}
 use Rattle.cip_objects.specs.Contents.{Contents, bytes_at}
 use Rattle.cip_objects.specs.Kept.{kept_names}
+use Rattle.cip_owner.specs.Queue.{QueueState}
 use Rattle.device_state.specs.Keys.{key_of}
+use Rattle.device_state.specs.QueueEntries.{has_handed_all}
 
 -- What a device is saved from: its objects, and its ledger if it has one.
 pub record State : Type 0 where
@@ -70,6 +72,22 @@ value_entries m = map (value_entry m) (kept_names m.shapes)
 -- All entries: which device it is, the ledger, and each value that is kept, in the order of the configuration.
 abbrev pub saved : State → List Entry
 saved s = identity_entry s.objects ∷ (ledger_entries s.ledger ++ value_entries s.objects)
+
+-- ---- the version
+
+-- The version of a state with a mark. One without marks has version 1, which is not written.
+abbrev pub MARKED : ℕ
+MARKED = 2
+
+-- Which device it is, and the version behind it if commands of the queue may wait that no owner has seen. A program of
+-- version 1 takes it for another device then, and refuses the state.
+abbrev pub with_version : Option QueueState → List ℕ → List ℕ
+with_version None content = content
+with_version (Some q) content = if has_handed_all q then content else content ++ MARKED ∷ []
+
+-- Which device it is, with the version, and each value that is kept: the entries but those of the ledger and of the queue.
+abbrev pub object_entries : Contents → Option QueueState → List Entry
+object_entries m queue = entry_of (key_of IDENTITY 1 0) (with_version queue (identity_bytes m)) ∷ value_entries m
 
 -- An entry, if there is one: its key, and the bytes that were written.
 abbrev pub entry_in : Option ℕ → List ℕ → Option Entry

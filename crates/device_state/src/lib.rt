@@ -8,7 +8,8 @@
 //! what was saved goes on with the same values and the same ledger.
 //!
 //! The queue has [`QUEUE_ENTRIES`] entries of its own, each with a number: [`write_queue_entry`] writes one, and
-//! [`restore_queue_entry`] puts one back. `specs/QueueEntries.antt` defines both.
+//! [`restore_queue_entry`] puts one back. `specs/QueueEntries.antt` defines both. With a queue, [`object_entry`] gives the
+//! other entries, but those of the ledger: the first one has the version of the state.
 //!
 //! A key has 48 bits: the class, the instance and the attribute. The entries come in the order of the configuration, so
 //! a saved form that wants rising keys sorts them. They are the whole state, and replace those that were saved before:
@@ -41,4 +42,4 @@ mod saving;
 pub use identity::{identity_key, is_same_device};
 pub use queue::{QUEUE_ENTRIES, restore_queue_entry, write_queue_entry};
 pub use restoring::{Outcome, restore};
-pub use saving::saved_entry;
+pub use saving::{object_entry, saved_entry};

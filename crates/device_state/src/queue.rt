@@ -1,7 +1,7 @@
 //! The entries of the queue of commands.
 ghost use Rattle.std.specs.Prelude.{◌≡◌, ◌≤◌, length, is_some, unwrap_or};
 ghost use Rattle.cip_owner.specs.QueueViews.{waiting_in, result_in};
-ghost use Rattle.device_state.specs.QueueEntries.{command_bytes, result_bytes, place_bytes, next_bytes, queue_bytes};
+ghost use Rattle.device_state.specs.QueueEntries.{command_bytes, result_bytes, place_bytes, next_bytes, queue_bytes, has_handed_all};
 ghost use Rattle.device_state.specs.QueueEntries.{spelled_command, spelled_result};
 ghost use Rattle.device_state.specs.QueueEntries.{command_put, next_put, queue_put, result_put};
 
@@ -52,12 +52,18 @@ fn write_next(queue: &Queue, bytes: &mut ReplyBuf)
     ensures { bytes.new.items ≡ next_bytes queue.now }
 {
     let next = queue.next();
-    let handed = queue.handed();
     bytes.clear();
     append(bytes, &next.to_le_bytes());
-    if u64::from(handed) != next.saturating_sub(1) {
-        append_u32(bytes, handed);
+    if !has_handed_all(queue) {
+        append_u32(bytes, queue.handed());
     }
+}
+
+/// Whether each ticket that was given was handed over.
+pub(crate) fn has_handed_all(queue: &Queue) -> bool
+    ensures { result ≡ has_handed_all queue.now }
+{
+    u64::from(queue.handed()) == queue.next().saturating_sub(1)
 }
 
 /// Writes the content of a place to `bytes`, in place of their old content.

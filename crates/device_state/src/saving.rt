@@ -1,12 +1,13 @@
 //! Gives the entries in which the state of a device is saved.
 ghost use Rattle.std.specs.Prelude.{◌≡◌, ◌<◌, ◌^◌, ◌++◌, Some, IfSome, slice_get, option_map};
-ghost use Rattle.device_state.specs.Saved.{state_of, saved, ledger_entries, value_entries, entry_in};
+ghost use Rattle.device_state.specs.Saved.{state_of, saved, ledger_entries, value_entries, object_entries, entry_in};
 
-use crate::identity::{identity_key, write_identity};
+use crate::identity::{identity_key, write_identity, write_versioned};
 use crate::key::key_of;
 use crate::ledger::ledger_entry;
 use cip_ledger::Ledger;
 use cip_objects::{Objects, ReplyBuf};
+use cip_owner::Queue;
 
 /// The key of an entry by its index, and its bytes, which are written to `bytes` in place of the old content. `None` past
 /// the last entry. The first says which device it is. Then come the ledger, if there is one, and the values that are kept,
@@ -33,6 +34,31 @@ pub fn saved_entry(
         Some(ledger) => entry_with_ledger(objects, ledger, index - 1, bytes),
         None => value_entry(objects, index - 1, bytes),
     }
+}
+
+/// The key of an entry of the objects by its index, and its bytes, which are written to `bytes` in place of the old content.
+/// `None` past the last entry. The first says which device it is, as `saved_entry` has it; behind that is the version of the
+/// state, 2, if commands of the queue may wait that no owner has seen. Then come the values. Keep these entries if you keep
+/// those of a queue (`write_queue_entry`): an earlier program, which knows no marks, refuses them as those of another device.
+///
+/// ```
+/// let first = object_entry(adapter.objects(), adapter.queue(), 0, &mut bytes); // `identity_key()`, and 8 or 9 bytes
+/// ```
+pub fn object_entry(
+    objects: &Objects,
+    queue: Option<&Queue>,
+    index: usize,
+    bytes: &mut ReplyBuf,
+) -> Option<u64>
+    ensures entry { entry_in result bytes.new.items
+        ≡ slice_get (object_entries objects.now (option_map (λ q. q.now) queue.entry)) index }
+    ensures small { IfSome result (λ key. key < 2 ^ 48) }
+{
+    if index == 0 {
+        write_versioned(objects, queue, bytes);
+        return Some(identity_key());
+    }
+    value_entry(objects, index - 1, bytes)
 }
 
 /// The entry at an index behind the first, of a device with a ledger.

@@ -164,15 +164,15 @@ result_code =
     (λ r. (r.ticket, (r.class, (r.instance, (r.status, r.content)))))
     result_from (λ _. refl)
 
-abbrev pub queue_from : ℕ × (ℕ × (List QueuedCommand × List QueueResult)) → QueueState
-queue_from (limit, (next, (waiting, results))) =
-    record { limit = limit; next = next; waiting = waiting; results = results }
+abbrev pub queue_from : ℕ × (ℕ × (ℕ × (List QueuedCommand × List QueueResult))) → QueueState
+queue_from (limit, (next, (handed, (waiting, results)))) =
+    record { limit = limit; next = next; handed = handed; waiting = waiting; results = results }
 
 abbrev pub queue_code : Coded QueueState
 queue_code =
-    code_by (ℕ × (ℕ × (List QueuedCommand × List QueueResult)))
-    (coded× coded_ℕ (coded× coded_ℕ (coded× (coded_list command_code) (coded_list result_code))))
-    (λ q. (q.limit, (q.next, (q.waiting, q.results))))
+    code_by (ℕ × (ℕ × (ℕ × (List QueuedCommand × List QueueResult))))
+    (coded× coded_ℕ (coded× coded_ℕ (coded× coded_ℕ (coded× (coded_list command_code) (coded_list result_code)))))
+    (λ q. (q.limit, (q.next, (q.handed, (q.waiting, q.results)))))
     queue_from (λ _. refl)
 
 abbrev pub owned_from : Contents × (Option Reply × (Option QueueState × Option ResetState)) → OwnedState

@@ -1,6 +1,6 @@
 -- The lines of a file with ids are told apart.
-use Rattle.std.proofs.Common.{◌≡◌, ◌≢◌, ℕ, zero, suc, ◌+◌, ◌-◌, ◌<◌, ◌≤◌, ◌==◌, ◌&&◌, ◌||◌, Bool, true, false, List, [], ◌∷◌, ◌++◌, codes, length, map, drop, take, get_or, cond}
-use Rattle.std.proofs.Common.{◌*◌, ◌/◌, length-take-le, Option, Some, None, Result, Ok, Err, refl, sym, ap, ◌∙◌, arith, rules, append_assoc, inl, inr, option_map, length-append}
+use Rattle.std.proofs.Common.{◌≡◌, ℕ, zero, suc, ◌+◌, ◌-◌, ◌<◌, ◌≤◌, ◌==◌, ◌||◌, Bool, true, false, List, [], ◌∷◌, ◌++◌, codes, length, map, drop, take, get_or, cond}
+use Rattle.std.proofs.Common.{◌*◌, ◌/◌, length-take-le, Option, Some, None, Result, Ok, Err, refl, sym, ap, ◌∙◌, arith, append_assoc, option_map, length-append}
 use Rattle.std.specs.List.{list_all, list_any, find}
 use Rattle.std.specs.Str.{bytes_eq}
 use Rattle.std.proofs.lemmas.Slice.Eq.{bytes_eq-Decides}
@@ -18,10 +18,10 @@ use Rattle.std.proofs.lemmas.List.Folds.{list_any-append}
 use Rattle.enip_commands.specs.CommandFiles.{line, head_line, file_text, IsKept}
 use Rattle.enip_commands.specs.CommandRecords.{Done, is_id_byte, is_id, is_lower_digit, are_digits, is_done, has_id, AreDistinct}
 use Rattle.enip_commands.specs.CommandRecords.{done_text, dones_text, AreRead, LacksCommands, commander_lines, is_id_or_none}
-use Rattle.enip_commands.specs.CommandRecords.{pending_id_text, pending_id_line, ids_head, count_line, Record, record_text, has_ids, text_with_ids, IsKeptRecord, is_whole, is_new_id}
+use Rattle.enip_commands.specs.CommandRecords.{pending_id_text, pending_id_line, ids_head, count_line, Record, record_text, has_ids, text_with_ids, text_of_both, IsKeptRecord, is_whole, is_new_id}
 use Rattle.hex.specs.Hex.{encode_lower, lower_digits}
 use Rattle.hex.proofs.HexLemmas.{length-encode_with}
-use Rattle.enip_commands.specs.CommandRecords.{done_in, kept_after, plan_of_id, known_plan, unknown_plan}
+use Rattle.enip_commands.specs.CommandRecords.{done_in, kept_after, record_after, plan_of_id, known_plan, unknown_plan}
 use Rattle.enip_commands.specs.declared.command_record.DoneCommand.{DoneCommand}
 use Rattle.enip_commands.proofs.CommandFileLemmas.{HasNoLineFeed, lines_agree, decimal_no_feed}
 
@@ -278,15 +278,41 @@ pub command_appended : (before after one two : List ℕ) (d : Done) → one ≡ 
     → after ≡ two ++ line (codes "reply ") d.reply → after ≡ before ++ done_text d
 command_appended before after one two d e f g = rw (g, f, e) (simp append_assoc)
 
-pub kept_commands : (ds : List DoneCommand) (d : DoneCommand) (most n : ℕ) → 0 < most → n ≡ length ds - (most - 1)
-    → map done_in (drop n ds ++ (d ∷ [])) ≡ kept_after (map done_in ds) (done_in d) most
-kept_commands ds d most n some e =
+-- The last commands and one more are those that are kept.
+kept_parts : (ds : List DoneCommand) (d : DoneCommand) (most n : ℕ) → 0 < most → n ≡ length ds - (most - 1)
+    → map done_in (drop n ds) ++ map done_in (d ∷ []) ≡ kept_after (map done_in ds) (done_in d) most
+kept_parts ds d most n some e =
     let lengths : length (map done_in ds ++ (done_in d ∷ [])) ≡ length ds + 1 = length-append (map done_in ds) (done_in d ∷ []) ∙ ap (λ (k : ℕ). k + 1) (length-map ds done_in) in
     let count : length (map done_in ds ++ (done_in d ∷ [])) - most ≡ n = omega (arith, lengths, e) in
     let inside : n ≤ length (map done_in ds) = omega (arith, e, length-map ds done_in) in
     let dropped : drop n (map done_in ds ++ (done_in d ∷ [])) ≡ map done_in (drop n ds) ++ (done_in d ∷ []) =
     drop-append-le n (map done_in ds) (done_in d ∷ []) inside ∙ ap (λ (xs : List Done). xs ++ (done_in d ∷ [])) (drop-map done_in n ds) in
-    map-append done_in (drop n ds) (d ∷ []) ∙ sym dropped ∙ ap (λ (k : ℕ). drop k (map done_in ds ++ (done_in d ∷ []))) (sym count)
+    sym dropped ∙ ap (λ (k : ℕ). drop k (map done_in ds ++ (done_in d ∷ []))) (sym count)
+
+pub if_ok : {T E : Type 0} (r : Result T E) (P Q : T → Type 0) → ((t : T) → P t → Q t) → IfOk r P → IfOk r Q
+if_ok (Ok t) P Q f is = f t is
+if_ok (Err e) P Q f is = is
+
+-- The text with two lists is that with both in one.
+both_text : (c : CommanderState) (p : Option (List ℕ)) (ds es : List Done)
+    → text_of_both c p ds es ≡ text_with_ids (record { commander = c; pending_id = p; done = ds ++ es })
+both_text c p ds es =
+    let rest = pending_id_line p ++ commander_lines c in
+    ap (λ (n : ℕ). ids_head ++ (count_line n ++ (dones_text ds ++ (dones_text es ++ rest)))) (sym (length-append ds es))
+    ∙ ap (λ (xs : List ℕ). ids_head ++ (count_line (length (ds ++ es)) ++ xs))
+    (sym (append_assoc (dones_text ds) (dones_text es) rest) ∙ ap (λ (xs : List ℕ). xs ++ rest) (sym (dones_text-append ds es)))
+
+-- A text with them is that of the file afterwards.
+pub text_kept : (text : List ℕ) (r : Record) (ds stays last : List DoneCommand) (d : DoneCommand) (most n : ℕ) → 0 < most
+    → n ≡ length ds - (most - 1) → r.done ≡ map done_in ds → stays ≡ drop n ds → last ≡ d ∷ []
+    → text ≡ text_of_both r.commander None (map done_in stays) (map done_in last)
+    → text ≡ text_with_ids (record_after r (done_in d) most)
+text_kept text r ds stays last d most n some e f g h i =
+    i ∙ ap (λ (xs : List DoneCommand). text_of_both r.commander None (map done_in xs) (map done_in last)) g
+    ∙ ap (λ (xs : List DoneCommand). text_of_both r.commander None (map done_in (drop n ds)) (map done_in xs)) h
+    ∙ both_text r.commander None (map done_in (drop n ds)) (map done_in (d ∷ []))
+    ∙ ap (λ (xs : List Done). text_with_ids (record { commander = r.commander; pending_id = None; done = xs })) (kept_parts ds d most n some e)
+    ∙ ap (λ (xs : List Done). text_with_ids (record { commander = r.commander; pending_id = None; done = kept_after xs (done_in d) most })) (sym f)
 
 pub kept_distinct : (ds : List Done) (d : Done) (most : ℕ) (kept : List Done) → AreDistinct ds → has_id ds d.id ≡ false
     → kept ≡ kept_after ds d most → AreDistinct kept

@@ -1,5 +1,5 @@
 -- A file of --once with ids: which commands were executed, and the commander.
-use Rattle.std.specs.Prelude.{⊤, ◌≡◌, ◌==◌, ◌<◌, ◌≤◌, ◌+◌, ◌-◌, ◌*◌, ◌%◌, ◌^◌, ◌&&◌, ◌||◌, nat_lt, nat_le, not, ℕ, Bool, true, false, if◌then◌else◌}
+use Rattle.std.specs.Prelude.{⊤, ◌≡◌, ◌==◌, ◌≤◌, ◌+◌, ◌-◌, ◌%◌, ◌&&◌, ◌||◌, nat_lt, nat_le, not, ℕ, Bool, true, false, if◌then◌else◌}
 use Rattle.std.specs.Prelude.{Option, Some, None, is_some, option_map, List, [], ◌∷◌, ◌++◌, codes, length, map, drop, Result, Ok, Err}
 use Rattle.std.specs.Fmt.{decimal}
 use Rattle.std.specs.List.{list_all, list_any, find}
@@ -101,6 +101,12 @@ abbrev pub text_with_ids : Record → List ℕ
 text_with_ids r =
     ids_head ++ (count_line (length r.done) ++ (dones_text r.done
     ++ (pending_id_line r.pending_id ++ commander_lines r.commander)))
+
+-- the same with these commands and then the last ones
+abbrev pub text_of_both : CommanderState → Option (List ℕ) → List Done → List Done → List ℕ
+text_of_both c pending_id done last =
+    ids_head ++ (count_line (length done + length last) ++ (dones_text done ++ (dones_text last
+    ++ (pending_id_line pending_id ++ commander_lines c))))
 
 abbrev pub has_ids : Record → Bool
 has_ids r = is_some r.pending_id || nat_lt 0 (length r.done)

@@ -7,7 +7,7 @@ ghost use Rattle.std.specs.Str.{bytes_eq};
 ghost use Rattle.std.specs.Option.{option_copied};
 ghost use Rattle.enip_commands.specs.CommandFiles.{line};
 ghost use Rattle.enip_commands.specs.CommandRecords.{record_in, done_in, done_text, dones_text, record_text, is_id, is_id_byte};
-ghost use Rattle.enip_commands.specs.CommandRecords.{pending_id_text, text_with_ids, has_id, record_after, AreDistinct};
+ghost use Rattle.enip_commands.specs.CommandRecords.{pending_id_text, text_with_ids, text_of_both, has_id, record_after, AreDistinct};
 
 mod listing;
 mod plan;
@@ -118,9 +118,9 @@ pub fn text_after(
     ensures distinct { AreDistinct (map done_in before.now.done.items) → has_id (map done_in before.now.done.items) command.entry.id.now ≡ false
         → AreDistinct (record_after (record_in before.now) (done_in command.entry) most).done }
 {
-    let dropped = before.done.len().saturating_sub(most - 1);
-    let stays = &before.done.as_slice()[dropped..];
-    text_with_ids(alloc, &before.commander, None, stays, &[command])
+    let done = before.done.as_slice();
+    let dropped = done.len().saturating_sub(most - 1);
+    text_with_ids(alloc, &before.commander, None, &done[dropped..], &[command])
 }
 
 /// The text of the file. Without ids it is that of a [`CommandFile`](crate::CommandFile).
@@ -137,7 +137,13 @@ pub fn record_text(alloc: Global, kept: &CommandRecord<'_>) -> Result<Vec<u8>, A
         text.extend_from_slice(whole.as_bytes())?;
         return Ok(text);
     }
-    text_with_ids(alloc, &kept.commander, kept.pending_id, kept.done.as_slice(), &[])
+    text_with_ids(
+        alloc,
+        &kept.commander,
+        kept.pending_id,
+        kept.done.as_slice(),
+        &[],
+    )
 }
 
 /// The text of a file with ids, whose executed commands are these and then the last ones.
@@ -148,8 +154,8 @@ fn text_with_ids(
     done: &[DoneCommand<'_>],
     last: &[DoneCommand<'_>],
 ) -> Result<Vec<u8>, AllocError>
-    ensures { IfOk result (λ text. text.items ≡ text_with_ids (record { commander = commander.now; pending_id = option_copied pending_id.entry;
-        done = map done_in done.now ++ map done_in last.now })) }
+    ensures { IfOk result (λ text. text.items
+        ≡ text_of_both commander.now (option_copied pending_id.entry) (map done_in done.now) (map done_in last.now)) }
 {
     let whole = format!(in alloc; "{}", CommandFile(commander))?;
     let mut text = Vec::new(alloc);

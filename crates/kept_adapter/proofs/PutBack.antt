@@ -11,6 +11,7 @@ use Rattle.cip_ledger.specs.declared.request.TheConstants.{LEDGER}
 use Rattle.cip_ledger.specs.Ledger.{LedgerState}
 use Rattle.cip_objects.specs.Contents.{Contents, with_value}
 use Rattle.cip_objects.specs.Kept.{name_of, kept_names, kept_kind, with_kept, restored as value_restored}
+use Rattle.cip_owner.specs.Queue.{QueueState}
 use Rattle.device_state.specs.Keys.{name_in}
 use Rattle.device_state.specs.Restored.{Done, with_objects, to_ledger, if_value, value_done, by_name}
 use Rattle.device_state.specs.Saved.{State, state_of, value_entry}
@@ -18,7 +19,7 @@ use Rattle.enip_keep.specs.Kept.{Kept}
 use Rattle.kept_adapter.specs.declared.progress.Progress.{Progress}
 use Rattle.kept_adapter.specs.Keys.{ledger_key, is_ledger_key, device_key}
 use Rattle.kept_adapter.specs.Restarts.{IsNarrow}
-use Rattle.kept_adapter.specs.Saved.{pair_of, saved_objects}
+use Rattle.kept_adapter.specs.Saved.{pair_of, versioned_objects}
 use Rattle.kept_adapter.specs.Started.{is_free_slot, by_device_key, after_entry, is_used, put_back, put_all_back}
 
 pub put_two : (p : Progress) (first second : Kept)
@@ -169,6 +170,7 @@ values_narrow m (name ∷ names) h =
     let a = h.0.attribute in
     (omega (arith, c, i, a), values_narrow m names h.1)
 
-pub objects_leave : (p : Progress) (m : Contents) → AllByRecursion IsNarrow (kept_names m.shapes)
-    → LeavesLedger p (put_all_back p (saved_objects m))
-objects_leave p m h = entries_leave p (saved_objects m) (omega arith, values_narrow m (kept_names m.shapes) h)
+pub objects_leave : (p : Progress) (m : Contents) (queue : Option QueueState) → AllByRecursion IsNarrow (kept_names m.shapes)
+    → LeavesLedger p (put_all_back p (versioned_objects m queue))
+objects_leave p m queue h =
+    entries_leave p (versioned_objects m queue) (omega arith, values_narrow m (kept_names m.shapes) h)

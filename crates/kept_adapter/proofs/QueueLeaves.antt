@@ -18,7 +18,7 @@ use Rattle.kept_adapter.specs.declared.progress.Progress.{Progress}
 use Rattle.kept_adapter.specs.declared.queue_progress.QueueProgress.{QueueProgress}
 use Rattle.kept_adapter.specs.Keys.{ledger_key, is_ledger_key, device_key, queue_key, is_queue_key, queue_number}
 use Rattle.kept_adapter.specs.Restarts.{IsNarrow}
-use Rattle.kept_adapter.specs.Saved.{saved_objects, saved_ledger, saved_queue, saved_device, first_entries, ledger_bytes}
+use Rattle.kept_adapter.specs.Saved.{versioned_objects, saved_ledger, saved_queue, saved_device, first_entries, ledger_bytes}
 use Rattle.kept_adapter.specs.Saved.{first_queue_entries, ENTRIES}
 use Rattle.kept_adapter.specs.Started.{by_device_key, after_entry, progressed, put_back, put_all_back}
 use Rattle.kept_adapter.specs.Started.{entry_to_queue, put_queue_back, put_queue_all_back}
@@ -102,11 +102,11 @@ queue_leaves p (Some q) = counted p q QUEUE_ENTRIES refl (omega arith)
 
 -- The device after all entries is that after those of the objects and of the ledger.
 pub all_entries : (p : Progress) (m : Contents) (l : Option LedgerState) (queue : Option QueueState)
-    → put_all_back p (saved_device m l queue) ≡ put_all_back (put_all_back p (saved_objects m)) (saved_ledger l)
+    → put_all_back p (saved_device m l queue) ≡ put_all_back (put_all_back p (versioned_objects m queue)) (saved_ledger l)
 all_entries p m l queue =
-    put_two p (saved_objects m) (saved_ledger l ++ saved_queue queue)
-    ∙ put_two (put_all_back p (saved_objects m)) (saved_ledger l) (saved_queue queue)
-    ∙ queue_leaves (put_all_back (put_all_back p (saved_objects m)) (saved_ledger l)) queue
+    put_two p (versioned_objects m queue) (saved_ledger l ++ saved_queue queue)
+    ∙ put_two (put_all_back p (versioned_objects m queue)) (saved_ledger l) (saved_queue queue)
+    ∙ queue_leaves (put_all_back (put_all_back p (versioned_objects m queue)) (saved_ledger l)) queue
 
 -- ---- the other entries
 
@@ -130,11 +130,11 @@ narrow_others [] are = tt
 narrow_others (entry ∷ entries) are =
     let below = are.0 in (below_queue entry.0 (omega (arith, below)), narrow_others entries are.1)
 
-objects_apart : (p : QueueProgress) (m : Contents) → AllByRecursion IsNarrow (kept_names m.shapes)
-    → put_queue_all_back p (saved_objects m) ≡ p
-objects_apart p m names =
-    others_leave p (saved_objects m)
-    (narrow_others (saved_objects m) (omega arith, values_narrow m (kept_names m.shapes) names))
+objects_apart : (p : QueueProgress) (m : Contents) (queue : Option QueueState) → AllByRecursion IsNarrow (kept_names m.shapes)
+    → put_queue_all_back p (versioned_objects m queue) ≡ p
+objects_apart p m queue names =
+    others_leave p (versioned_objects m queue)
+    (narrow_others (versioned_objects m queue) (omega arith, values_narrow m (kept_names m.shapes) names))
 
 slots_apart : (p : QueueProgress) (l : LedgerState) (count : ℕ) → count ≤ 2 ^ 15
     → put_queue_all_back p (first_entries l count) ≡ p
@@ -158,7 +158,7 @@ pub all_queue_entries : (p : QueueProgress) (m : Contents) (l : Option LedgerSta
     → AllByRecursion IsNarrow (kept_names m.shapes)
     → put_queue_all_back p (saved_device m l queue) ≡ put_queue_all_back p (saved_queue queue)
 all_queue_entries p m l queue names =
-    put_queue_two p (saved_objects m) (saved_ledger l ++ saved_queue queue)
-    ∙ ap (λ x. put_queue_all_back x (saved_ledger l ++ saved_queue queue)) (objects_apart p m names)
+    put_queue_two p (versioned_objects m queue) (saved_ledger l ++ saved_queue queue)
+    ∙ ap (λ x. put_queue_all_back x (saved_ledger l ++ saved_queue queue)) (objects_apart p m queue names)
     ∙ put_queue_two p (saved_ledger l) (saved_queue queue)
     ∙ ap (λ x. put_queue_all_back x (saved_queue queue)) (ledger_apart p l)

@@ -26,7 +26,7 @@ use Rattle.kept_adapter.specs.Restarts.{LifeStep, Does, Restarts, restarted, aft
 use Rattle.kept_adapter.specs.Restarts.{IsConfiguration, IsStep, GoesOn, Sizes, sizes_of, slots_of, IsLedgerAfter}
 use Rattle.kept_adapter.specs.Restarts.{IsQueueAfter}
 use Rattle.kept_adapter.specs.SameKeys.{step_alike}
-use Rattle.kept_adapter.specs.Saved.{saved_objects, saved_device, first_entries, ENTRIES}
+use Rattle.kept_adapter.specs.Saved.{versioned_objects, saved_device, first_entries, ENTRIES}
 use Rattle.kept_adapter.specs.Started.{is_free_slot, by_device_key, after_entry, beginning, put_back, put_all_back}
 use Rattle.kept_adapter.specs.Started.{new_ledger, new_queue, configured, put_back_in, queue_back_in, has_given_all}
 use Rattle.kept_adapter.specs.Started.{is_trusted, trusted_ledger, trusted_queue, started}
@@ -194,21 +194,21 @@ back_by start l p q count n more h few is slots same_life own lost queue given =
     ∙ back
 
 -- the device before the entries of the ledger
-abbrev behind_objects : AdapterStart → Contents → Progress
-behind_objects start m = put_all_back (beginning (configured start)) (saved_objects m)
+abbrev behind_objects : AdapterStart → Contents → Option QueueState → Progress
+behind_objects start m queue = put_all_back (beginning (configured start)) (versioned_objects m queue)
 
 goes_on_by : (start : AdapterStart) (m : Contents) (ledger : Option LedgerState) (queue : Option QueueState)
     (q : QueueProgress) → AllByRecursion IsNarrow (kept_names m.shapes) → IfSome ledger IsLedger
     → option_map (λ l. l.originators) start.ledger ≡ slots_of ledger → start.begins_life ≡ false → q.has_lost ≡ false
     → has_given_all ledger q.queue ≡ true → trusted_ledger start (put_back_in start (saved_device m ledger queue)) q ≡ ledger
 goes_on_by start m None queue q names is slots same_life lost given =
-    let p = behind_objects start m in
-    let left : LeavesLedger (beginning (configured start)) p = objects_leave (beginning (configured start)) m names in
+    let p = behind_objects start m queue in
+    let left : LeavesLedger (beginning (configured start)) p = objects_leave (beginning (configured start)) m queue names in
     ap (λ x. trusted_ledger start x q) (all_entries (beginning (configured start)) m None queue)
     ∙ new_without_life start p q left.life ∙ none_by start.ledger slots
 goes_on_by start m (Some l) queue q names is slots same_life lost given =
-    let p = behind_objects start m in
-    let left : LeavesLedger (beginning (configured start)) p = objects_leave (beginning (configured start)) m names in
+    let p = behind_objects start m queue in
+    let left : LeavesLedger (beginning (configured start)) p = objects_leave (beginning (configured start)) m queue names in
     ap (λ x. trusted_ledger start x q) (all_entries (beginning (configured start)) m (Some l) queue)
     ∙ back_by start l p q ENTRIES 64 refl (omega arith) (few_taken l is) is slots same_life left.ledger left.lost lost given
 
@@ -276,13 +276,13 @@ ledger_after_by : (start : AdapterStart) (m : Contents) (ledger : Option LedgerS
     → IsConfiguration start
     → IsLedgerAfter start ledger (trusted_ledger start (put_back_in start (saved_device m ledger queue)) q)
 ledger_after_by start m None queue q names is configuration =
-    let p = behind_objects start m in
-    let left : LeavesLedger (beginning (configured start)) p = objects_leave (beginning (configured start)) m names in
+    let p = behind_objects start m queue in
+    let left : LeavesLedger (beginning (configured start)) p = objects_leave (beginning (configured start)) m queue names in
     inl (ap (λ x. trusted_ledger start x q) (all_entries (beginning (configured start)) m None queue)
     ∙ new_without_life start p q left.life)
 ledger_after_by start m (Some l) queue q names is configuration =
-    let p = behind_objects start m in
-    let left : LeavesLedger (beginning (configured start)) p = objects_leave (beginning (configured start)) m names in
+    let p = behind_objects start m queue in
+    let left : LeavesLedger (beginning (configured start)) p = objects_leave (beginning (configured start)) m queue names in
     subst (λ x. IsLedgerAfter start (Some l) (trusted_ledger start x q))
     (sym (all_entries (beginning (configured start)) m (Some l) queue))
     (after_by start start.ledger l p q ENTRIES 64 refl configuration.few refl (omega arith)

@@ -11,7 +11,7 @@ use Rattle.device_state.specs.Saved.{Entry as StateEntry, entry_in, entry_of, sa
 use Rattle.device_state.proofs.EntryLists.{in_ledger, slot_entry, slot_entry_at}
 use Rattle.kept_server.specs.Changes.{is_small, are_small}
 use Rattle.kept_adapter.specs.Saved.{pair_of as pair_of_entry, bytes_of_slot, ledger_bytes, first_of}
-use Rattle.kept_adapter.specs.Saved.{saved_objects, saved_ledger, saved_queue, saved_device}
+use Rattle.kept_adapter.specs.Saved.{versioned_objects, saved_ledger, saved_queue, saved_device}
 
 -- the first entries, once one behind them is written
 set_front : (xs : List Entry) (i : ℕ) (e : Entry) → i < length xs
@@ -150,9 +150,9 @@ take_pairs (x ∷ xs) (suc n) = ap (λ ps. pair_of x ∷ ps) (take_pairs xs n)
 
 -- the objects, then the ledger, then the queue
 pub saved_all : {m n : Contents} {l k : Option LedgerState} {q r : Option QueueState} {front behind all : Kept} → m ≡ n
-    → l ≡ k → q ≡ r → front ≡ saved_objects m → behind ≡ front ++ saved_ledger l → all ≡ behind ++ saved_queue q
+    → l ≡ k → q ≡ r → front ≡ versioned_objects m q → behind ≡ front ++ saved_ledger l → all ≡ behind ++ saved_queue q
     → all ≡ saved_device n k r
 saved_all {m} {n} {l} {k} {q} {r} {front} {behind} {all} objects ledger queue first second third =
     third ∙ ap (λ ps. ps ++ saved_queue q) (second ∙ ap (λ ps. ps ++ saved_ledger l) first)
-    ∙ append_assoc (saved_objects m) (saved_ledger l) (saved_queue q)
+    ∙ append_assoc (versioned_objects m q) (saved_ledger l) (saved_queue q)
     ∙ ap (λ x. saved_device x l q) objects ∙ ap (λ x. saved_device n x q) ledger ∙ ap (λ x. saved_device n k x) queue

@@ -50,7 +50,8 @@ ledger_goes_on_law =
     (start : AdapterStart) (device : Device) → IsRestartable device → GoesOn (sizes_of device) start →
     (restarted start device).ledger ≡ device.ledger
 
--- And the queue goes on: it has the same next ticket, the same commands wait, and it has the same results.
+-- And the queue goes on: it has the same next ticket, the same commands wait and were handed over, and it has the same
+-- results.
 abbrev pub queue_goes_on_law : Type 0
 queue_goes_on_law =
     (start : AdapterStart) (device : Device) → IsRestartable device → GoesOn (sizes_of device) start →
@@ -138,9 +139,10 @@ pub record GoOn (device : Device) (steps : List LifeStep) : Type 0 where
   pub fit : AllByRecursion IsStep steps
   pub on : AllByRecursion (IsGoingOn (sizes_of device)) steps
 
--- Over restarts, the queue is that after the commands that were put into it and those that the owner finished, in order.
--- So what holds of a queue over every list of such steps holds over restarts, too: each command waits until it is
--- finished, and never again after that, none is lost or made up, and no ticket is given twice.
+-- Over restarts, the queue is that after the commands that were put into it and those that were marked or finished, in
+-- order. So what holds of a queue over every list of such steps holds over restarts, too: each command waits until it is
+-- finished, and never again after that, none is lost or made up, no ticket is given twice, and what was handed over stays
+-- so.
 abbrev pub queue_over_restarts_law : Type 0
 queue_over_restarts_law = (device : Device) (steps : List LifeStep) → GoOn device steps →
     (after_life_steps device steps).router.queue

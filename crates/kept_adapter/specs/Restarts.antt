@@ -74,7 +74,8 @@ abbrev pub queue_steps_by : Device → LifeStep → List QueueStep
 queue_steps_by device (Does step) = queue_steps_by_step device step
 queue_steps_by device (Restarts start) = []
 
--- The commands that are put into the queue in these steps, and those that the owner finishes. A restart does neither.
+-- The commands that are put into the queue in these steps, and those that are marked or finished. A restart does none of
+-- that.
 abbrev pub queue_steps_over_restarts : Device → List LifeStep → List QueueStep
 queue_steps_over_restarts device [] = []
 queue_steps_over_restarts device (step ∷ steps) =

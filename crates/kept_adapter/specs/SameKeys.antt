@@ -65,7 +65,7 @@ use Rattle.enip_adapter.proofs.SettleLemmas.{IsFinished, Unchanged, Completed, f
 use Rattle.kept_server.specs.Changes.{keys_of}
 use Rattle.device_state.specs.QueueEntries.{QUEUE_ENTRIES, queue_bytes}
 use Rattle.kept_adapter.specs.Keys.{ledger_key, queue_key}
-use Rattle.kept_adapter.specs.Saved.{pair_of, saved_objects, saved_ledger, saved_queue, saved_device, first_of}
+use Rattle.kept_adapter.specs.Saved.{pair_of, versioned_objects, saved_ledger, saved_queue, saved_device, first_of}
 use Rattle.kept_adapter.specs.Saved.{ledger_bytes, ENTRIES}
 use Rattle.kept_adapter.specs.Saved.{adapter_keys}
 
@@ -441,8 +441,9 @@ value_keys m n [] = refl
 value_keys m n (name ∷ names) =
     ap (λ keys. key_of name.class name.instance name.attribute ∷ keys) (value_keys m n names)
 
-object_keys : (m n : Contents) → n.shapes ≡ m.shapes → keys_of (saved_objects n) ≡ keys_of (saved_objects m)
-object_keys m n same =
+object_keys : (m n : Contents) (q r : Option QueueState) → n.shapes ≡ m.shapes
+    → keys_of (versioned_objects n r) ≡ keys_of (versioned_objects m q)
+object_keys m n q r same =
     ap (λ shapes. key_of IDENTITY 1 0 ∷ keys_of (map pair_of (map (value_entry n) (kept_names shapes)))) same
     ∙ ap (λ keys. key_of IDENTITY 1 0 ∷ keys) (value_keys n m (kept_names m.shapes))
 
@@ -469,19 +470,19 @@ queue_keys (Some q) (Some r) same = first_keys queue_key (queue_bytes r) (queue_
 -- the keys of all entries by those of the parts
 all_keys : (m : Contents) (l : Option LedgerState) (q : Option QueueState)
     → keys_of (saved_device m l q)
-    ≡ keys_of (saved_objects m) ++ (keys_of (saved_ledger l) ++ keys_of (saved_queue q))
+    ≡ keys_of (versioned_objects m q) ++ (keys_of (saved_ledger l) ++ keys_of (saved_queue q))
 all_keys m l q =
-    map-append (λ (entry : ℕ × List ℕ). entry.0) (saved_objects m) (saved_ledger l ++ saved_queue q)
-    ∙ ap (λ keys. keys_of (saved_objects m) ++ keys)
+    map-append (λ (entry : ℕ × List ℕ). entry.0) (versioned_objects m q) (saved_ledger l ++ saved_queue q)
+    ∙ ap (λ keys. keys_of (versioned_objects m q) ++ keys)
     (map-append (λ (entry : ℕ × List ℕ). entry.0) (saved_ledger l) (saved_queue q))
 
 pub device_keys : (m n : Contents) (l k : Option LedgerState) (q r : Option QueueState) → n.shapes ≡ m.shapes
     → is_some k ≡ is_some l → is_some r ≡ is_some q → keys_of (saved_device n k r) ≡ keys_of (saved_device m l q)
 device_keys m n l k q r shapes ledger queue =
     all_keys n k r
-    ∙ ap (λ keys. keys ++ (keys_of (saved_ledger k) ++ keys_of (saved_queue r))) (object_keys m n shapes)
-    ∙ ap (λ keys. keys_of (saved_objects m) ++ (keys ++ keys_of (saved_queue r))) (ledger_keys l k ledger)
-    ∙ ap (λ keys. keys_of (saved_objects m) ++ (keys_of (saved_ledger l) ++ keys)) (queue_keys q r queue)
+    ∙ ap (λ keys. keys ++ (keys_of (saved_ledger k) ++ keys_of (saved_queue r))) (object_keys m n q r shapes)
+    ∙ ap (λ keys. keys_of (versioned_objects m q) ++ (keys ++ keys_of (saved_queue r))) (ledger_keys l k ledger)
+    ∙ ap (λ keys. keys_of (versioned_objects m q) ++ (keys_of (saved_ledger l) ++ keys)) (queue_keys q r queue)
     ∙ sym (all_keys m l q)
 
 pub keys_stay : (a : AdapterState) (calls : List Call) → adapter_keys (after_calls a calls) ≡ adapter_keys a

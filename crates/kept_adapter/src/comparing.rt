@@ -3,7 +3,7 @@ ghost use Rattle.std.specs.Prelude.{◌≡◌, ◌≢◌, ◌↔◌, ◌++◌, I
 ghost use Rattle.device_state.specs.QueueEntries.{QUEUE_ENTRIES, queue_bytes};
 ghost use Rattle.enip_keep.specs.Kept.{Kept, pair_of, pairs_of};
 ghost use Rattle.kept_adapter.specs.Keys.{ledger_key, queue_key};
-ghost use Rattle.kept_adapter.specs.Saved.{first_entries, ledger_bytes, saved_ledger, saved_objects, ENTRIES};
+ghost use Rattle.kept_adapter.specs.Saved.{first_entries, ledger_bytes, saved_ledger, versioned_objects, ENTRIES};
 ghost use Rattle.kept_adapter.specs.Saved.{first_queue_entries, is_free, saved_queue};
 
 use crate::keys::{ledger_key, queue_key};
@@ -11,7 +11,7 @@ use crate::saving::write_ledger_bytes;
 use cip_ledger::{Ledger, MOST_ORIGINATORS};
 use cip_objects::{Objects, ReplyBuf};
 use cip_owner::{QUEUE_LIMIT, Queue};
-use device_state::{QUEUE_ENTRIES, saved_entry, write_queue_entry};
+use device_state::{QUEUE_ENTRIES, object_entry, write_queue_entry};
 use enip_keep::Entry;
 
 /// Whether an entry has this key and these bytes.
@@ -22,14 +22,19 @@ fn is_entry(entry: &Entry, key: u64, bytes: &[u8]) -> bool
 }
 
 /// The entries behind those of the objects. `None` if the first entries are not those of the objects.
-pub(crate) fn behind_objects<'a>(objects: &Objects, entries: &'a [Entry]) -> Option<&'a [Entry]>
-    ensures same { IfSome result (λ rest. pairs_of entries.now ≡ saved_objects objects.now ++ pairs_of rest.now) }
+pub(crate) fn behind_objects<'a>(
+    objects: &Objects,
+    queue: Option<&Queue>,
+    entries: &'a [Entry],
+) -> Option<&'a [Entry]>
+    ensures same { IfSome result (λ rest. pairs_of entries.now
+        ≡ versioned_objects objects.now (option_map (λ q. q.now) queue.entry) ++ pairs_of rest.now) }
     ensures other { IfNone result ((rest : Kept) → pairs_of entries.now
-        ≢ saved_objects objects.now ++ rest) }
+        ≢ versioned_objects objects.now (option_map (λ q. q.now) queue.entry) ++ rest) }
 {
     let mut bytes = ReplyBuf::new();
     let mut count = 0;
-    while let Some(key) = saved_entry(objects, None, count, &mut bytes) {
+    while let Some(key) = object_entry(objects, queue, count, &mut bytes) {
         if count >= entries.len() || !is_entry(&entries[count], key, &bytes) {
             return None;
         }

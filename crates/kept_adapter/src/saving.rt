@@ -3,14 +3,14 @@ ghost use Rattle.std.specs.Prelude.{◌≡◌, ◌<◌, ◌≤◌, ◌+◌, ◌^
 ghost use Rattle.enip_keep.specs.Kept.{pair_of, pairs_of};
 ghost use Rattle.kept_server.specs.Changes.{are_small, keys_of, rise};
 ghost use Rattle.device_state.specs.QueueEntries.{QUEUE_ENTRIES};
-ghost use Rattle.kept_adapter.specs.Saved.{first_entries, ledger_bytes, saved_ledger, saved_objects, ENTRIES};
+ghost use Rattle.kept_adapter.specs.Saved.{first_entries, ledger_bytes, saved_ledger, versioned_objects, ENTRIES};
 ghost use Rattle.kept_adapter.specs.Saved.{first_queue_entries, saved_queue};
 
 use crate::keys::{ledger_key, queue_key};
 use cip_ledger::{Ledger, MOST_ORIGINATORS};
 use cip_objects::{Objects, ReplyBuf};
 use cip_owner::Queue;
-use device_state::{QUEUE_ENTRIES, saved_entry, write_queue_entry};
+use device_state::{QUEUE_ENTRIES, object_entry, saved_entry, write_queue_entry};
 use enip_keep::Entry;
 use std::alloc::{AllocError, Global};
 
@@ -59,7 +59,8 @@ fn set_entry(
     write_entry(&mut into[index], key, bytes)
 }
 
-/// Writes the entries of objects to `into`, in place of the first ones that are there. Returns how many they are.
+/// Writes the entries of objects to `into`, in place of the first ones that are there, with the version of the state, which
+/// depends on the queue. Returns how many they are.
 ///
 /// # Errors
 ///
@@ -67,15 +68,17 @@ fn set_entry(
 pub(crate) fn save_objects(
     alloc: Global,
     objects: &Objects,
+    queue: Option<&Queue>,
     into: &mut Vec<Entry>,
 ) -> Result<usize, AllocError>
-    ensures entries { IfOk result (λ count. take count (pairs_of into.new.items) ≡ saved_objects objects.now) }
+    ensures entries { IfOk result (λ count. take count (pairs_of into.new.items)
+        ≡ versioned_objects objects.now (option_map (λ q. q.now) queue.entry)) }
     ensures small { IfOk result (λ count. are_small (take count (pairs_of into.new.items)) ≡ true) }
     ensures within { IfOk result (λ count. count ≤ length into.new.items) }
 {
     let mut bytes = ReplyBuf::new();
     let mut count = 0;
-    while let Some(key) = saved_entry(objects, None, count, &mut bytes) {
+    while let Some(key) = object_entry(objects, queue, count, &mut bytes) {
         set_entry(alloc, into, count, key, &bytes)?;
         count += 1;
     }

@@ -252,7 +252,7 @@ impl KeptDevice for AdapterStart {
 
     fn is_saved(adapter: &Adapter, entries: &[Entry]) -> bool {
         let objects = adapter.objects();
-        let Some(behind) = behind_objects(objects, entries) else {
+        let Some(behind) = behind_objects(objects, adapter.queue(), entries) else {
             return false;
         };
         match behind_ledger(objects, adapter.ledger(), behind) {
@@ -263,7 +263,7 @@ impl KeptDevice for AdapterStart {
 
     fn save(alloc: Global, adapter: &Adapter, into: &mut Vec<Entry>) -> Result<(), AllocError> {
         let objects = adapter.objects();
-        let values = save_objects(alloc, objects, into)?;
+        let values = save_objects(alloc, objects, adapter.queue(), into)?;
         let behind = save_ledger_if_any(alloc, objects, adapter.ledger(), values, into)?;
         let count = save_queue_if_any(alloc, adapter.queue(), behind, into)?;
         into.truncate(count);

@@ -18,7 +18,8 @@ use std::io;
 ///
 /// In a round `begin` comes first, then the frames of peers, which the port watches, then `ask`, and then `send`. If the
 /// state of the device is kept, the calls that write to the owner, `admit` and `send`, come when the round is over: no
-/// `ok`, no `changed`, no question and no command leaves before what it reports is kept.
+/// `ok`, no `changed`, no question and no command leaves before what it reports is kept, and before the mark that a command
+/// was handed over.
 pub struct OwnerLink<L: OwnerLog + Drop> {
     pub(crate) port: OwnerPort,
     sockets: OwnerSockets<L>,
@@ -87,8 +88,8 @@ impl<L: OwnerLog + Drop> OwnerLink<L> {
         self.port.admit_frames(now, peers)
     }
 
-    /// Hands over the commands that wait, after a round, and writes what the session has for the owner. Returns the end of
-    /// the round with what is due for the owner.
+    /// Hands over the commands that are marked, after a round, and writes what the session has for the owner. Returns the
+    /// end of the round with what is due for the owner: another round, if a command waits that is not marked.
     pub(crate) fn send(&mut self, now: u64, end: RoundEnd, adapter: &Adapter) -> RoundEnd {
         if end.ended > 0 {
             self.sockets.on_descriptor_freed();

@@ -86,6 +86,8 @@ impl<W: Wire + HasAddress + Drop, L: OwnerLog + Drop> Serving<W> for Owned<W, L>
             ready: ready || was_reset,
             next: self.peers.next_moment(),
         };
+        // Nothing is kept, so a command is marked as soon as it waits.
+        self.owner.port.mark(&mut self.peers);
         Ok(self.owner.send(now, end, self.peers.adapter()))
     }
 

@@ -202,7 +202,7 @@ impl<L: OwnerLog + Drop> OwnerSockets<L> {
         true
     }
 
-    /// Hands over the commands that wait, after a round, and writes what the session has for the owner.
+    /// Hands over the commands that are marked, after a round, and writes what the session has for the owner.
     pub(crate) fn send(&mut self, now: u64, port: &mut OwnerPort, adapter: &Adapter) {
         for _ in 0..MAX_WRITES {
             // What is written makes space for further commands.

@@ -10,7 +10,7 @@ use Rattle.cip_owner.specs.Queue.{QueueState}
 use Rattle.device_state.specs.Saved as device
 use Rattle.enip_keep.specs.Kept.{Kept}
 use Rattle.device_state.specs.QueueEntries.{QUEUE_ENTRIES}
-use Rattle.kept_adapter.specs.Saved.{pair_of, saved_objects, saved_ledger, saved_queue, saved_device, first_of}
+use Rattle.kept_adapter.specs.Saved.{pair_of, saved_objects, versioned_objects, saved_ledger, saved_queue, saved_device, first_of}
 use Rattle.kept_adapter.specs.Saved.{first_queue_entries}
 use Rattle.saved_state.specs.States.{Entry}
 use Rattle.saved_state.specs.Writing.{entry_number}
@@ -33,8 +33,13 @@ get_rest (x ∷ xs) ys i (suc n) e =
 
 -- ---- how many values there are
 
-abbrev values : Contents → List device.Entry
-values objects = device.saved (device.state_of objects None)
+abbrev values : Contents → Option QueueState → List device.Entry
+values objects queue = device.object_entries objects queue
+
+-- The version is a part of an entry.
+same_size : (objects : Contents) (queue : Option QueueState)
+    → length (map pair_of (values objects queue)) ≡ length (saved_objects objects)
+same_size objects queue = refl
 
 value_within : (key : ℕ) (bytes : List ℕ) (es : List device.Entry) (i : ℕ)
     → device.entry_in (Some key) bytes ≡ slice_get es i → i + 1 ≤ length (map pair_of es)
@@ -49,28 +54,38 @@ value_past bytes (x ∷ es) zero e = absurd (cc)
 value_past bytes (x ∷ es) (suc i) e = let h = value_past bytes es i e in omega (arith, h)
 
 pub one_more : (objects : Contents) (r : Option ℕ) (bytes : List ℕ) (count : ℕ)
-    → device.entry_in r bytes ≡ slice_get (values objects) count → is_some r ≡ true
+    → device.entry_in r bytes ≡ slice_get (values objects None) count → is_some r ≡ true
     → count + 1 ≤ length (saved_objects objects)
 one_more objects None bytes count e is = absurd (cc)
-one_more objects (Some key) bytes count e is = value_within key bytes (values objects) count e
+one_more objects (Some key) bytes count e is =
+    let h = value_within key bytes (values objects None) count e in
+    let size = same_size objects None in
+    omega (arith, h, size)
 
 pub all_values : (objects : Contents) (r : Option ℕ) (bytes : List ℕ) (count : ℕ)
-    → device.entry_in r bytes ≡ slice_get (values objects) count → is_some r ≡ false
+    → device.entry_in r bytes ≡ slice_get (values objects None) count → is_some r ≡ false
     → count ≤ length (saved_objects objects) → IsCounted objects count
 all_values objects (Some key) bytes count e is within = absurd (cc)
 all_values objects None bytes count e is within =
-    let h = value_past bytes (values objects) count e in (within, inl (omega (arith, h, within)))
+    let h = value_past bytes (values objects None) count e in
+    let size = same_size objects None in
+    (within, inl (omega (arith, h, within, size)))
 
-pub counted : (objects : Contents) (bytes : List ℕ) (count index : ℕ) → IsCounted objects count → index < 2 ^ 64
-    → device.entry_in None bytes ≡ slice_get (values objects) index → count ≡ length (saved_objects objects)
-counted objects bytes count index (within, inl e) fits at = e
-counted objects bytes count index (within, inr big) fits at =
-    let h = value_past bytes (values objects) index at in omega (arith, within, big, fits, h)
+pub counted : (objects : Contents) (queue : Option QueueState) (bytes : List ℕ) (count index : ℕ) → IsCounted objects count
+    → index < 2 ^ 64 → device.entry_in None bytes ≡ slice_get (values objects queue) index
+    → count ≡ length (saved_objects objects)
+counted objects queue bytes count index (within, inl e) fits at = e
+counted objects queue bytes count index (within, inr big) fits at =
+    let h = value_past bytes (values objects queue) index at in
+    let size = same_size objects queue in
+    omega (arith, within, big, fits, h, size)
 
-pub not_within : (objects : Contents) (bytes : List ℕ) (count index : ℕ) → IsCounted objects count
-    → device.entry_in None bytes ≡ slice_get (values objects) index → index < count → ⊥
-not_within objects bytes count index counts at below =
-    let h = value_past bytes (values objects) index at in omega (arith, counts.0, below, h)
+pub not_within : (objects : Contents) (queue : Option QueueState) (bytes : List ℕ) (count index : ℕ)
+    → IsCounted objects count → device.entry_in None bytes ≡ slice_get (values objects queue) index → index < count → ⊥
+not_within objects queue bytes count index counts at below =
+    let h = value_past bytes (values objects queue) index at in
+    let size = same_size objects queue in
+    omega (arith, counts.0, below, h, size)
 
 -- ---- an entry of the objects
 
@@ -102,15 +117,15 @@ map_length [] = refl
 map_length (x ∷ xs) = ap suc (map_length xs)
 
 pub object_entry : (objects : Contents) (ledger : Option LedgerState) (queue : Option QueueState) (key : ℕ)
-    (bytes : List ℕ) (i : ℕ) → device.entry_in (Some key) bytes ≡ slice_get (values objects) i
+    (bytes : List ℕ) (i : ℕ) → device.entry_in (Some key) bytes ≡ slice_get (values objects queue) i
     → entry_in (Some key) bytes ≡ slice_get (entries_of (saved_device objects ledger queue)) i
 object_entry objects ledger queue key bytes i e =
-    let h = value_within key bytes (values objects) i e in
+    let h = value_within key bytes (values objects queue) i e in
     let rest = saved_ledger ledger ++ saved_queue queue in
-    value_at (Some key) bytes (values objects) i e
-    ∙ sym (ap (λ es. slice_get es i) (split_map (saved_objects objects) rest)
-    ∙ get_front (entries_of (saved_objects objects)) (entries_of rest) i
-    (omega (arith, h, map_length (saved_objects objects))))
+    value_at (Some key) bytes (values objects queue) i e
+    ∙ sym (ap (λ es. slice_get es i) (split_map (versioned_objects objects queue) rest)
+    ∙ get_front (entries_of (versioned_objects objects queue)) (entries_of rest) i
+    (omega (arith, h, map_length (versioned_objects objects queue))))
 
 -- The entry behind the values.
 pub behind_values : (objects : Contents) (ledger : Option LedgerState) (queue : Option QueueState) (i n count : ℕ)
@@ -119,10 +134,11 @@ pub behind_values : (objects : Contents) (ledger : Option LedgerState) (queue : 
     ≡ slice_get (entries_of (saved_ledger ledger ++ saved_queue queue)) n
 behind_values objects ledger queue i n count c e =
     let rest = saved_ledger ledger ++ saved_queue queue in
-    ap (λ es. slice_get es i) (split_map (saved_objects objects) rest)
-    ∙ ap (slice_get (entries_of (saved_objects objects) ++ entries_of rest)) e
-    ∙ get_rest (entries_of (saved_objects objects)) (entries_of rest) n count
-    (omega (arith, c, map_length (saved_objects objects)))
+    let size = same_size objects queue in
+    ap (λ es. slice_get es i) (split_map (versioned_objects objects queue) rest)
+    ∙ ap (slice_get (entries_of (versioned_objects objects queue) ++ entries_of rest)) e
+    ∙ get_rest (entries_of (versioned_objects objects queue)) (entries_of rest) n count
+    (omega (arith, c, size, map_length (versioned_objects objects queue)))
 
 -- ---- a numbered entry
 

@@ -9,7 +9,7 @@ use crate::marked::MarkedLedger;
 use cip_ledger::{DoubtfulCommand, Ledger, MOST_ORIGINATORS};
 use cip_objects::{Objects, ReplyBuf};
 use cip_owner::Queue;
-use device_state::{QUEUE_ENTRIES, saved_entry, write_queue_entry};
+use device_state::{QUEUE_ENTRIES, object_entry, write_queue_entry};
 use enip_adapter::Adapter;
 use kept_adapter::{ledger_key, queue_key};
 use saved_state::{EntryHead, EntrySource};
@@ -66,7 +66,7 @@ impl<'a> AdapterEntries<'a> {
     pub(crate) fn entry(&self, index: usize, bytes: &mut ReplyBuf) -> Option<u64>
         ensures { entry_in result bytes.new.items ≡ slice_get self.now index }
     {
-        if let Some(key) = saved_entry(self.objects, None, index, bytes) {
+        if let Some(key) = object_entry(self.objects, self.queue, index, bytes) {
             return Some(key);
         }
         if index < self.values {
@@ -157,7 +157,7 @@ fn value_count(objects: &Objects) -> usize
 {
     let mut bytes = ReplyBuf::new();
     for count in 0..usize::MAX {
-        if saved_entry(objects, None, count, &mut bytes).is_none() {
+        if object_entry(objects, None, count, &mut bytes).is_none() {
             return count;
         }
     }

@@ -3,7 +3,11 @@
 use super::application_objects::objects_with_conveyor;
 use cip_ledger::{KeptCommand, Ledger};
 use cip_objects::{Objects, ReplyBuf};
-use device_state::{Outcome, identity_key, is_same_device, restore, saved_entry};
+use cip_owner::Queue;
+use device_state::{
+    Outcome, identity_key, is_same_device, object_entry, restore, restore_queue_entry, saved_entry,
+    write_queue_entry,
+};
 use std::alloc::Global;
 use std::process::Abort;
 use std::test::Fail;
@@ -188,5 +192,71 @@ fn without_a_ledger(rt: HostRuntime) -> Result<(), Fail> {
     );
     assert!(rt; is_same_device(&objects, IDENTITY));
     assert!(rt; !is_same_device(&objects, b""));
+    Ok(())
+}
+
+/// A queue with this next ticket, of which those up to another one were handed over.
+fn queue(rt: &impl Abort, alloc: Global, next: u64, handed: u32) -> Result<Queue, Fail> {
+    let mut queue = Queue::new(alloc, 4)?;
+    assert!(rt; queue.set_next(next));
+    queue.set_handed(handed);
+    Ok(queue)
+}
+
+/// The version of a state, and the tickets of its queue. Without a mark both are those of version 1.
+#[test]
+fn versions(rt: HostRuntime) -> Result<(), Fail> {
+    let objects = objects_with_conveyor(rt.alloc())?;
+    let mut bytes = ReplyBuf::new();
+    let rows: [(u64, u32, &[u8], &[u8]); 6] = [
+        (1, 0, b"", b"\x01\0\0\0\0\0\0\0"),
+        (8, 7, b"", b"\x08\0\0\0\0\0\0\0"),
+        (0x1_0000_0000, 0xffff_ffff, b"", b"\0\0\0\0\x01\0\0\0"),
+        (8, 6, b"\x02", b"\x08\0\0\0\0\0\0\0\x06\0\0\0"),
+        (8, 0, b"\x02", b"\x08\0\0\0\0\0\0\0\0\0\0\0"),
+        (
+            0x1_0000_0000,
+            0x0102,
+            b"\x02",
+            b"\0\0\0\0\x01\0\0\0\x02\x01\0\0",
+        ),
+    ];
+    for (next, handed, version, tickets) in rows {
+        let old = queue(&rt, rt.alloc(), next, handed)?;
+        assert_eq!(rt;
+            object_entry(&objects, Some(&old), 0, &mut bytes),
+            Some(KEYS[0])
+        );
+        assert!(rt; &bytes[..8] == IDENTITY && &bytes[8..] == version);
+        assert!(rt; is_same_device(&objects, &bytes));
+        write_queue_entry(&old, 0, &mut bytes);
+        assert_eq!(rt; bytes.as_slice(), tickets);
+        let mut new = queue(&rt, rt.alloc(), 3, 1)?;
+        assert!(rt; restore_queue_entry(&mut new, 0, &bytes));
+        assert!(rt; new.next() == next && new.handed() == handed);
+    }
+    assert_eq!(rt; object_entry(&objects, None, 0, &mut bytes), Some(KEYS[0]));
+    assert_eq!(rt; bytes.as_slice(), IDENTITY);
+    assert_eq!(rt; object_entry(&objects, None, 1, &mut bytes), Some(KEYS[3]));
+    assert!(rt; !is_same_device(&objects, b"\x34\x12\x07\x00\x04\x03\x02\x01\x03"));
+    assert!(rt; !is_same_device(&objects, b"\x34\x12\x07\x00\x05\x03\x02\x01\x02"));
+    Ok(())
+}
+
+/// Other bytes are not the tickets of a queue.
+#[test]
+fn tickets_that_do_not_fit(rt: HostRuntime) -> Result<(), Fail> {
+    let rows: [&[u8]; 5] = [
+        b"",
+        b"\x08\0\0\0\0\0\0",
+        b"\x08\0\0\0\0\0\0\0\x06",
+        b"\x08\0\0\0\0\0\0\0\x06\0\0\0\0",
+        b"\x01\0\0\0\x01\0\0\0\x06\0\0\0",
+    ];
+    for bytes in rows {
+        let mut queue = queue(&rt, rt.alloc(), 3, 1)?;
+        assert!(rt; !restore_queue_entry(&mut queue, 0, bytes));
+        assert!(rt; queue.next() == 3 && queue.handed() == 1);
+    }
     Ok(())
 }

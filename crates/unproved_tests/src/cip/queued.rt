@@ -373,6 +373,31 @@ fn asked_next_to_queued(rt: HostRuntime) -> Result<(), Fail> {
     Ok(())
 }
 
+/// A mark is that of a command that waits, and those before it. It stays.
+#[test]
+fn marks(rt: HostRuntime) -> Result<(), Fail> {
+    let mut device = queued_objects(rt.alloc(), 3)?;
+    assert!(rt; !queue(&mut device)?.mark(1) && queue(&mut device)?.handed() == 0);
+    for ticket in 1..=3u8 {
+        check_queued(
+            &rt,
+            &mut device,
+            1,
+            &[ticket, 0, 0, 0],
+            &[0xb3, 0, 0, 0, ticket, 0, 0, 0],
+        )?;
+    }
+    let queue = queue(&mut device)?;
+    assert_eq!(rt; queue.handed(), 0);
+    assert!(rt; queue.mark(2) && queue.handed() == 2);
+    assert!(rt; queue.mark(1) && queue.handed() == 2);
+    assert!(rt; !queue.mark(4) && !queue.mark(0) && queue.handed() == 2);
+    assert!(rt; queue.finish(2, &reply(0, b"\x2a")?));
+    assert!(rt; !queue.mark(2) && queue.handed() == 2);
+    assert!(rt; queue.mark(3) && queue.handed() == 3);
+    Ok(())
+}
+
 /// What a restarted device puts back: the next ticket, the waiting commands in order, and the results.
 #[test]
 fn put_back(rt: HostRuntime) -> Result<(), Fail> {
@@ -388,9 +413,11 @@ fn put_back(rt: HostRuntime) -> Result<(), Fail> {
         )?;
     }
     assert!(rt; queue(&mut old)?.finish(2, &reply(0, b"\x2a")?));
+    assert!(rt; queue(&mut old)?.mark(1));
     let mut new = queued_objects(alloc, 3)?;
     put_back_all(&rt, queue(&mut old)?, queue(&mut new)?)?;
     check_waiting(&rt, queue(&mut new)?, &[1, 3]);
+    assert_eq!(rt; queue(&mut new)?.handed(), 1);
     check_result(&rt, &mut new, 1, 2, b"\xce\0\0\0\0\0\x2a");
     check_result(&rt, &mut new, 1, 3, PENDING);
     check_queued(&rt, &mut new, 1, b"\0\0\0\0", b"\xb3\0\0\0\x04\0\0\0")?;
@@ -402,6 +429,7 @@ fn put_back(rt: HostRuntime) -> Result<(), Fail> {
 /// Puts what a queue has into another one.
 fn put_back_all(rt: &impl Abort, old: &Queue, new: &mut Queue) -> Result<(), Fail> {
     assert!(rt; new.set_next(old.next()));
+    new.set_handed(old.handed());
     for index in 0..old.waiting_count() {
         assert!(rt; new.restore_waiting(old.waiting(index).ok_or("a command")?));
     }

@@ -44,16 +44,16 @@ fn owner_returns(rt: HostRuntime) -> Result<(), Fail> {
     Ok(())
 }
 
-/// After a restart all commands that wait may have been handed over before.
+/// After a restart the commands up to a ticket may have been handed over before.
 #[test]
 fn device_restarts(rt: HostRuntime) -> Result<(), Fail> {
-    let mut hand_over = HandOver::restarted(3, 8);
+    let mut hand_over = HandOver::restarted(3, 7);
     assert!(rt; hand_over.next(&[5, 7]) == again(5));
     assert!(rt; hand_over.next(&[5, 7, 8]) == again(7));
     assert!(rt; hand_over.next(&[5, 7, 8]) == first(8));
-    let mut new = HandOver::restarted(1, 1);
+    let mut new = HandOver::restarted(1, 0);
     assert!(rt; new.next(&[1]) == first(1));
-    let mut full = HandOver::restarted(1, 0x1_0000_0000);
+    let mut full = HandOver::restarted(1, 0xffff_ffff);
     assert!(rt; full.next(&[0xffff_ffff]) == again(0xffff_ffff));
     Ok(())
 }
@@ -71,7 +71,7 @@ fn ahead(rt: HostRuntime) -> Result<(), Fail> {
     assert!(rt; one.next(&[2, 3]) == again(2));
     assert!(rt; one.next(&[2, 3]) == None);
     assert!(rt; one.next(&[3]) == first(3));
-    let mut two = HandOver::restarted(2, 6);
+    let mut two = HandOver::restarted(2, 5);
     assert!(rt; two.next(&[4, 5, 6, 7]) == again(4));
     assert!(rt; two.next(&[4, 5, 6, 7]) == again(5));
     assert!(rt; two.next(&[4, 5, 6, 7]) == None);

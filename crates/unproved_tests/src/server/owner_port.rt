@@ -144,6 +144,15 @@ fn device<'a>(
     Ok((peers, port))
 }
 
+/// The port of a device that has started again.
+fn later_port(alloc: Global, peers: &Peers<PeerWire<ScriptedWire<'_>>>) -> Result<OwnerPort, Fail> {
+    let configuration = Configuration::from_bytes(alloc, DEVICE)
+        .ok()
+        .ok_or("the configuration is read")?;
+    let table = DeviceTable::new(alloc, &configuration)?;
+    Ok(OwnerPort::new(alloc, table, None, 1_000_000, peers.adapter())?)
+}
+
 /// Feeds lines, and returns what is pending after them.
 fn fed(
     alloc: Global,
@@ -312,7 +321,8 @@ const COMMAND: &str =
     "{\"command\":{\"ticket\":1,\"class\":768,\"instance\":1,\"service\":50,\"data\":\"05000000\",\
 \"by\":\"10.0.0.5\",\"again\":false}}\n";
 
-/// A peer sets the data, sets the speed, sends a command, and sets the speed again: each is reported, in this order.
+/// A peer sets the data, sets the speed, sends a command, and sets the speed again: each set is reported, in this order, and
+/// then the command, once it is marked.
 #[test]
 fn what_a_peer_does_is_reported_in_order(rt: HostRuntime) -> Result<(), Fail> {
     let alloc = rt.alloc();
@@ -338,18 +348,23 @@ fn what_a_peer_does_is_reported_in_order(rt: HostRuntime) -> Result<(), Fail> {
     port.begin(peers.adapter());
     let _ = pending(alloc, &mut port)?;
     assert_eq!(rt; peers.add(0, peer(&calls, &made)), Ok(0));
+    assert!(rt; !port.has_unmarked(peers.adapter()));
     peers.round_watched(0, &mut NoOwner, &mut port);
     assert_eq!(rt; made.get(), calls.len());
     let reported = pending(alloc, &mut port)?;
     let text = reported.as_str();
     assert!(rt; text.starts_with(SETS));
-    assert!(rt; text[SETS.len()..].starts_with(COMMAND));
-    assert!(rt;
-        text[SETS.len() + COMMAND.len()..].ends_with(
-            "\"data\":\"e803\",\"values\":[1000],\"by\":\"10.0.0.5\"}}\n"
-        )
-    );
+    assert!(rt; text[SETS.len()..].starts_with("{\"changed\":"));
+    assert!(rt; text.ends_with("\"data\":\"e803\",\"values\":[1000],\"by\":\"10.0.0.5\"}}\n"));
+    // the command is not marked
+    port.hand_over(peers.adapter());
+    assert!(rt; port.pending().is_empty() && port.has_unmarked(peers.adapter()));
+    port.mark(&mut peers);
+    assert!(rt; port.pending().is_empty() && !port.has_unmarked(peers.adapter()));
+    port.hand_over(peers.adapter());
+    assert!(rt; pending(alloc, &mut port)?.as_str() == COMMAND);
     // nothing twice
+    port.mark(&mut peers);
     port.hand_over(peers.adapter());
     assert!(rt; port.pending().is_empty());
     Ok(())
@@ -359,10 +374,11 @@ fn what_a_peer_does_is_reported_in_order(rt: HostRuntime) -> Result<(), Fail> {
 fn handed(
     alloc: Global,
     port: &mut OwnerPort,
-    peers: &Peers<PeerWire<ScriptedWire<'_>>>,
+    peers: &mut Peers<PeerWire<ScriptedWire<'_>>>,
 ) -> Result<String, Fail> {
     port.begin(peers.adapter());
     let _ = pending(alloc, port)?;
+    port.mark(peers);
     port.hand_over(peers.adapter());
     pending(alloc, port)
 }
@@ -403,11 +419,13 @@ fn a_command_is_handed_over_until_it_is_done(rt: HostRuntime) -> Result<(), Fail
     let (mut peers, mut port) = device(alloc, None)?;
     assert_eq!(rt; peers.add(0, peer(&calls, &made)), Ok(0));
     peers.round_watched(0, &mut NoOwner, &mut port);
+    // without an owner nothing is marked
+    port.mark(&mut peers);
     port.hand_over(peers.adapter());
-    assert!(rt; port.pending().is_empty());
-    assert!(rt; handed(alloc, &mut port, &peers)?.as_str() == COMMAND);
+    assert!(rt; port.pending().is_empty() && !port.has_unmarked(peers.adapter()));
+    assert!(rt; handed(alloc, &mut port, &mut peers)?.as_str() == COMMAND);
     port.end();
-    let again = handed(alloc, &mut port, &peers)?;
+    let again = handed(alloc, &mut port, &mut peers)?;
     assert!(rt;
         again
             .as_str()
@@ -418,7 +436,39 @@ fn a_command_is_handed_over_until_it_is_done(rt: HostRuntime) -> Result<(), Fail
         assert!(rt; answered.as_str() == answer, "{}", answered.as_str());
     }
     port.end();
-    assert!(rt; handed(alloc, &mut port, &peers)?.is_empty());
+    assert!(rt; handed(alloc, &mut port, &mut peers)?.is_empty());
+    Ok(())
+}
+
+/// A command that no owner has seen before a restart is new after it. One that was marked comes again, even if the device
+/// ended before its line left.
+#[test]
+fn a_mark_outlives_a_restart(rt: HostRuntime) -> Result<(), Fail> {
+    let alloc = rt.alloc();
+    let command = unconnected(alloc, &request(alloc, 50, 1, b"\x05\0\0\0")?)?;
+    let ticket = unconnected(alloc, b"\xb2\0\0\0\x01\0\0\0")?;
+    let read = joined(alloc, &[REGISTER, &command])?;
+    let calls = [
+        Call::GivesAll(read.as_slice()),
+        Call::Takes(REGISTERED, 28),
+        Call::Takes(&ticket, ticket.len()),
+    ];
+    let made = Cell::new(0);
+    let (mut peers, mut port) = device(alloc, None)?;
+    assert_eq!(rt; peers.add(0, peer(&calls, &made)), Ok(0));
+    peers.round_watched(0, &mut NoOwner, &mut port);
+    let mut unseen = later_port(alloc, &peers)?;
+    assert!(rt;
+        handed(alloc, &mut unseen, &mut peers)?
+            .as_str()
+            .ends_with("\"again\":false}}\n")
+    );
+    let mut marked = later_port(alloc, &peers)?;
+    assert!(rt;
+        handed(alloc, &mut marked, &mut peers)?
+            .as_str()
+            .ends_with("\"again\":true}}\n")
+    );
     Ok(())
 }
 
