@@ -9,6 +9,7 @@ pub mod Answered
 pub mod Executions
 pub mod Doubts
 pub mod Withdrawals
+pub mod WithdrawnAnswers
 pub mod Pendings
 pub mod OnePending
 pub mod Lives

@@ -21,5 +21,5 @@ pub mod OnePending
 pub mod Runs
 pub mod Reaching
 pub mod Executing
-pub mod Device
 pub mod Withdrawing
+pub mod Device

@@ -36,7 +36,6 @@ mod slots;
 mod status;
 mod target;
 mod withdrawal;
-mod withdrawing;
 
 pub use doubt::DoubtfulCommand;
 pub use ledger::{KeptCommand, Ledger};
