@@ -10,6 +10,7 @@ pub mod Executions
 pub mod Doubts
 pub mod Withdrawals
 pub mod WithdrawnAnswers
+pub mod WithdrawnRuns
 pub mod Pendings
 pub mod OnePending
 pub mod Lives

@@ -14,15 +14,16 @@ use Rattle.cip_ledger.specs.Pending.{has_ticket, is_pending_at, any_pending, don
 use Rattle.cip_ledger.specs.PendingLaws.{IsPending, Step, Asks, Completes, Changes, Withdraws, completed_if, withdrawn_if, slot_after, result_in, IsNotWithdrawn, content_by, node_step, node_after_steps, journal_of_step, journal_of_steps, AreAnswersOf}
 use Rattle.cip_ledger.specs.Requests.{Command}
 use Rattle.cip_ledger.specs.Runs.{Request, slot_in, turn_at, next, events_by}
-use Rattle.cip_ledger.specs.Services.{success, reply_to, state_content, last_content, DONE, PENDING, HEAD_SIZE}
+use Rattle.cip_ledger.specs.Services.{success, reply_to, state_content, last_content, DONE, PENDING, WITHDRAWN, HEAD_SIZE}
 use Rattle.cip_ledger.specs.Turn.{fate, turn_of}
+use Rattle.cip_ledger.specs.WithdrawLaws.{IsWithdrawn}
 use Rattle.cip_ledger.specs.Withdrawing.{of_command, withdraw_by_slot, can_withdraw, with_withdrawn, withdrawn}
 use Rattle.cip_ledger.proofs.CompletedSlots.{completed-number, none_pending, slot_of-completed}
 use Rattle.cip_ledger.proofs.Fates.{fate-means}
 use Rattle.cip_ledger.proofs.Settled.{Held, Settled, held-by, not_freed-left, not_freed-right}
 use Rattle.cip_ledger.proofs.Answered.{settles, again-by}
 use Rattle.cip_ledger.proofs.SlotLemmas.{slot_of-originator}
-use Rattle.cip_ledger.proofs.Withdrawals.{withdrawn-own, withdrawn-other}
+use Rattle.cip_ledger.proofs.Withdrawals.{withdrawn-own, withdrawn-other, withdrawn-content}
 use Rattle.cip_ledger.proofs.Doubts.{and_false, by_number, repeat-at}
 
 -- ---- completing
@@ -334,6 +335,19 @@ module _ {M : Type 0} (after : M → ℕ → List ℕ → M) (answer : M → ℕ
       repeat-at after answer standing node.ledger (with_completed ticket reply ledger) node.router request command slot
       (is ∙ ap (λ l. Some l) (completed-kept ledger ticket reply kept))
       given.given given.life found pending.number_is (omega (arith, fits))
+
+  pub withdrawn-answered : (node : LedgerRouter M) (ledger : LedgerState) (request : Request) (command : Command) →
+      node.ledger ≡ Some ledger → IsGiven ledger request command (HEAD_SIZE + 1) →
+      IsWithdrawn ledger command.originator command.number →
+      turn_at after answer standing node request
+      ≡ turn_of node.ledger node.router (reply_to services.DO_ONCE (success (WITHDRAWN ∷ [])))
+  withdrawn-answered node ledger request command is given gone =
+      let content = withdrawn-content gone.slot gone.withdrawn in
+      let fits : HEAD_SIZE + length (last_content gone.slot) ≤ request.0
+      = subst (λ c. HEAD_SIZE + length c ≤ request.0) (sym content) given.fits in
+      repeat-at after answer standing node.ledger ledger node.router request command gone.slot is given.given given.life
+      gone.found gone.number_is fits
+      ∙ ap (λ c. turn_of node.ledger node.router (reply_to services.DO_ONCE (success c))) content
 
   -- the slot of a command after a step, as long as it is not freed
   held-step : (step : Step M) (steps : List (Step M)) (node : LedgerRouter M) (originator number : ℕ) (slot : SlotState) →

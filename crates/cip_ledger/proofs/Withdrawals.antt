@@ -2,7 +2,7 @@
 use Rattle.std.proofs.Common.{◌≡◌, ◌≢◌, ◌⊎◌, inl, inr, ℕ, ◌<◌, ◌≤◌, ◌==◌, ◌&&◌, nat_lt, not, Bool, true, false, if◌then◌else◌, Option, Some, None, unwrap_or, List, [], ◌∷◌, length, refl, ap, sym, ◌∙◌, subst, arith}
 use Rattle.std.specs.Prelude.{option_map, is_some}
 use Rattle.std.specs.Option.{option_and_then}
-use Rattle.std.proofs.lemmas.Bool.{eqb-true, eqb-false, ltb-true, ne_eqb}
+use Rattle.std.proofs.lemmas.Bool.{eqb-true, eqb-false, ltb-true, ne_eqb, le-ltb}
 use Rattle.cip_bytes.specs.Numbers.{number_at}
 use Rattle.cip_ledger.specs.declared.service.TheConstants as services
 use Rattle.cip_ledger.specs.declared.withdrawal.Withdrawal.{Withdrawal}
@@ -176,6 +176,16 @@ withdrawn-keeps (Some ledger) by number originator slot found waits other = go (
         let none : withdraw_by_slot ledger by number (slot_of by ledger.taken) ≡ None
         = ap (withdraw_by_slot ledger by number) (ap (λ o. slot_of o ledger.taken) same ∙ found) ∙ rw (waits, differs) refl in
         ap (λ o. slot_of originator (if is_some o then with_withdrawn by number ledger else ledger).taken) none ∙ found
+
+-- a command is withdrawn once
+pub withdrawn-once : (ledger : LedgerState) (originator number : ℕ) → can_withdraw ledger originator number ≡ true
+    → can_withdraw (withdrawn originator number ledger) originator number ≡ false
+withdrawn-once ledger originator number can =
+    let new = with_withdrawn originator number ledger in
+    let none : withdraw_by_slot new originator number (slot_of originator new.taken) ≡ None
+    = ap (withdraw_by_slot new originator number) (withdrawn-own ledger originator number)
+    ∙ rw (le-ltb number number (omega arith)) refl in
+    ap (λ b. can_withdraw (if b then new else ledger) originator number) can ∙ ap (λ o. is_some o) none
 
 -- ---- the names of what is withdrawn
 

@@ -22,4 +22,5 @@ pub mod Runs
 pub mod Reaching
 pub mod Executing
 pub mod Withdrawing
+pub mod WithdrawLaws
 pub mod Device

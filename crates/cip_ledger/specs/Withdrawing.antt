@@ -101,6 +101,13 @@ module _ {M : Type 0} (withdraw : M → ℕ → Option M) where
   abbrev pub withdrawn_by : List ℕ → LedgerRouter M → Option (LedgerRouter M)
   withdrawn_by text node = option_and_then (withdrawn_from node) (withdrawal_of node.ledger text)
 
+  -- The ticket of the command that leaves the queue, if one does.
+  abbrev pub ticket_left : LedgerRouter M → Withdrawal → Option ℕ
+  ticket_left node w = if is_some (left_by withdraw node.router w.ticket) then w.ticket else None
+
+  abbrev pub left_ticket : List ℕ → LedgerRouter M → Option ℕ
+  left_ticket text node = option_and_then (ticket_left node) (withdrawal_of node.ledger text)
+
   -- The same of a request to the ledger.
   abbrev pub found_asked : LedgerRequest → LedgerState → M → LedgerRouter M
   found_asked request ledger router =
