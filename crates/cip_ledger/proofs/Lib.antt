@@ -9,8 +9,6 @@ pub mod Answered
 pub mod Executions
 pub mod Doubts
 pub mod Withdrawals
-pub mod WithdrawnAnswers
-pub mod WithdrawnRuns
 pub mod Pendings
 pub mod OnePending
 pub mod Lives
@@ -18,6 +16,7 @@ pub mod Forms
 pub mod Words
 pub mod Turns
 pub mod Devices
+pub mod WithdrawnAnswers
 pub mod ReachingLemmas
 pub mod ExecutingLemmas
 pub mod SlotListLemmas

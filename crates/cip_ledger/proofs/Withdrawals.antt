@@ -6,12 +6,13 @@ use Rattle.std.proofs.lemmas.Bool.{eqb-true, eqb-false, ltb-true, ne_eqb, le-ltb
 use Rattle.cip_bytes.specs.Numbers.{number_at}
 use Rattle.cip_ledger.specs.declared.service.TheConstants as services
 use Rattle.cip_ledger.specs.declared.withdrawal.Withdrawal.{Withdrawal}
-use Rattle.cip_ledger.specs.declared.router.LedgerRouter.{LedgerRouter}
+use Rattle.cip_ledger.specs.Device.{Device}
 use Rattle.cip_ledger.specs.Ledger.{LedgerState, SlotState, slot_of, is_pending, is_withdrawn, slot_withdrawn}
 use Rattle.cip_ledger.specs.Requests.{LedgerRequest, ledger_request, do_once_with}
 use Rattle.cip_ledger.specs.Runs.{slot_in}
 use Rattle.cip_ledger.specs.Services.{last_content, state_content, WITHDRAWN}
-use Rattle.cip_ledger.specs.Withdrawing.{of_command, of_pending, of_unused, withdraw_by_slot, by_withdraw, forget_by_slot, by_forget, withdrawal_by, withdrawal_of, can_withdraw, with_withdrawn, withdrawn, left_by, with_withdrawal, withdrawn_from, found_by}
+use Rattle.cip_ledger.specs.Withdrawing.{of_command, of_pending, of_unused, withdraw_by_slot, by_withdraw, forget_by_slot, by_forget, withdrawal_by, withdrawal_of, can_withdraw, with_withdrawn, withdrawn, left_queue, with_withdrawal, withdrawn_from, found_by}
+use Rattle.cip_owner.specs.Queue.{QueueState}
 use Rattle.cip_ledger.proofs.Fates.{IsNewAt, HasEnded}
 use Rattle.cip_ledger.proofs.SlotLemmas.{slot_of-with_slot, slot_of-with_other}
 
@@ -222,71 +223,70 @@ forget-named originator number (Some slot) w e = go (is_pending slot) e
     go true f = named-if (slot.number == number) originator number slot.ticket w f
     go false f = absurd (none-some w f)
 
--- ---- the ledger and the router as a request finds them
+-- ---- the device as a request finds it
 
-module _ {M : Type 0} (withdraw : M → ℕ → Option M) where
-  -- by what the request withdraws
-  pub by-withdrawal : (P : LedgerRouter M → Type 0) (node : LedgerRouter M) (text : List ℕ) → P node
-      → ((ledger : LedgerState) (w : Withdrawal) (router : M) → node.ledger ≡ Some ledger → Withdraws ledger w
-      → left_by withdraw node.router w.ticket ≡ Some router → P (with_withdrawal node w router))
-      → P (found_by withdraw text node)
-  by-withdrawal P node text same more = go node.ledger refl
-    where
-      of_router : (ledger : LedgerState) (w : Withdrawal) (left : Option M) → node.ledger ≡ Some ledger
-          → Withdraws ledger w → left_by withdraw node.router w.ticket ≡ left
-          → P (unwrap_or (option_map (with_withdrawal node w) left) node)
-      of_router ledger w None is facts e = same
-      of_router ledger w (Some router) is facts e = more ledger w router is facts e
+-- by what the request withdraws
+pub by-withdrawal : (P : Device → Type 0) (device : Device) (text : List ℕ) → P device
+    → ((ledger : LedgerState) (w : Withdrawal) (queue : Option QueueState) → device.ledger ≡ Some ledger → Withdraws ledger w
+    → left_queue w.ticket device.router.queue ≡ Some queue → P (with_withdrawal device w queue))
+    → P (found_by text device)
+by-withdrawal P device text same more = go device.ledger refl
+  where
+    of_queue : (ledger : LedgerState) (w : Withdrawal) (left : Option (Option QueueState)) → device.ledger ≡ Some ledger
+        → Withdraws ledger w → left_queue w.ticket device.router.queue ≡ left
+        → P (unwrap_or (option_map (with_withdrawal device w) left) device)
+    of_queue ledger w None is facts e = same
+    of_queue ledger w (Some queue) is facts e = more ledger w queue is facts e
 
-      of_withdrawal : (ledger : LedgerState) (found : Option Withdrawal) → node.ledger ≡ Some ledger
-          → withdrawal_of (Some ledger) text ≡ found
-          → P (unwrap_or (option_and_then (withdrawn_from withdraw node) found) node)
-      of_withdrawal ledger None is e = same
-      of_withdrawal ledger (Some w) is e =
-          of_router ledger w (left_by withdraw node.router w.ticket) is (withdraws ledger w text e) refl
+    of_withdrawal : (ledger : LedgerState) (found : Option Withdrawal) → device.ledger ≡ Some ledger
+        → withdrawal_of (Some ledger) text ≡ found
+        → P (unwrap_or (option_and_then (withdrawn_from device) found) device)
+    of_withdrawal ledger None is e = same
+    of_withdrawal ledger (Some w) is e =
+        of_queue ledger w (left_queue w.ticket device.router.queue) is (withdraws ledger w text e) refl
 
-      go : (ledger : Option LedgerState) → node.ledger ≡ ledger
-          → P (unwrap_or (option_and_then (withdrawn_from withdraw node) (withdrawal_of ledger text)) node)
-      go None is = same
-      go (Some ledger) is = of_withdrawal ledger (withdrawal_of (Some ledger) text) is refl
+    go : (ledger : Option LedgerState) → device.ledger ≡ ledger
+        → P (unwrap_or (option_and_then (withdrawn_from device) (withdrawal_of ledger text)) device)
+    go None is = same
+    go (Some ledger) is = of_withdrawal ledger (withdrawal_of (Some ledger) text) is refl
 
-  -- a request that is not to the ledger's class withdraws nothing
-  pub unasked : (node : LedgerRouter M) (text : List ℕ) → ledger_request text ≡ None → found_by withdraw text node ≡ node
-  unasked node text none = go node.ledger
-    where
-      go : (ledger : Option LedgerState)
-          → unwrap_or (option_and_then (withdrawn_from withdraw node) (withdrawal_of ledger text)) node ≡ node
-      go None = refl
-      go (Some ledger) =
-          ap (λ o. unwrap_or (option_and_then (withdrawn_from withdraw node) (option_and_then (withdrawal_by ledger) o)) node) none
+-- without a ledger, and of a request that is not to the ledger's class, it is as it was
+pub unasked : (device : Device) (text : List ℕ) → ledger_request text ≡ None → found_by text device ≡ device
+unasked device text none = go device.ledger
+  where
+    go : (ledger : Option LedgerState)
+        → unwrap_or (option_and_then (withdrawn_from device) (withdrawal_of ledger text)) device ≡ device
+    go None = refl
+    go (Some ledger) =
+        ap (λ o. unwrap_or (option_and_then (withdrawn_from device) (option_and_then (withdrawal_by ledger) o)) device) none
 
-  -- nor does one of another service
-  other-service : (ledger : LedgerState) (asked : LedgerRequest) → (asked.service == services.WITHDRAW) ≡ false
-      → (asked.service == services.FORGET) ≡ false → withdrawal_by ledger asked ≡ None
-  other-service ledger asked no_withdraw no_forget = go (asked.instance == 1)
-    where
-      go : (own : Bool) → (if own then (if asked.service == services.WITHDRAW then by_withdraw ledger asked.data
-          else (if asked.service == services.FORGET then by_forget ledger asked.data else None)) else None) ≡ None
-      go true = rw (no_withdraw, no_forget) refl
-      go false = refl
+-- nor does one of another service
+other-service : (ledger : LedgerState) (asked : LedgerRequest) → (asked.service == services.WITHDRAW) ≡ false
+    → (asked.service == services.FORGET) ≡ false → withdrawal_by ledger asked ≡ None
+other-service ledger asked no_withdraw no_forget = go (asked.instance == 1)
+  where
+    go : (own : Bool) → (if own then (if asked.service == services.WITHDRAW then by_withdraw ledger asked.data
+        else (if asked.service == services.FORGET then by_forget ledger asked.data else None)) else None) ≡ None
+    go true = rw (no_withdraw, no_forget) refl
+    go false = refl
 
-  pub other-unasked : (node : LedgerRouter M) (text : List ℕ) (asked : LedgerRequest) → ledger_request text ≡ Some asked
-      → (asked.service == services.WITHDRAW) ≡ false → (asked.service == services.FORGET) ≡ false
-      → found_by withdraw text node ≡ node
-  other-unasked node text asked is no_withdraw no_forget = go node.ledger
-    where
-      go : (ledger : Option LedgerState)
-          → unwrap_or (option_and_then (withdrawn_from withdraw node) (withdrawal_of ledger text)) node ≡ node
-      go None = refl
-      go (Some ledger) =
-          ap (λ o. unwrap_or (option_and_then (withdrawn_from withdraw node) (option_and_then (withdrawal_by ledger) o)) node) is
-          ∙ ap (λ o. unwrap_or (option_and_then (withdrawn_from withdraw node) o) node)
-          (other-service ledger asked no_withdraw no_forget)
+pub other-unasked : (node : Device) (text : List ℕ) (asked : LedgerRequest) → ledger_request text ≡ Some asked
+    → (asked.service == services.WITHDRAW) ≡ false → (asked.service == services.FORGET) ≡ false
+    → found_by text node ≡ node
+other-unasked node text asked is no_withdraw no_forget = go node.ledger
+  where
+    go : (ledger : Option LedgerState)
+        → unwrap_or (option_and_then (withdrawn_from node) (withdrawal_of ledger text)) node ≡ node
+    go None = refl
+    go (Some ledger) =
+        ap (λ o. unwrap_or (option_and_then (withdrawn_from node) (option_and_then (withdrawal_by ledger) o)) node) is
+        ∙ ap (λ o. unwrap_or (option_and_then (withdrawn_from node) o) node)
+        (other-service ledger asked no_withdraw no_forget)
 
-  -- Do_Once withdraws nothing
-  pub once-unasked : (node : LedgerRouter M) (text bytes : List ℕ) → ledger_request text ≡ Some (do_once_with bytes)
-      → found_by withdraw text node ≡ node
-  once-unasked node text bytes is = other-unasked node text (do_once_with bytes) is refl refl
+-- Do_Once withdraws nothing
+pub once-unasked : (node : Device) (text bytes : List ℕ) → ledger_request text ≡ Some (do_once_with bytes)
+    → found_by text node ≡ node
+once-unasked node text bytes is = other-unasked node text (do_once_with bytes) is refl refl
 
 -- ---- a command that was withdrawn
 

@@ -4,16 +4,18 @@ use Rattle.std.specs.Prelude.{option_map}
 use Rattle.std.specs.Option.{option_and_then}
 use Rattle.std.proofs.lemmas.Bool.{eq-eqb, eqb-true, le-ltb, and_parts}
 use Rattle.cip_bytes.specs.Numbers.{number_at}
-use Rattle.cip_ledger.specs.declared.router.LedgerRouter.{LedgerRouter}
 use Rattle.cip_ledger.specs.declared.service.TheConstants as services
-use Rattle.cip_ledger.specs.declared.target.Standing.{Standing}
+use Rattle.cip_ledger.specs.Device.{Device, owned_standing, exec_device}
+use Rattle.cip_owner.specs.Owned.{OwnedState}
+use Rattle.cip_owner.specs.Queue.{QueueState}
 use Rattle.cip_ledger.specs.declared.withdrawal.Withdrawal.{Withdrawal}
 use Rattle.cip_ledger.specs.Ledger.{LedgerState, SlotState, slot_of, slot_withdrawn}
 use Rattle.cip_ledger.specs.Requests.{LedgerRequest, ledger_request}
 use Rattle.cip_ledger.specs.Services.{Action, Replies, Frees, Answer, success, reply_to, WITHDRAWN, withdraw, withdraw_in, forget, forget_in, instance_action, action_of}
 use Rattle.cip_ledger.specs.Standings.{at_router}
 use Rattle.cip_ledger.specs.Turn.{fate_of, turn, turn_by, acted}
-use Rattle.cip_ledger.specs.Withdrawing.{withdraw_by_slot, by_withdraw, forget_by_slot, by_forget, withdrawal_by, withdrawal_of, with_withdrawn, left_by, with_withdrawal, withdrawn_from, withdrawn_by}
+use Rattle.cip_ledger.specs.Withdrawing.{withdraw_by_slot, by_withdraw, forget_by_slot, by_forget, withdrawal_by, withdrawal_of, with_withdrawn, left_queue, with_withdrawal, withdrawn_from, withdrawn_by}
+use Rattle.cip_ledger.proofs.Devices.{after as exec_after, answer as exec_answer}
 use Rattle.cip_ledger.proofs.Withdrawals.{none-some, same-some, IsNamed, slot-named, forget-named, withdrawn-own}
 
 -- ---- the action of a request that finds its command withdrawn
@@ -89,60 +91,57 @@ module _ (ledger : LedgerState) (w : Withdrawal) (max_size : ℕ) (least : 8 ≤
 
 -- ---- the answer
 
-module _ {M : Type 0} (withdraw : M → ℕ → Option M) (after : M → ℕ → List ℕ → M) (answer : M → ℕ → List ℕ → List ℕ)
-    (standing : M → List ℕ → Standing) where
-  abbrev pub IsWithdrawnAnswer : List ℕ → Type 0
-  IsWithdrawnAnswer given =
-      (given ≡ reply_to services.WITHDRAW (success (WITHDRAWN ∷ []))) ⊎ (given ≡ reply_to services.FORGET (success []))
+abbrev pub IsWithdrawnAnswer : List ℕ → Type 0
+IsWithdrawnAnswer given =
+    (given ≡ reply_to services.WITHDRAW (success (WITHDRAWN ∷ []))) ⊎ (given ≡ reply_to services.FORGET (success []))
 
-  acted_answer : (asked : LedgerRequest) (action : Action) (ledger : Option LedgerState) (router : M)
-      → IsWithdrawnAction asked action
-      → IsWithdrawnAnswer (acted after answer (at_router standing router action) asked.service ledger router).answer
-  acted_answer asked action ledger router (inl is) =
-      inl (ap (λ a. (acted after answer (at_router standing router a) asked.service ledger router).answer) is.1
-      ∙ ap (λ s. reply_to s (success (WITHDRAWN ∷ []))) is.0)
-  acted_answer asked action ledger router (inr is) =
-      inr (ap (λ a. (acted after answer (at_router standing router a) asked.service ledger router).answer) is.2
-      ∙ ap (λ s. reply_to s (success [])) is.0)
+acted_answer : (asked : LedgerRequest) (action : Action) (ledger : Option LedgerState) (router : OwnedState)
+    → IsWithdrawnAction asked action
+    → IsWithdrawnAnswer (acted exec_after exec_answer (at_router owned_standing router action) asked.service ledger router).answer
+acted_answer asked action ledger router (inl is) =
+    inl (ap (λ a. (acted exec_after exec_answer (at_router owned_standing router a) asked.service ledger router).answer) is.1
+    ∙ ap (λ s. reply_to s (success (WITHDRAWN ∷ []))) is.0)
+acted_answer asked action ledger router (inr is) =
+    inr (ap (λ a. (acted exec_after exec_answer (at_router owned_standing router a) asked.service ledger router).answer) is.2
+    ∙ ap (λ s. reply_to s (success [])) is.0)
 
-  -- Withdraw that withdraws a command is answered that it is withdrawn, and Forget that does so frees the slot.
-  pub withdrawn-answer : (node found : LedgerRouter M) (max_size : ℕ) (text : List ℕ)
-      → withdrawn_by withdraw text node ≡ Some found → 8 ≤ max_size
-      → IsWithdrawnAnswer (turn after answer standing found.ledger found.router max_size text).answer
-  withdrawn-answer node found max_size text e least = of_ledger node.ledger refl e
-    where
-      of_router : (ledger : LedgerState) (asked : LedgerRequest) (w : Withdrawal) (left : Option M) → node.ledger ≡ Some ledger
-          → ledger_request text ≡ Some asked → withdrawal_by ledger asked ≡ Some w
-          → option_map (with_withdrawal node w) left ≡ Some found
-          → IsWithdrawnAnswer (turn after answer standing found.ledger found.router max_size text).answer
-      of_router ledger asked w None is asks by f = absurd (none-some found f)
-      of_router ledger asked w (Some router) is asks by f =
-          let same : with_withdrawal node w router ≡ found = same-some (with_withdrawal node w router) found f in
-          let own : found.ledger ≡ Some (with_withdrawn w.originator w.number ledger)
-          = ap (λ (n : LedgerRouter M). n.ledger) (sym same) ∙ ap (option_map (with_withdrawn w.originator w.number)) is in
-          subst IsWithdrawnAnswer
-          (sym (ap (λ l. (turn after answer standing l found.router max_size text).answer) own
-          ∙ ap (λ a. (turn_by after answer (fate_of standing (with_withdrawn w.originator w.number ledger) found.router max_size a)
-          (Some (with_withdrawn w.originator w.number ledger)) found.router max_size text).answer) asks))
-          (acted_answer asked (action_of (with_withdrawn w.originator w.number ledger) max_size asked)
-          (Some (with_withdrawn w.originator w.number ledger)) found.router (asked_action ledger w max_size least asked by))
+-- Withdraw that withdraws a command is answered that it is withdrawn, and Forget that does so frees the slot.
+pub withdrawn-answer : (device found : Device) (max_size : ℕ) (text : List ℕ)
+    → withdrawn_by text device ≡ Some found → 8 ≤ max_size → IsWithdrawnAnswer (exec_device found max_size text).answer
+withdrawn-answer device found max_size text e least = of_ledger device.ledger refl e
+  where
+    of_queue : (ledger : LedgerState) (asked : LedgerRequest) (w : Withdrawal) (left : Option (Option QueueState))
+        → device.ledger ≡ Some ledger → ledger_request text ≡ Some asked → withdrawal_by ledger asked ≡ Some w
+        → option_map (with_withdrawal device w) left ≡ Some found
+        → IsWithdrawnAnswer (exec_device found max_size text).answer
+    of_queue ledger asked w None is asks by f = absurd (none-some found f)
+    of_queue ledger asked w (Some queue) is asks by f =
+        let same : with_withdrawal device w queue ≡ found = same-some (with_withdrawal device w queue) found f in
+        let own : found.ledger ≡ Some (with_withdrawn w.originator w.number ledger)
+        = ap (λ (n : Device). n.ledger) (sym same) ∙ ap (option_map (with_withdrawn w.originator w.number)) is in
+        subst IsWithdrawnAnswer
+        (sym (ap (λ l. (turn exec_after exec_answer owned_standing l found.router max_size text).answer) own
+        ∙ ap (λ a. (turn_by exec_after exec_answer (fate_of owned_standing (with_withdrawn w.originator w.number ledger) found.router max_size a)
+        (Some (with_withdrawn w.originator w.number ledger)) found.router max_size text).answer) asks))
+        (acted_answer asked (action_of (with_withdrawn w.originator w.number ledger) max_size asked)
+        (Some (with_withdrawn w.originator w.number ledger)) found.router (asked_action ledger w max_size least asked by))
 
-      of_withdrawal : (ledger : LedgerState) (asked : LedgerRequest) (o : Option Withdrawal) → node.ledger ≡ Some ledger
-          → ledger_request text ≡ Some asked → withdrawal_by ledger asked ≡ o
-          → option_and_then (withdrawn_from withdraw node) o ≡ Some found
-          → IsWithdrawnAnswer (turn after answer standing found.ledger found.router max_size text).answer
-      of_withdrawal ledger asked None is asks by f = absurd (none-some found f)
-      of_withdrawal ledger asked (Some w) is asks by f =
-          of_router ledger asked w (left_by withdraw node.router w.ticket) is asks by f
+    of_withdrawal : (ledger : LedgerState) (asked : LedgerRequest) (o : Option Withdrawal) → device.ledger ≡ Some ledger
+        → ledger_request text ≡ Some asked → withdrawal_by ledger asked ≡ o
+        → option_and_then (withdrawn_from device) o ≡ Some found
+        → IsWithdrawnAnswer (exec_device found max_size text).answer
+    of_withdrawal ledger asked None is asks by f = absurd (none-some found f)
+    of_withdrawal ledger asked (Some w) is asks by f =
+        of_queue ledger asked w (left_queue w.ticket device.router.queue) is asks by f
 
-      of_request : (ledger : LedgerState) (o : Option LedgerRequest) → node.ledger ≡ Some ledger → ledger_request text ≡ o
-          → option_and_then (withdrawn_from withdraw node) (option_and_then (withdrawal_by ledger) o) ≡ Some found
-          → IsWithdrawnAnswer (turn after answer standing found.ledger found.router max_size text).answer
-      of_request ledger None is asks f = absurd (none-some found f)
-      of_request ledger (Some asked) is asks f = of_withdrawal ledger asked (withdrawal_by ledger asked) is asks refl f
+    of_request : (ledger : LedgerState) (o : Option LedgerRequest) → device.ledger ≡ Some ledger → ledger_request text ≡ o
+        → option_and_then (withdrawn_from device) (option_and_then (withdrawal_by ledger) o) ≡ Some found
+        → IsWithdrawnAnswer (exec_device found max_size text).answer
+    of_request ledger None is asks f = absurd (none-some found f)
+    of_request ledger (Some asked) is asks f = of_withdrawal ledger asked (withdrawal_by ledger asked) is asks refl f
 
-      of_ledger : (o : Option LedgerState) → node.ledger ≡ o
-          → option_and_then (withdrawn_from withdraw node) (withdrawal_of o text) ≡ Some found
-          → IsWithdrawnAnswer (turn after answer standing found.ledger found.router max_size text).answer
-      of_ledger None is f = absurd (none-some found f)
-      of_ledger (Some ledger) is f = of_request ledger (ledger_request text) is refl f
+    of_ledger : (o : Option LedgerState) → device.ledger ≡ o
+        → option_and_then (withdrawn_from device) (withdrawal_of o text) ≡ Some found
+        → IsWithdrawnAnswer (exec_device found max_size text).answer
+    of_ledger None is f = absurd (none-some found f)
+    of_ledger (Some ledger) is f = of_request ledger (ledger_request text) is refl f

@@ -1,12 +1,12 @@
 -- The objects of a device and its owner, with a ledger before them if there is one, as one router.
-use Rattle.std.specs.Prelude.{◌≡◌, ℕ, nat_lt, if◌then◌else◌, Option, Some, None, option_map, List, [], ◌∷◌, Result, Ok, Err}
+use Rattle.std.specs.Prelude.{◌≡◌, ℕ, Option, Some, None, option_map, List, [], ◌∷◌, Result, Ok, Err}
 use Rattle.cip_application.specs.declared.config.ServiceKind.{ServiceKind}
 use Rattle.cip_application.specs.declared.config.ServiceKind.TheVariants as kinds
 use Rattle.cip_objects.specs.declared.status.Refusal.{Refusal}
 use Rattle.cip_objects.specs.Contents.{Contents}
 use Rattle.cip_objects.specs.OwnRequests.{Asked, own_request}
 use Rattle.cip_owner.specs.Owned.{OwnedState, exec_owned, answer_with}
-use Rattle.cip_owner.specs.Queue.{QueueState, QueuedCommand, next_ticket, command_of, finished, finished_by}
+use Rattle.cip_owner.specs.Queue.{QueueState, QueuedCommand, next_ticket, command_of, finished_by}
 use Rattle.cip_owner.specs.Replies.{Reply}
 use Rattle.cip_owner.specs.Reset.{ResetState}
 use Rattle.cip_ledger.specs.declared.router.LedgerRouter.{LedgerRouter}
@@ -16,7 +16,6 @@ use Rattle.cip_ledger.specs.Ledger.{LedgerState}
 use Rattle.cip_ledger.specs.Pending.{completed}
 use Rattle.cip_ledger.specs.Runs.{Request}
 use Rattle.cip_ledger.specs.Turn.{Turn, turn}
-use Rattle.cip_ledger.specs.Withdrawing as withdrawing
 
 abbrev pub Device : Type 0
 Device = LedgerRouter OwnedState
@@ -59,33 +58,6 @@ standing_in (Some queue) own = standing_of_own queue own
 abbrev pub owned_standing : OwnedState → List ℕ → Standing
 owned_standing owned request = standing_in owned.queue (own_request owned.objects request)
 
--- ---- what leaves the queue
-
--- the result of a withdrawn command in the queue: its object was not in the state for it
-abbrev pub withdrawal_result : Reply
-withdrawal_result = record { status = 0x0c; content = [] }
-
--- The queue without the command of a ticket. None if it does not wait, or if an owner was handed it.
-abbrev pub left_queue : ℕ → Option QueueState → Option QueueState
-left_queue ticket None = None
-left_queue ticket (Some queue) =
-    if nat_lt queue.handed ticket then finished queue ticket withdrawal_result else None
-
--- the queue that is left, or the old one
-abbrev pub or_some : Option QueueState → Option QueueState → Option QueueState
-or_some None old = old
-or_some (Some left) old = Some left
-
-abbrev pub with_queue : OwnedState → QueueState → OwnedState
-with_queue owned queue = record owned { queue = Some queue }
-
-abbrev pub owned_withdraw : OwnedState → ℕ → Option OwnedState
-owned_withdraw owned ticket = option_map (with_queue owned) (left_queue ticket owned.queue)
-
--- The device as a request finds it: what the request withdraws is withdrawn.
-abbrev pub found_device : List ℕ → Device → Device
-found_device request device = withdrawing.found_by owned_withdraw request device
-
 -- ---- requests
 
 abbrev pub device_turn : Device → ℕ → List ℕ → Turn OwnedState
@@ -99,18 +71,14 @@ pub record Executed : Type 0 where
   pub after : Device
   pub answer : List ℕ
 
--- by the turn alone
-abbrev pub exec_found : Device → ℕ → List ℕ → Executed
-exec_found device max_size request = record {
+abbrev pub exec_device : Device → ℕ → List ℕ → Executed
+exec_device device max_size request = record {
   after = record {
     ledger = (device_turn device max_size request).ledger;
     router = (device_turn device max_size request).router;
   };
   answer = (device_turn device max_size request).answer;
 }
-
-abbrev pub exec_device : Device → ℕ → List ℕ → Executed
-exec_device device max_size request = exec_found (found_device request device) max_size request
 
 -- the device after these requests, each a reply limit and its bytes, from left to right, and their replies
 pub record Ran : Type 0 where

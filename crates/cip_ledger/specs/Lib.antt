@@ -21,6 +21,6 @@ pub mod OnePending
 pub mod Runs
 pub mod Reaching
 pub mod Executing
+pub mod Device
 pub mod Withdrawing
 pub mod WithdrawLaws
-pub mod Device

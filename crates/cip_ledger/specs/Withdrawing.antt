@@ -1,18 +1,20 @@
 -- Commands that are withdrawn before a request is executed.
 --
--- Withdraw and Forget of a pending command take it out of the queue of the router, if the router lets it go: it was
+-- Withdraw and Forget of a pending command take it out of the queue of the router, if no owner was handed it: it was
 -- withdrawn then, and is never executed. Withdraw of a number that was not used, while none is pending, uses it up. The
 -- request is executed after that, so Withdraw answers what has become of the command.
-use Rattle.std.specs.Prelude.{ℕ, ◌==◌, ◌&&◌, Bool, nat_lt, if◌then◌else◌, option_map, unwrap_or, is_some, Option, Some, None, List, length}
+use Rattle.std.specs.Prelude.{◌≡◌, ℕ, ◌==◌, ◌&&◌, Bool, true, false, nat_lt, if◌then◌else◌, option_map, unwrap_or, is_some, Option, Some, None, List, [], length}
 use Rattle.std.specs.Option.{option_and_then}
 use Rattle.cip_bytes.specs.Numbers.{number_at}
+use Rattle.cip_owner.specs.Owned.{OwnedState}
+use Rattle.cip_owner.specs.Queue.{QueueState, finished}
+use Rattle.cip_owner.specs.Replies.{Reply}
 use Rattle.cip_ledger.specs.declared.service.TheConstants as services
-use Rattle.cip_ledger.specs.declared.router.LedgerRouter.{LedgerRouter}
-use Rattle.cip_ledger.specs.declared.target.Standing.{Standing}
 use Rattle.cip_ledger.specs.declared.withdrawal.Withdrawal.{Withdrawal}
+use Rattle.cip_ledger.specs.Device.{Device}
 use Rattle.cip_ledger.specs.Ledger.{SlotState, LedgerState, slot_of, is_pending, slot_withdrawn}
 use Rattle.cip_ledger.specs.Requests.{LedgerRequest, ledger_request}
-use Rattle.cip_ledger.specs.Turn.{with_taken, Turn, turn}
+use Rattle.cip_ledger.specs.Turn.{with_taken}
 
 -- ---- what a request withdraws
 
@@ -81,45 +83,40 @@ abbrev pub withdrawn : ℕ → ℕ → LedgerState → LedgerState
 withdrawn originator number ledger =
     if can_withdraw ledger originator number then with_withdrawn originator number ledger else ledger
 
--- ---- the router after it
+-- the result of a withdrawn command in the queue: its object was not in the state for it
+abbrev pub withdrawal_result : Reply
+withdrawal_result = record { status = 0x0c; content = [] }
 
--- The router once what is withdrawn has left its queue. Without a ticket nothing has to.
-abbrev pub left_by : {M : Type 0} → (M → ℕ → Option M) → M → Option ℕ → Option M
-left_by withdraw router None = Some router
-left_by withdraw router (Some ticket) = withdraw router ticket
+-- The queue without the command of a ticket. None if it does not wait, or if an owner was handed it.
+abbrev pub left_queue : Option ℕ → Option QueueState → Option (Option QueueState)
+left_queue None queue = Some queue
+left_queue (Some ticket) None = None
+left_queue (Some ticket) (Some queue) =
+    if nat_lt queue.handed ticket then option_map (λ (left : QueueState). Some left) (finished queue ticket withdrawal_result)
+    else None
 
-abbrev pub with_withdrawal : {M : Type 0} → LedgerRouter M → Withdrawal → M → LedgerRouter M
-with_withdrawal node w router =
-    record { ledger = option_map (with_withdrawn w.originator w.number) node.ledger; router = router }
+-- What taking the command of a ticket out of the queue leaves.
+abbrev pub IsLeftAs : Option (Option QueueState) → Option QueueState → Bool → Option QueueState → Type 0
+IsLeftAs None old result new = (result ≡ false) × (new ≡ old)
+IsLeftAs (Some left) old result new = (result ≡ true) × (new ≡ left)
 
-module _ {M : Type 0} (withdraw : M → ℕ → Option M) where
-  -- A command that does not leave the queue is not withdrawn.
-  abbrev pub withdrawn_from : LedgerRouter M → Withdrawal → Option (LedgerRouter M)
-  withdrawn_from node w = option_map (with_withdrawal node w) (left_by withdraw node.router w.ticket)
+abbrev pub IsLeft : Option ℕ → Option QueueState → Bool → Option QueueState → Type 0
+IsLeft ticket old result new = IsLeftAs (left_queue ticket old) old result new
 
-  -- The ledger and the router once what a request withdraws is withdrawn. None if nothing is.
-  abbrev pub withdrawn_by : List ℕ → LedgerRouter M → Option (LedgerRouter M)
-  withdrawn_by text node = option_and_then (withdrawn_from node) (withdrawal_of node.ledger text)
+abbrev pub with_withdrawal : Device → Withdrawal → Option QueueState → Device
+with_withdrawal device withdrawal queue = record {
+  ledger = option_map (with_withdrawn withdrawal.originator withdrawal.number) device.ledger;
+  router = record device.router { queue = queue };
+}
 
-  -- The ticket of the command that leaves the queue, if one does.
-  abbrev pub ticket_left : LedgerRouter M → Withdrawal → Option ℕ
-  ticket_left node w = if is_some (left_by withdraw node.router w.ticket) then w.ticket else None
+abbrev pub withdrawn_from : Device → Withdrawal → Option Device
+withdrawn_from device withdrawal =
+    option_map (with_withdrawal device withdrawal) (left_queue withdrawal.ticket device.router.queue)
 
-  abbrev pub left_ticket : List ℕ → LedgerRouter M → Option ℕ
-  left_ticket text node = option_and_then (ticket_left node) (withdrawal_of node.ledger text)
+-- The device once what a request withdraws is withdrawn. None if nothing is.
+abbrev pub withdrawn_by : List ℕ → Device → Option Device
+withdrawn_by text device = option_and_then (withdrawn_from device) (withdrawal_of device.ledger text)
 
-  -- The same of a request to the ledger.
-  abbrev pub found_asked : LedgerRequest → LedgerState → M → LedgerRouter M
-  found_asked request ledger router =
-      let node : LedgerRouter M = record { ledger = Some ledger; router = router } in
-      unwrap_or (option_and_then (withdrawn_from node) (withdrawal_by ledger request)) node
-
-  -- The ledger and the router as a request finds them.
-  abbrev pub found_by : List ℕ → LedgerRouter M → LedgerRouter M
-  found_by text node = unwrap_or (withdrawn_by text node) node
-
-  module _ (after : M → ℕ → List ℕ → M) (answer : M → ℕ → List ℕ → List ℕ) (standing : M → List ℕ → Standing) where
-    -- The turn of a request, after what it withdraws is withdrawn.
-    abbrev pub whole_turn : LedgerRouter M → ℕ → List ℕ → Turn M
-    whole_turn node max_size text =
-        turn after answer standing (found_by text node).ledger (found_by text node).router max_size text
+-- The device as a request finds it.
+abbrev pub found_by : List ℕ → Device → Device
+found_by text device = unwrap_or (withdrawn_by text device) device

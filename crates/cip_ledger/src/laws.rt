@@ -141,8 +141,8 @@ pub fn completed_is_answered<R: Target>()
 {}
 
 /// Withdraw that withdraws a command answers that it is withdrawn, and Forget that does so frees the slot.
-pub fn withdraw_says_so<R: Target>()
-    ensures { withdraw_answer_law R.withdraw R.after R.answer R.standing }
+pub fn withdraw_says_so()
+    ensures { withdraw_answer_law }
 {}
 
 /// A command that was withdrawn is answered by its state, and is not executed: nothing changes.

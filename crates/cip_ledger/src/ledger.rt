@@ -11,8 +11,7 @@ ghost use Rattle.cip_ledger.specs.Services.{do_command, KEPT_LIMIT};
 ghost use Rattle.cip_ledger.specs.Services as services;
 ghost use Rattle.cip_ledger.specs.Slots.{IsFound};
 ghost use Rattle.cip_ledger.specs.Standings.{at_router};
-ghost use Rattle.cip_ledger.specs.Turn.{turn_of, acted, ActsAlone};
-ghost use Rattle.cip_ledger.specs.Withdrawing.{whole_turn};
+ghost use Rattle.cip_ledger.specs.Turn.{turn, turn_of, acted, ActsAlone};
 ghost use Rattle.cip_ledger.specs.Verdicts.{action_in, Fits};
 ghost use Rattle.cip_ledger.specs.Views.{command_in, request_in};
 ghost use Rattle.cip_ledger.specs.AttributeValue.{values_in};
@@ -474,8 +473,7 @@ pub(crate) fn execute_by<R: Target>(
     requires max_size_from { 8 ≤ max_size }
     requires max_size_to { max_size ≤ REPLY_LIMIT }
     ensures rule { turn_of (Some ledger.new) router.new reply.new.items
-        ≡ whole_turn R.withdraw R.after R.answer R.standing (record { ledger = Some ledger.old; router = router.old }) max_size
-        request.now }
+        ≡ turn R.after R.answer R.standing (Some ledger.old) router.old max_size request.now }
     ensures fits { length reply.new.items ≤ max_size }
 {
     if is_do_once(request) {
@@ -499,15 +497,11 @@ fn execute_any<R: Target>(
     requires max_size_from { 8 ≤ max_size }
     requires max_size_to { max_size ≤ REPLY_LIMIT }
     ensures rule { turn_of (Some ledger.new) router.new reply.new.items
-        ≡ whole_turn R.withdraw R.after R.answer R.standing (record { ledger = Some ledger.old; router = router.old }) max_size
-        request.now }
+        ≡ turn R.after R.answer R.standing (Some ledger.old) router.old max_size request.now }
     ensures fits { length reply.new.items ≤ max_size }
 {
     match LedgerRequest::read(request) {
-        Some(own) => {
-            ledger.withdraw_asked(router, own);
-            ledger.serve(router, own, max_size, reply);
-        }
+        Some(own) => ledger.serve(router, own, max_size, reply),
         None => router.execute(request, max_size, reply),
     }
 }

@@ -36,6 +36,7 @@ mod slots;
 mod status;
 mod target;
 mod withdrawal;
+mod withdrawing;
 
 pub use doubt::DoubtfulCommand;
 pub use ledger::{KeptCommand, Ledger};

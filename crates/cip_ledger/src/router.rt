@@ -4,8 +4,7 @@ ghost use Rattle.cip_ledger.specs.Executing.{command_of, executed_by};
 ghost use Rattle.cip_ledger.specs.Reaching.{listed, embedded_by};
 ghost use Rattle.cip_ledger.specs.Runs.{reached};
 ghost use Rattle.cip_ledger.specs.Standings.{new_at_router};
-ghost use Rattle.cip_ledger.specs.Turn.{turn_of};
-ghost use Rattle.cip_ledger.specs.Withdrawing.{whole_turn};
+ghost use Rattle.cip_ledger.specs.Turn.{turn, turn_of};
 ghost use Rattle.cip_ledger.specs.Views.{command_in};
 
 use crate::doubt::DoubtfulCommand;
@@ -124,26 +123,27 @@ fn executed_by<R: Target>(router: &R, command: Command<'_>) -> Option<DoubtfulCo
 
 impl<R: Target> Router for LedgerRouter<R> {
     ghost use Rattle.std.specs.Prelude.{ℕ, List};
-    ghost use Rattle.cip_ledger.specs.TooLarge.{whole-too_large};
+    ghost use Rattle.cip_ledger.specs.TooLarge.{turn-too_large};
 
     ghost after = { λ node max_size request.
         record {
-          ledger = (whole_turn R.withdraw R.after R.answer R.standing node max_size request).ledger;
-          router = (whole_turn R.withdraw R.after R.answer R.standing node max_size request).router;
+          ledger = (turn R.after R.answer R.standing node.ledger node.router max_size request).ledger;
+          router = (turn R.after R.answer R.standing node.ledger node.router max_size request).router;
         } };
 
     ghost answer = { λ node max_size request.
-        (whole_turn R.withdraw R.after R.answer R.standing node max_size request).answer };
+        (turn R.after R.answer R.standing node.ledger node.router max_size request).answer };
 
-    /// The turn of the definition `whole_turn`: what the request withdraws is withdrawn, and then it is served. Takes no
-    /// memory.
+    /// The turn of the definition `turn`. Takes no memory.
     #[inline(always)]
     fn execute(&mut self, request: &[u8], max_size: usize, reply: &mut ReplyBuf) {
         execute(&mut self.ledger, &mut self.router, request, max_size, reply);
     }
 
     ghost too_large = { λ node max_size request max_size_from status.
-        whole-too_large R.withdraw R.after R.answer R.standing R.too_large node max_size request max_size_from status };
+        turn-too_large R.after R.answer R.standing R.too_large
+        (λ ledger router. record { ledger = ledger; router = router })
+        node.ledger node.router max_size request max_size_from status };
 }
 
 /// Executes a request by the ledger, if there is one and the request may be to its class, else by the router.
@@ -159,8 +159,7 @@ fn execute<R: Target>(
     requires max_size_from { 8 ≤ max_size }
     requires max_size_to { max_size ≤ REPLY_LIMIT }
     ensures rule { turn_of ledger.new router.new reply.new.items
-        ≡ whole_turn R.withdraw R.after R.answer R.standing (record { ledger = ledger.old; router = router.old }) max_size
-        request.now }
+        ≡ turn R.after R.answer R.standing ledger.old router.old max_size request.now }
     ensures fits { length reply.new.items ≤ max_size }
 {
     if !may_be_to_ledger(request) {

@@ -1,16 +1,13 @@
 //! What the ledger asks the router behind it before it executes a command.
-ghost use Rattle.std.specs.Prelude.{◌≡◌, ◌≤◌, ℕ, List, Option, length, is_some, unwrap_or};
+ghost use Rattle.std.specs.Prelude.{◌≡◌, ◌≤◌, ℕ, List, length};
 ghost use Rattle.cip_ledger.specs.declared.target.Standing.{Standing as CommandStanding};
 ghost use Rattle.std.specs.Option.{option_map};
 ghost use Rattle.cip_bytes.specs.Reading.{map_ok};
 ghost use Rattle.cip_objects.specs.OwnRequests.{asked_in};
-ghost use Rattle.cip_ledger.specs.Device.{owned_standing, standing_of_own, owned_withdraw, left_queue, or_some};
+ghost use Rattle.cip_ledger.specs.Device.{owned_standing, standing_of_own};
 
 use cip_objects::{Refusal, Router, ServiceKind};
-use cip_owner::{OwnRequest, OwnedObjects, OwnerReply, Queue};
-
-/// The general status of the result of a command that was withdrawn: its object is not in the state for it (ours).
-const WITHDRAWN_STATUS: u8 = 0x0c;
+use cip_owner::{OwnRequest, OwnedObjects, Queue};
 
 /// What becomes of a command that the router executes.
 #[derive(Clone, Copy, Debug, PartialEq, Eq)]
@@ -23,7 +20,7 @@ pub enum Standing {
     Refused,
 }
 
-/// A router that a ledger can be put before: it says what would become of a command, and lets a queued one go.
+/// A router that a ledger can be put before: it says what would become of a command.
 ///
 /// A command is a request that Do_Once embeds. The ledger asks before it executes one, and keeps its reply or its
 /// ticket, or refuses it.
@@ -39,19 +36,10 @@ pub trait Target: Router {
     // What would become of a command that embeds this request.
     ghost standing: { Self → List ℕ → CommandStanding };
 
-    // The router once the command with this ticket has left its queue, if it can be withdrawn.
-    ghost withdraw: { Self → ℕ → Option Self };
-
     /// What would become of a command that embeds this request, if the router executed it now.
     fn standing(&self, request: &[u8]) -> Standing
         requires { 2 ≤ length request.now }
         ensures { result ≡ standing self.now request.now };
-
-    /// Takes the command with this ticket out of the queue for good, and returns whether it did. False if no such command
-    /// waits, or if it may have been begun already. Nothing has changed then.
-    fn withdraw(&mut self, ticket: u32) -> bool
-        ensures state { self.new ≡ unwrap_or (withdraw self.old ticket) self.old }
-        ensures result { result ≡ is_some (withdraw self.old ticket) };
 }
 
 impl Target for OwnedObjects {
@@ -65,31 +53,6 @@ impl Target for OwnedObjects {
             Some(queue) => standing_of_own(queue, self.objects.own_request(request)),
             None => Standing::Final,
         }
-    }
-
-    ghost withdraw = { owned_withdraw };
-
-    /// A command that no owner was handed leaves the queue, with a result that refuses it (0x0c). Allocates nothing.
-    fn withdraw(&mut self, ticket: u32) -> bool {
-        leave_queue(&mut self.queue, ticket)
-    }
-}
-
-/// Takes the command with this ticket out of the queue, and returns whether it did. False if it does not wait, or if an
-/// owner was handed it. Nothing has changed then.
-fn leave_queue(queue: &mut Option<Queue>, ticket: u32) -> bool
-    ensures state { queue.new ≡ or_some (left_queue ticket queue.old) queue.old }
-    ensures result { result ≡ is_some (left_queue ticket queue.old) }
-{
-    let Some(queue) = queue else {
-        return false;
-    };
-    if ticket <= queue.handed() {
-        return false;
-    }
-    match OwnerReply::new(WITHDRAWN_STATUS, &[]) {
-        Some(reply) => queue.finish(ticket, &reply),
-        None => false,
     }
 }
 

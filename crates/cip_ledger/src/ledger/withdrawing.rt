@@ -4,7 +4,7 @@ ghost use Rattle.cip_bytes.specs.Numbers.{number_at};
 ghost use Rattle.cip_ledger.specs.Ledger.{slot_of};
 ghost use Rattle.cip_ledger.specs.Services.{reply_to, withdraw, withdraw_in};
 ghost use Rattle.cip_ledger.specs.Views.{request_in};
-ghost use Rattle.cip_ledger.specs.Withdrawing.{withdrawal_by, by_withdraw, by_forget, of_pending, withdraw_by_slot, forget_by_slot, with_withdrawn, found_asked};
+ghost use Rattle.cip_ledger.specs.Withdrawing.{withdrawal_by, by_withdraw, by_forget, of_pending, withdraw_by_slot, forget_by_slot, with_withdrawn};
 
 use super::{Ledger, last_state};
 use crate::reply::{answer, begin, size_fault};
@@ -12,7 +12,6 @@ use crate::request::LedgerRequest;
 use crate::service::{FORGET, WITHDRAW};
 use crate::slot::Slot;
 use crate::status::Status;
-use crate::target::Target;
 use crate::withdrawal::Withdrawal;
 use byteorder::{ByteOrder, LittleEndian};
 use cip_objects::{REPLY_LIMIT, ReplyBuf};
@@ -24,23 +23,6 @@ const NAME_SIZE: usize = 20;
 const SLOT_SIZE: usize = 12;
 
 impl Ledger {
-    /// Withdraws what a request to the ledger withdraws, if the router lets it go.
-    pub(super) fn withdraw_asked<R: Target>(&mut self, router: &mut R, request: LedgerRequest<'_>)
-        ensures { (record { ledger = Some self.new; router = router.new })
-            ≡ found_asked R.withdraw (request_in request.entry) self.old router.old }
-    {
-        let Some(withdrawal) = self.withdrawal(request) else {
-            return;
-        };
-        let is_free = match withdrawal.ticket {
-            Some(ticket) => router.withdraw(ticket),
-            None => true,
-        };
-        if is_free {
-            self.keep_withdrawn(withdrawal.originator, withdrawal.number);
-        }
-    }
-
     /// What a request to the ledger withdraws before it is executed. `None` if that is nothing.
     pub(crate) fn withdrawal(&self, request: LedgerRequest<'_>) -> Option<Withdrawal>
         ensures { result ≡ withdrawal_by self.now (request_in request.entry) }
