@@ -2,6 +2,7 @@
 use Rattle.std.proofs.Common.{◌≡◌, ◌++◌, drop, length, is_ok, Result, Ok, Err, ℕ, zero, suc, ◌+◌, ◌<◌, ◌≤◌, ◌==◌, nat_lt, Bool, true, false, if◌then◌else◌, List, [], ◌∷◌, map, Option, Some, None, refl, sym, ap, subst, ◌∙◌, append_assoc, arith}
 use Rattle.std.specs.Prelude.{filter, nat_le, option_map, slice_get, OnOk}
 use Rattle.std.proofs.lemmas.Bool.{false≢true, eq-eqb, eqb-true, ltb-true, ltb-false, lt-ltb, le-ltb}
+use Rattle.std.proofs.lemmas.List.{append-nil}
 use Rattle.std.proofs.lemmas.Option.{none-some, same_Some}
 use Rattle.cip_owner.specs.Queue.{QueueState, QueuedCommand, command_of, command_ticket, is_handed, handed_commands}
 use Rattle.cip_owner.proofs.ListLemmas.{first-number}
@@ -11,7 +12,7 @@ use Rattle.enip_owner.specs.HandOvers.{first_above, next_ticket, handed_over, ne
 use Rattle.enip_owner.proofs.HandOverLemmas.{next_first}
 use Rattle.owner_port.specs.declared.senders.Sender.{Sender}
 use Rattle.owner_port.specs.declared.session.Session.{Session}
-use Rattle.owner_port.specs.Handing.{waits_law, marked_tickets, AreAllHanded, NoneLeft, Hands, IsCommandSent}
+use Rattle.owner_port.specs.Handing.{waits_law, if_marked, marked_tickets, AreAllHanded, NoneLeft, Hands, IsCommandSent}
 use Rattle.owner_port.specs.Sessions.{has_space}
 
 -- ---- what is handed over waits
@@ -196,37 +197,39 @@ on_ok (Err e) f p = tt
 abbrev from_index : QueueState → List QueuedCommand → ℕ → List ℕ
 from_index queue waiting index = map command_ticket (filter (is_handed queue) (drop index waiting))
 
-first_from : (queue : QueueState) (waiting : List QueuedCommand) (index : ℕ) (command : QueuedCommand) (passes : Bool)
-    → slice_get waiting index ≡ Some command → is_handed queue command ≡ passes
-    → from_index queue waiting index
-    ≡ (if passes then command.ticket ∷ from_index queue waiting (index + 1) else from_index queue waiting (index + 1))
-first_from queue waiting index command passes is h =
-    ap (λ l. map command_ticket (filter (is_handed queue) l)) (drop-at waiting index command is) ∙ go passes h
+first_from : (queue : QueueState) (waiting : List QueuedCommand) (index : ℕ) (command : QueuedCommand)
+    → slice_get waiting index ≡ Some command
+    → from_index queue waiting index ≡ if_marked queue command.ticket ++ from_index queue waiting (index + 1)
+first_from queue waiting index command is =
+    ap (λ l. map command_ticket (filter (is_handed queue) l)) (drop-at waiting index command is)
+    ∙ go (is_handed queue command) (filter (is_handed queue) (drop (index + 1) waiting))
   where
-    go : (b : Bool) → is_handed queue command ≡ b
-        → map command_ticket (if is_handed queue command then command ∷ filter (is_handed queue) (drop (index + 1) waiting)
-        else filter (is_handed queue) (drop (index + 1) waiting))
-        ≡ (if b then command.ticket ∷ from_index queue waiting (index + 1) else from_index queue waiting (index + 1))
-    go true e = rw e refl
-    go false e = rw e refl
+    go : (b : Bool) (later : List QueuedCommand) → map command_ticket (if b then command ∷ later else later)
+        ≡ (if b then command.ticket ∷ [] else []) ++ map command_ticket later
+    go true later = refl
+    go false later = refl
 
--- One more ticket, and then the others.
+drop-none : (waiting : List QueuedCommand) (index : ℕ) → slice_get waiting index ≡ None → drop index waiting ≡ []
+drop-none [] zero is = refl
+drop-none [] (suc index) is = refl
+drop-none (command ∷ waiting) zero is = absurd (cc)
+drop-none (command ∷ waiting) (suc index) is = drop-none waiting index is
+
+-- There are none behind the last one.
+pub none_from : (queue : QueueState) (index : ℕ) (old : List ℕ) → slice_get queue.waiting index ≡ None
+    → old ≡ old ++ from_index queue queue.waiting index
+none_from queue index old is =
+    sym (ap (λ l. old ++ map command_ticket (filter (is_handed queue) l)) (drop-none queue.waiting index is)
+    ∙ append-nil old)
+
+-- The ticket of the first one, if it is marked, and then the others.
 pub collected : {E : Type 0} (r : Result (Unit {0}) E) (queue : QueueState) (index : ℕ) (command : QueuedCommand)
-    (old pushed new : List ℕ) → slice_get queue.waiting index ≡ Some command → is_handed queue command ≡ true
-    → pushed ≡ old ++ command.ticket ∷ []
+    (old pushed new : List ℕ) → slice_get queue.waiting index ≡ Some command
+    → pushed ≡ old ++ if_marked queue command.ticket
     → OnOk r (new ≡ pushed ++ from_index queue queue.waiting (index + 1))
     → OnOk r (new ≡ old ++ from_index queue queue.waiting index)
-collected r queue index command old pushed new is marked pushes more =
+collected r queue index command old pushed new is pushes more =
     on_ok r (λ (e : new ≡ pushed ++ from_index queue queue.waiting (index + 1)).
     e ∙ ap (λ l. l ++ from_index queue queue.waiting (index + 1)) pushes
-    ∙ append_assoc old (command.ticket ∷ []) (from_index queue queue.waiting (index + 1))
-    ∙ ap (λ l. old ++ l) (sym (first_from queue queue.waiting index command true is marked))) more
-
--- One that was not handed over is left out.
-pub left_out : {E : Type 0} (r : Result (Unit {0}) E) (queue : QueueState) (index : ℕ) (command : QueuedCommand)
-    (old new : List ℕ) → slice_get queue.waiting index ≡ Some command → is_handed queue command ≡ false
-    → OnOk r (new ≡ old ++ from_index queue queue.waiting (index + 1))
-    → OnOk r (new ≡ old ++ from_index queue queue.waiting index)
-left_out r queue index command old new is unmarked more =
-    on_ok r (λ (e : new ≡ old ++ from_index queue queue.waiting (index + 1)).
-    e ∙ ap (λ l. old ++ l) (sym (first_from queue queue.waiting index command false is unmarked))) more
+    ∙ append_assoc old (if_marked queue command.ticket) (from_index queue queue.waiting (index + 1))
+    ∙ ap (λ l. old ++ l) (sym (first_from queue queue.waiting index command is))) more

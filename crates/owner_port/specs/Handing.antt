@@ -1,5 +1,5 @@
 -- Which of the waiting commands are marked, and which of those are queued for the owner.
-use Rattle.std.specs.Prelude.{◌≡◌, ◌⊎◌, ℕ, ◌-◌, ◌==◌, min, if◌then◌else◌, Bool, true, false, List, length, map, slice_get, option_map, Option, Some, None, Result, Vec}
+use Rattle.std.specs.Prelude.{◌≡◌, ◌⊎◌, ℕ, ◌-◌, ◌==◌, min, if◌then◌else◌, Bool, true, false, nat_le, List, [], ◌∷◌, length, map, slice_get, option_map, Option, Some, None, Result, Vec}
 use Rattle.std.specs.declared.alloc.Global.{Global}
 use Rattle.cip_owner.specs.Queue.{QueueState, QueuedCommand, command_of, command_ticket, is_handed, handed_commands}
 use Rattle.enip_owner.specs.declared.event.CommandEvent.{CommandEvent}
@@ -50,6 +50,10 @@ pub data AreAllHanded (queue : QueueState) (known : List Sender) (waiting : List
 -- The tickets of the waiting commands that were marked as handed over, in their order.
 abbrev pub marked_tickets : QueueState → List ℕ
 marked_tickets queue = map command_ticket (handed_commands queue)
+
+-- The ticket of a command, if it is marked.
+abbrev pub if_marked : QueueState → ℕ → List ℕ
+if_marked queue ticket = if nat_le ticket queue.handed then ticket ∷ [] else []
 
 -- The commands that are marked, in their order. If memory is refused, the session is over.
 abbrev pub AreHanded : QueueState → List Sender → HandOver → Session → HandOver → Session → Type 0

@@ -3,7 +3,7 @@
 ghost use Rattle.std.specs.Prelude.{◌≡◌, ◌++◌, OnOk, map, drop, filter};
 ghost use Rattle.cip_owner.specs.Queue.{command_ticket, is_handed};
 ghost use Rattle.cip_owner.specs.QueueViews.{waiting_in};
-ghost use Rattle.owner_port.specs.Handing.{AreHanded, AreAllHanded, IsCommandSent, IsCommandLine, marked_tickets, last_ahead};
+ghost use Rattle.owner_port.specs.Handing.{AreHanded, AreAllHanded, IsCommandSent, IsCommandLine, if_marked, marked_tickets, last_ahead};
 ghost use Rattle.owner_port.specs.Sessions.{IsSent};
 
 use crate::fault::SessionEnd;
@@ -53,10 +53,19 @@ fn collect_from(queue: &Queue, index: usize, tickets: &mut Vec<u32>) -> Result<(
     };
     // At most 256 commands wait.
     let _count = queue.waiting_count();
-    if command.ticket <= queue.handed() {
-        tickets.push(command.ticket)?;
-    }
+    push_if_marked(queue, command.ticket, tickets)?;
     collect_from(queue, index + 1, tickets)
+}
+
+/// Appends the ticket of a command if it is marked.
+fn push_if_marked(queue: &Queue, ticket: u32, tickets: &mut Vec<u32>) -> Result<(), AllocError>
+    ensures { OnOk result (tickets.new.items ≡ tickets.old.items ++ if_marked queue.now ticket) }
+{
+    if ticket > queue.handed() {
+        return Ok(());
+    }
+    tickets.push(ticket)?;
+    Ok(())
 }
 
 /// The ticket up to which the owner may have commands in hand: that of the last of the first `ahead` that wait. `None` if
@@ -64,7 +73,7 @@ fn collect_from(queue: &Queue, index: usize, tickets: &mut Vec<u32>) -> Result<(
 pub(crate) fn last_ahead(ahead: u16, queue: &Queue) -> Option<u32>
     ensures { result ≡ last_ahead ahead queue.now.waiting }
 {
-    let count = queue.waiting_count().min(usize::from(ahead));
+    let count = usize::from(ahead).min(queue.waiting_count());
     if count == 0 {
         return None;
     }

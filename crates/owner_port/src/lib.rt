@@ -8,8 +8,10 @@
 //! - `feed` takes bytes of the owner up to the end of one line, executes the line and queues its answer.
 //! - `admit_frames` asks the owner what the frames that wait ask (`enip_server::GatedWire`), and admits those whose answer
 //!   has come or comes no more. `take_reply` is the owner of the device in the next round.
-//! - `hand_over` queues the commands that wait, each once in a session and in their order, as long as the owner has fewer
-//!   than `ahead` of them in hand, and the connections that ended.
+//! - `mark` marks the commands that the owner may have in hand as handed over. If the state of the device is kept, keep the
+//!   mark before the next call. `has_unmarked` says whether a round is due for that.
+//! - `hand_over` queues the commands that are marked, each once in a session and in their order, as long as the owner has
+//!   fewer than `ahead` of them in hand, and the connections that ended.
 //! - `pending` are the bytes to write to the owner, and `written` says how many of them were written.
 //!
 //! At most 256 KiB wait to be written. If a set does not fit, the session is over (`is_over`): an owner that does not
@@ -24,6 +26,7 @@
 //!         rest = port.feed(rest, peers);
 //!     }
 //!     peers.round_watched(now, &mut NoOwner, port);
+//!     port.mark(peers);
 //!     port.hand_over(peers.adapter());
 //!     // and now write `port.pending()`
 //! }

@@ -178,8 +178,8 @@ impl OwnerPort {
     /// Marks the commands that the owner may have in hand as handed over, before it hears of them: of those that wait the
     /// first `ahead`. A mark is the device's own write. Nothing is marked while no session is open.
     ///
-    /// Call it in each round before the frames of the peers, so that a mark is kept with the round, and `hand_over` after
-    /// the round.
+    /// If the state of the device is kept, call it in each round before the frames of the peers, and `hand_over` when the round
+    /// is kept: the line of a command then leaves after its mark is kept. If not, call it after the round.
     pub fn mark<W: Wire + Drop>(&self, peers: &mut Peers<W>)
         ensures marked { state_of peers.new
             ≡ after_mark (mark_of self.now (state_of peers.old).adapter) (state_of peers.old) }
