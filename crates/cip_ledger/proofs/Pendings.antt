@@ -23,7 +23,7 @@ use Rattle.cip_ledger.proofs.Fates.{fate-means}
 use Rattle.cip_ledger.proofs.Settled.{Held, Settled, held-by, not_freed-left, not_freed-right}
 use Rattle.cip_ledger.proofs.Answered.{settles, again-by}
 use Rattle.cip_ledger.proofs.SlotLemmas.{slot_of-originator}
-use Rattle.cip_ledger.proofs.Withdrawals.{withdrawn-own, withdrawn-other, withdrawn-content}
+use Rattle.cip_ledger.proofs.Withdrawals.{withdrawn-own, withdrawn-other, can-place, withdrawn-content}
 use Rattle.cip_ledger.proofs.Doubts.{and_false, by_number, repeat-at}
 
 -- ---- completing
@@ -224,7 +224,8 @@ module _ (by own originator number : ℕ) (slot : SlotState) (ledger : LedgerSta
         slot_of originator (withdrawn by own ledger).taken ≡ Some (slot_withdrawn by own)
     found_new w e =
         ap (λ (l : LedgerState). slot_of originator l.taken) (after_can (Some w) e)
-        ∙ ap (λ o. slot_of o (with_withdrawn by own ledger).taken) (sym same) ∙ withdrawn-own ledger by own
+        ∙ ap (λ o. slot_of o (with_withdrawn by own ledger).taken) (sym same) ∙ withdrawn-own ledger by own (can-place ledger by own
+        (ap (λ p. is_some p) (ap (withdraw_by_slot ledger by own) (ap (λ x. slot_of x ledger.taken) same ∙ is) ∙ e)))
 
     found_old : withdraw_by_slot ledger by own (Some s) ≡ None → slot_of originator (withdrawn by own ledger).taken ≡ Some s
     found_old e = ap (λ (l : LedgerState). slot_of originator l.taken) (after_can None e) ∙ is

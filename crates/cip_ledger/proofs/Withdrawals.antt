@@ -1,5 +1,5 @@
 -- What a request withdraws, and what that leaves of the ledger.
-use Rattle.std.proofs.Common.{◌≡◌, ◌≢◌, ◌⊎◌, inl, inr, ℕ, ◌<◌, ◌≤◌, ◌==◌, ◌&&◌, nat_lt, not, Bool, true, false, if◌then◌else◌, Option, Some, None, unwrap_or, List, [], ◌∷◌, length, refl, ap, sym, ◌∙◌, subst, arith}
+use Rattle.std.proofs.Common.{◌≡◌, ◌≢◌, ◌⊎◌, inl, inr, ℕ, ◌<◌, ◌≤◌, ◌==◌, ◌&&◌, ◌||◌, nat_lt, not, Bool, true, false, if◌then◌else◌, Option, Some, None, unwrap_or, List, [], ◌∷◌, length, refl, ap, sym, ◌∙◌, subst, arith}
 use Rattle.std.specs.Prelude.{option_map, is_some}
 use Rattle.std.specs.Option.{option_and_then}
 use Rattle.std.proofs.lemmas.Bool.{eqb-true, eqb-false, ltb-true, ne_eqb, le-ltb}
@@ -10,9 +10,9 @@ use Rattle.cip_ledger.specs.Device.{Device}
 use Rattle.cip_ledger.specs.Ledger.{LedgerState, SlotState, slot_of, is_pending, is_withdrawn, slot_withdrawn}
 use Rattle.cip_ledger.specs.Requests.{LedgerRequest, ledger_request, do_once_with}
 use Rattle.cip_ledger.specs.Runs.{slot_in}
+use Rattle.cip_ledger.specs.Turn.{with_taken}
 use Rattle.cip_ledger.specs.Services.{last_content, state_content, WITHDRAWN}
-use Rattle.cip_ledger.specs.Withdrawing.{of_command, of_pending, of_unused, withdraw_by_slot, by_withdraw, forget_by_slot, by_forget, withdrawal_by, withdrawal_of, can_withdraw, with_withdrawn, withdrawn, left_queue, with_withdrawal, withdrawn_from, found_by}
-use Rattle.cip_owner.specs.Queue.{QueueState}
+use Rattle.cip_ledger.specs.Withdrawing.{of_command, of_pending, of_unused, withdraw_by_slot, by_withdraw, forget_by_slot, by_forget, withdrawal_by, withdrawal_of, can_withdraw, has_place, with_withdrawn, withdrawn, left_device, with_withdrawal, withdrawn_from, found_by}
 use Rattle.cip_ledger.proofs.Fates.{IsNewAt, HasEnded}
 use Rattle.cip_ledger.proofs.SlotLemmas.{slot_of-with_slot, slot_of-with_other}
 
@@ -148,14 +148,35 @@ withdraws-free ledger w (inr is) none = is.free none
 
 -- ---- the slots afterwards
 
-pub withdrawn-own : (ledger : LedgerState) (originator number : ℕ)
+pub withdrawn-own : (ledger : LedgerState) (originator number : ℕ) → has_place ledger originator ≡ true
     → slot_of originator (with_withdrawn originator number ledger).taken ≡ Some (slot_withdrawn originator number)
-withdrawn-own ledger originator number = slot_of-with_slot ledger.taken (slot_withdrawn originator number)
+withdrawn-own ledger originator number place =
+    ap (λ b. slot_of originator (if b then with_taken (slot_withdrawn originator number) ledger else ledger).taken) place
+    ∙ slot_of-with_slot ledger.taken (slot_withdrawn originator number)
 
 pub withdrawn-other : (ledger : LedgerState) (originator number other : ℕ) → originator ≢ other
     → slot_of other (with_withdrawn originator number ledger).taken ≡ slot_of other ledger.taken
-withdrawn-other ledger originator number other apart =
-    slot_of-with_other ledger.taken (slot_withdrawn originator number) other apart
+withdrawn-other ledger originator number other apart = go (has_place ledger originator)
+  where
+    go : (place : Bool)
+        → slot_of other (if place then with_taken (slot_withdrawn originator number) ledger else ledger).taken
+        ≡ slot_of other ledger.taken
+    go true = slot_of-with_other ledger.taken (slot_withdrawn originator number) other apart
+    go false = refl
+
+-- what can be withdrawn has a place
+pub can-place : (ledger : LedgerState) (originator number : ℕ) → can_withdraw ledger originator number ≡ true
+    → has_place ledger originator ≡ true
+can-place ledger originator number can = go (slot_of originator ledger.taken) can
+  where
+    free : (b : Bool) → is_some (if b then Some (of_command originator number None) else None) ≡ true → b ≡ true
+    free true e = refl
+    free false e = absurd (cc)
+
+    go : (found : Option SlotState) → is_some (withdraw_by_slot ledger originator number found) ≡ true
+        → (is_some found || nat_lt (length ledger.taken) ledger.slots) ≡ true
+    go None e = free (nat_lt (length ledger.taken) ledger.slots) e
+    go (Some slot) e = refl
 
 -- a pending command stays if another number is withdrawn
 pub withdrawn-keeps : (ledger : Option LedgerState) (by number originator : ℕ) (slot : SlotState)
@@ -184,7 +205,7 @@ pub withdrawn-once : (ledger : LedgerState) (originator number : ℕ) → can_wi
 withdrawn-once ledger originator number can =
     let new = with_withdrawn originator number ledger in
     let none : withdraw_by_slot new originator number (slot_of originator new.taken) ≡ None
-    = ap (withdraw_by_slot new originator number) (withdrawn-own ledger originator number)
+    = ap (withdraw_by_slot new originator number) (withdrawn-own ledger originator number (can-place ledger originator number can))
     ∙ rw (le-ltb number number (omega arith)) refl in
     ap (λ b. can_withdraw (if b then new else ledger) originator number) can ∙ ap (λ o. is_some o) none
 
@@ -227,23 +248,23 @@ forget-named originator number (Some slot) w e = go (is_pending slot) e
 
 -- by what the request withdraws
 pub by-withdrawal : (P : Device → Type 0) (device : Device) (text : List ℕ) → P device
-    → ((ledger : LedgerState) (w : Withdrawal) (queue : Option QueueState) → device.ledger ≡ Some ledger → Withdraws ledger w
-    → left_queue w.ticket device.router.queue ≡ Some queue → P (with_withdrawal device w queue))
+    → ((ledger : LedgerState) (w : Withdrawal) (left : Device) → device.ledger ≡ Some ledger → Withdraws ledger w
+    → left_device w.ticket device ≡ Some left → P (with_withdrawal w left))
     → P (found_by text device)
 by-withdrawal P device text same more = go device.ledger refl
   where
-    of_queue : (ledger : LedgerState) (w : Withdrawal) (left : Option (Option QueueState)) → device.ledger ≡ Some ledger
-        → Withdraws ledger w → left_queue w.ticket device.router.queue ≡ left
-        → P (unwrap_or (option_map (with_withdrawal device w) left) device)
-    of_queue ledger w None is facts e = same
-    of_queue ledger w (Some queue) is facts e = more ledger w queue is facts e
+    of_left : (ledger : LedgerState) (w : Withdrawal) (left : Option Device) → device.ledger ≡ Some ledger
+        → Withdraws ledger w → left_device w.ticket device ≡ left
+        → P (unwrap_or (option_map (with_withdrawal w) left) device)
+    of_left ledger w None is facts e = same
+    of_left ledger w (Some left) is facts e = more ledger w left is facts e
 
     of_withdrawal : (ledger : LedgerState) (found : Option Withdrawal) → device.ledger ≡ Some ledger
         → withdrawal_of (Some ledger) text ≡ found
         → P (unwrap_or (option_and_then (withdrawn_from device) found) device)
     of_withdrawal ledger None is e = same
     of_withdrawal ledger (Some w) is e =
-        of_queue ledger w (left_queue w.ticket device.router.queue) is (withdraws ledger w text e) refl
+        of_left ledger w (left_device w.ticket device) is (withdraws ledger w text e) refl
 
     go : (ledger : Option LedgerState) → device.ledger ≡ ledger
         → P (unwrap_or (option_and_then (withdrawn_from device) (withdrawal_of ledger text)) device)

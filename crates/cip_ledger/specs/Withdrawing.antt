@@ -3,15 +3,14 @@
 -- Withdraw and Forget of a pending command take it out of the queue of the router, if no owner was handed it: it was
 -- withdrawn then, and is never executed. Withdraw of a number that was not used, while none is pending, uses it up. The
 -- request is executed after that, so Withdraw answers what has become of the command.
-use Rattle.std.specs.Prelude.{◌≡◌, ℕ, ◌==◌, ◌&&◌, Bool, true, false, nat_lt, if◌then◌else◌, option_map, unwrap_or, is_some, Option, Some, None, List, [], length}
+use Rattle.std.specs.Prelude.{ℕ, ◌==◌, ◌&&◌, ◌||◌, Bool, true, nat_lt, nat_le, if◌then◌else◌, option_map, unwrap_or, is_some, Option, Some, None, List, [], length}
 use Rattle.std.specs.Option.{option_and_then}
 use Rattle.cip_bytes.specs.Numbers.{number_at}
-use Rattle.cip_owner.specs.Owned.{OwnedState}
-use Rattle.cip_owner.specs.Queue.{QueueState, finished}
+use Rattle.cip_owner.specs.Queue.{QueueState}
 use Rattle.cip_owner.specs.Replies.{Reply}
 use Rattle.cip_ledger.specs.declared.service.TheConstants as services
 use Rattle.cip_ledger.specs.declared.withdrawal.Withdrawal.{Withdrawal}
-use Rattle.cip_ledger.specs.Device.{Device}
+use Rattle.cip_ledger.specs.Device.{Device, finished_in}
 use Rattle.cip_ledger.specs.Ledger.{SlotState, LedgerState, slot_of, is_pending, slot_withdrawn}
 use Rattle.cip_ledger.specs.Requests.{LedgerRequest, ledger_request}
 use Rattle.cip_ledger.specs.Turn.{with_taken}
@@ -69,9 +68,15 @@ withdrawal_of (Some ledger) text = option_and_then (withdrawal_by ledger) (ledge
 
 -- ---- the ledger and the queue after it
 
+-- an originator has a slot, or one is free
+abbrev pub has_place : LedgerState → ℕ → Bool
+has_place ledger originator =
+    is_some (slot_of originator ledger.taken) || nat_lt (length ledger.taken) ledger.slots
+
 -- the ledger once an originator's last command is this number, which was withdrawn
 abbrev pub with_withdrawn : ℕ → ℕ → LedgerState → LedgerState
-with_withdrawn originator number = with_taken (slot_withdrawn originator number)
+with_withdrawn originator number ledger =
+    if has_place ledger originator then with_taken (slot_withdrawn originator number) ledger else ledger
 
 -- an originator's number can be withdrawn
 abbrev pub can_withdraw : LedgerState → ℕ → ℕ → Bool
@@ -83,35 +88,30 @@ abbrev pub withdrawn : ℕ → ℕ → LedgerState → LedgerState
 withdrawn originator number ledger =
     if can_withdraw ledger originator number then with_withdrawn originator number ledger else ledger
 
+-- ---- the device after it
+
 -- the result of a withdrawn command in the queue: its object was not in the state for it
 abbrev pub withdrawal_result : Reply
 withdrawal_result = record { status = 0x0c; content = [] }
 
--- The queue without the command of a ticket. None if it does not wait, or if an owner was handed it.
-abbrev pub left_queue : Option ℕ → Option QueueState → Option (Option QueueState)
-left_queue None queue = Some queue
-left_queue (Some ticket) None = None
-left_queue (Some ticket) (Some queue) =
-    if nat_lt queue.handed ticket then option_map (λ (left : QueueState). Some left) (finished queue ticket withdrawal_result)
-    else None
+-- an owner was handed the command of a ticket, or there is no queue
+abbrev pub was_handed : ℕ → Option QueueState → Bool
+was_handed ticket None = true
+was_handed ticket (Some queue) = nat_le ticket queue.handed
 
--- What taking the command of a ticket out of the queue leaves.
-abbrev pub IsLeftAs : Option (Option QueueState) → Option QueueState → Bool → Option QueueState → Type 0
-IsLeftAs None old result new = (result ≡ false) × (new ≡ old)
-IsLeftAs (Some left) old result new = (result ≡ true) × (new ≡ left)
+-- The device once the command of a ticket has left the queue: it is finished, with this result. None if it does not wait,
+-- or if an owner was handed it.
+abbrev pub left_device : Option ℕ → Device → Option Device
+left_device None device = Some device
+left_device (Some ticket) device =
+    if was_handed ticket device.router.queue then None else finished_in ticket withdrawal_result device
 
-abbrev pub IsLeft : Option ℕ → Option QueueState → Bool → Option QueueState → Type 0
-IsLeft ticket old result new = IsLeftAs (left_queue ticket old) old result new
-
-abbrev pub with_withdrawal : Device → Withdrawal → Option QueueState → Device
-with_withdrawal device withdrawal queue = record {
-  ledger = option_map (with_withdrawn withdrawal.originator withdrawal.number) device.ledger;
-  router = record device.router { queue = queue };
-}
+abbrev pub with_withdrawal : Withdrawal → Device → Device
+with_withdrawal w device =
+    record device { ledger = option_map (with_withdrawn w.originator w.number) device.ledger }
 
 abbrev pub withdrawn_from : Device → Withdrawal → Option Device
-withdrawn_from device withdrawal =
-    option_map (with_withdrawal device withdrawal) (left_queue withdrawal.ticket device.router.queue)
+withdrawn_from device w = option_map (with_withdrawal w) (left_device w.ticket device)
 
 -- The device once what a request withdraws is withdrawn. None if nothing is.
 abbrev pub withdrawn_by : List ℕ → Device → Option Device

@@ -1,7 +1,6 @@
 //! A request withdraws a command before it is executed.
-ghost use Rattle.std.specs.Prelude.{◌≡◌, ◌<◌, IfSome, IfNone, length, None, is_some, unwrap_or};
-ghost use Rattle.cip_ledger.specs.Ledger.{slot_of};
-ghost use Rattle.cip_ledger.specs.Withdrawing.{withdrawn_by, withdrawal_of, IsLeft};
+ghost use Rattle.std.specs.Prelude.{◌≡◌, is_some, unwrap_or};
+ghost use Rattle.cip_ledger.specs.Withdrawing.{withdrawn_by, withdrawal_of, left_device, was_handed};
 
 use crate::ledger::Ledger;
 use crate::request::{LedgerRequest, may_be_to_ledger};
@@ -29,13 +28,31 @@ impl LedgerRouter<OwnedObjects> {
         let Some(withdrawal) = withdrawal_of(&self.ledger, request) else {
             return false;
         };
-        if !leave_queue(&mut self.router.queue, withdrawal.ticket) {
+        if !self.leave_queue(withdrawal.ticket) {
             return false;
         }
         if let Some(ledger) = &mut self.ledger {
             ledger.keep_withdrawn(withdrawal.originator, withdrawal.number);
         }
         true
+    }
+
+    /// Takes the command with this ticket out of the queue, and returns whether it did. False if it does not wait, or if
+    /// an owner was handed it. Nothing has changed then. Without a ticket there is nothing to take out.
+    fn leave_queue(&mut self, ticket: Option<u32>) -> bool
+        ensures state { self.new ≡ unwrap_or (left_device ticket self.old) self.old }
+        ensures result { result ≡ is_some (left_device ticket self.old) }
+    {
+        let Some(ticket) = ticket else {
+            return true;
+        };
+        if was_handed(&self.router.queue, ticket) {
+            return false;
+        }
+        match OwnerReply::new(WITHDRAWN_STATUS, &[]) {
+            Some(reply) => self.finish(ticket, &reply),
+            None => false,
+        }
     }
 }
 
@@ -54,22 +71,12 @@ fn withdrawal_of(ledger: &Option<Ledger>, request: &[u8]) -> Option<Withdrawal>
     ledger.withdrawal(own)
 }
 
-/// Takes the command with this ticket out of the queue, and returns whether it did. False if it does not wait, or if an
-/// owner was handed it. Nothing has changed then. Without a ticket there is nothing to take out.
-fn leave_queue(queue: &mut Option<Queue>, ticket: Option<u32>) -> bool
-    ensures { IsLeft ticket queue.old result queue.new }
+/// Whether an owner was handed the command with this ticket, or there is no queue.
+fn was_handed(queue: &Option<Queue>, ticket: u32) -> bool
+    ensures { result ≡ was_handed ticket queue.now }
 {
-    let Some(ticket) = ticket else {
-        return true;
-    };
-    let Some(queue) = queue else {
-        return false;
-    };
-    if ticket <= queue.handed() {
-        return false;
-    }
-    match OwnerReply::new(WITHDRAWN_STATUS, &[]) {
-        Some(reply) => queue.finish(ticket, &reply),
-        None => false,
+    match queue {
+        Some(queue) => ticket <= queue.handed(),
+        None => true,
     }
 }

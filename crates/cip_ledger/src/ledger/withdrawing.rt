@@ -85,13 +85,15 @@ impl Ledger {
         }
     }
 
-    /// Keeps a command that was withdrawn as the last one of its originator.
+    /// Keeps a command that was withdrawn as the last one of its originator, if that has a slot or one is free.
     pub(crate) fn keep_withdrawn(&mut self, originator: u64, number: u32)
-        requires { slot_of originator self.old.taken ≡ None → length self.old.taken < self.old.slots }
         ensures { self.new ≡ with_withdrawn originator number self.old }
     {
         let index = self.position(originator);
-        self.slots.withdraw(index, originator, number);
+        let has_place = self.slots.found(originator, index).is_some() || self.slots.has_free();
+        if has_place {
+            self.slots.withdraw(index, originator, number);
+        }
     }
 
     /// Withdraw: what has become of a command.
@@ -115,13 +117,7 @@ impl Ledger {
     }
 
     /// What has become of a command of this life.
-    fn answer_withdrawal(
-        &self,
-        originator: u64,
-        number: u32,
-        max_size: usize,
-        reply: &mut ReplyBuf,
-    )
+    fn answer_withdrawal(&self, originator: u64, number: u32, max_size: usize, reply: &mut ReplyBuf)
         requires max_size_from { 8 ≤ max_size }
         requires max_size_to { max_size ≤ REPLY_LIMIT }
         ensures reply { reply.new.items
