@@ -122,6 +122,8 @@ void enip_core_once_free(struct kept *);
 uint32_t enip_core_once_command(struct kept *, const uint8_t *, size_t, uint8_t *, size_t, size_t *);
 uint32_t enip_core_once_resend(struct kept *, uint8_t *, size_t, size_t *);
 uint32_t enip_core_once_receive(struct kept *, const uint8_t *, size_t, uint8_t *, size_t, enip_outcome *);
+uint32_t enip_core_once_withdraw(struct kept *, uint8_t *, size_t, size_t *);
+uint32_t enip_core_once_withdrawn(struct kept *, const uint8_t *, size_t, uint8_t *, size_t, enip_outcome *);
 uint32_t enip_core_once_abandon(struct kept *);
 void enip_core_once_values(struct kept *, uint64_t *, uint64_t *, uint32_t *);
 uint32_t enip_core_once_request(struct kept *, uint8_t *, size_t, size_t *);
@@ -690,6 +692,19 @@ int enip_once_receive(enip_once *once, const void *reply, size_t length, void *b
     if (!is_once(once) || !is_call(reply, length, buffer, size, outcome, sizeof *outcome))
         return ENIP_MISUSE;
     return (int)enip_core_once_receive(&once->kept, reply, length, buffer, size, outcome);
+}
+
+int enip_once_withdraw(const enip_once *once, void *buffer, size_t size, size_t *count) {
+    if (!is_once(once) || !is_output(buffer, size, count))
+        return ENIP_MISUSE;
+    return (int)enip_core_once_withdraw(kept_to_read(&once->kept), buffer, size, count);
+}
+
+int enip_once_withdrawn(enip_once *once, const void *reply, size_t length, void *buffer, size_t size,
+                        enip_outcome *outcome) {
+    if (!is_once(once) || !is_call(reply, length, buffer, size, outcome, sizeof *outcome))
+        return ENIP_MISUSE;
+    return (int)enip_core_once_withdrawn(&once->kept, reply, length, buffer, size, outcome);
 }
 
 int enip_once_abandon(enip_once *once) {

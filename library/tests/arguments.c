@@ -250,6 +250,7 @@ CORE_WRITES(client, close)
 CORE_WRITES(client, unregister)
 CORE_WRITES(once, resend)
 CORE_WRITES(once, request)
+CORE_WRITES(once, withdraw)
 #define CORE_CALL(kind, call, result)                                                                        \
     uint32_t enip_core_##kind##_##call(struct kept *k, const uint8_t *bytes, size_t length, uint8_t *buffer, \
                                        size_t size, result *it) {                                            \
@@ -261,6 +262,7 @@ CORE_CALL(client, submit, size_t)
 CORE_CALL(client, feed, enip_heard)
 CORE_CALL(once, command, size_t)
 CORE_CALL(once, receive, enip_outcome)
+CORE_CALL(once, withdrawn, enip_outcome)
 uint32_t enip_core_client_give_up(struct kept *k) {
     return NOTE("client_give_up", WORD(k));
 }
@@ -365,6 +367,8 @@ CALL(once_command, a->bytes, a->length, a->buffer, a->size, a->result)
 CALL(once_resend, a->buffer, a->size, a->result)
 CALL(once_receive, a->bytes, a->length, a->buffer, a->size, a->result)
 CALL(once_request, a->buffer, a->size, a->result)
+CALL(once_withdraw, a->buffer, a->size, a->result)
+CALL(once_withdrawn, a->bytes, a->length, a->buffer, a->size, a->result)
 
 static int client_give_up(const struct arguments *a) {
     return enip_client_give_up(a->handle);
@@ -409,6 +413,8 @@ static struct call calls[] = {
     {"once_resend", ONCE, once_resend, 0, ENIP_MESSAGE_ROOM, 8, 0, {0}},
     {"once_receive", ONCE, once_receive, 28, 28, sizeof(enip_outcome), 0, {0}},
     {"once_request", ONCE, once_request, 0, 28, 8, 0, {0}},
+    {"once_withdraw", ONCE, once_withdraw, 0, 28, 8, 0, {0}},
+    {"once_withdrawn", ONCE, once_withdrawn, 28, 28, sizeof(enip_outcome), 0, {0}},
     {"once_abandon", ONCE, once_abandon, 0, 0, 0, 0, {0}},
 };
 

@@ -189,10 +189,16 @@ With --once, send the pending command of FILE and not the one in the
 arguments, which can be left out";
 
 pub(crate) const ABANDON_DETAILS: &str = "\
-With --once, give up the pending command of FILE, which is executed
-once or not at all, and send the one in the arguments as a new
-command. If it is left out, send nothing. If there is no answer, do
+With --once, have the device withdraw the pending command of FILE, so
+that it is never executed, and send the one in the arguments as a new
+command. If it is left out, send no other. A command that was executed
+is settled with its reply. After any other answer, or none, nothing is
+given up and nothing else is sent. If the new command has no answer, do
 not repeat this line: leave out --abandon";
+
+pub(crate) const FORCE_DETAILS: &str = "\
+With --abandon, do not ask the device, and give up the pending command
+of FILE: it is executed once or not at all, now or later";
 
 pub(crate) const FORGET_DETAILS: &str = "\
 Free the slot of the originator of FILE, a file of --once without a
