@@ -192,7 +192,15 @@ queue_after start m l queue names is =
 pub new_is_queue : (places : Option ℕ) → IfSome places (λ n. n ≤ 256) → IfSome (new_queue places) IsQueue
 new_is_queue None few = tt
 new_is_queue (Some n) few =
-    record { few = few; next = omega arith; within = omega arith; kept = omega arith; commands = tt; done = tt }
+    record {
+      few = few;
+      next = omega arith;
+      handed = omega arith;
+      within = omega arith;
+      kept = omega arith;
+      commands = tt;
+      done = tt;
+    }
 
 own_queue : (queue : Option QueueState) (q : QueueState) → queue ≡ Some q → IfSome queue IsQueue → IsQueue q
 own_queue queue q e is = subst (λ o. IfSome o IsQueue) e is
@@ -209,6 +217,7 @@ after_is_queue start old new few is (inr (q, places, e, own, within, same)) =
     subst (λ o. IfSome o IsQueue) (sym same) (record {
       few = few_places start.queue places own few;
       next = all.next;
+      handed = all.handed;
       within = within;
       kept = all.kept;
       commands = all.commands;

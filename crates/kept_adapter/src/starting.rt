@@ -252,20 +252,22 @@ impl KeptDevice for AdapterStart {
 
     fn is_saved(adapter: &Adapter, entries: &[Entry]) -> bool {
         let objects = adapter.objects();
-        let Some(behind) = behind_objects(objects, adapter.queue(), entries) else {
+        let queue = adapter.queue();
+        let Some(behind) = behind_objects(objects, queue, entries) else {
             return false;
         };
         match behind_ledger(objects, adapter.ledger(), behind) {
-            Some(rest) => are_of_queue(adapter.queue(), rest),
+            Some(rest) => are_of_queue(queue, rest),
             None => false,
         }
     }
 
     fn save(alloc: Global, adapter: &Adapter, into: &mut Vec<Entry>) -> Result<(), AllocError> {
         let objects = adapter.objects();
-        let values = save_objects(alloc, objects, adapter.queue(), into)?;
+        let queue = adapter.queue();
+        let values = save_objects(alloc, objects, queue, into)?;
         let behind = save_ledger_if_any(alloc, objects, adapter.ledger(), values, into)?;
-        let count = save_queue_if_any(alloc, adapter.queue(), behind, into)?;
+        let count = save_queue_if_any(alloc, queue, behind, into)?;
         into.truncate(count);
         Ok(())
     }

@@ -1,16 +1,14 @@
-use Rattle.std.proofs.Common.{refl}
 use Rattle.kept_adapter.proofs.CompareLemmas.{compared, false_is, other_ledger}
 use Rattle.kept_adapter.proofs.starting.AdapterStartKeptDevice.is_saved.Goals as goal
 
 pub returns-in-Some-behind_ledger : goal.returns-in-Some-behind_ledger
 returns-in-Some-behind_ledger c =
-    compared c.objects-objects.ensures c.ledger.ensures c.queue.ensures c.are_of_queue.result
+    compared c.objects-objects.ensures c.ledger.ensures c.queue-queue.ensures c.are_of_queue.result
     c.in-Some.ensures.same c.in-Some-behind_ledger.ensures.same c.are_of_queue.ensures
 
 pub returns-in-None : goal.returns-in-None
-returns-in-None c =
-    let queue = c.args.adapter.now.state.shared.objects.router.queue in (
-      false_is _,
-      λ same. absurd (other_ledger {q = queue} {r = queue} c.objects-objects.ensures c.ledger.ensures refl
-          c.in-Some.ensures.same c.in-None.ensures.other same),
-    )
+returns-in-None c = (
+  false_is _,
+  λ same. absurd (other_ledger c.objects-objects.ensures c.ledger.ensures c.queue-queue.ensures c.in-Some.ensures.same
+      c.in-None.ensures.other same),
+)
