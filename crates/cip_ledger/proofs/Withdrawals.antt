@@ -16,10 +16,10 @@ use Rattle.cip_ledger.specs.Withdrawing.{of_command, of_pending, of_unused, with
 use Rattle.cip_ledger.proofs.Fates.{IsNewAt, HasEnded}
 use Rattle.cip_ledger.proofs.SlotLemmas.{slot_of-with_slot, slot_of-with_other}
 
-same-some : {A : Type 0} (a b : A) → ◌≡◌ {A = Option A} (Some a) (Some b) → a ≡ b
+pub same-some : {A : Type 0} (a b : A) → ◌≡◌ {A = Option A} (Some a) (Some b) → a ≡ b
 same-some a b e = cc
 
-none-some : {A : Type 0} (a : A) → ◌≡◌ {A = Option A} None (Some a) → ⊥
+pub none-some : {A : Type 0} (a : A) → ◌≡◌ {A = Option A} None (Some a) → ⊥
 none-some a e = absurd (cc)
 
 -- ---- what a request withdraws
@@ -211,7 +211,7 @@ withdrawn-once ledger originator number can =
 
 -- ---- the names of what is withdrawn
 
-abbrev IsNamed : ℕ → ℕ → Withdrawal → Type 0
+abbrev pub IsNamed : ℕ → ℕ → Withdrawal → Type 0
 IsNamed originator number w = (w.originator ≡ originator) × (w.number ≡ number)
 
 named : (originator number : ℕ) (ticket : Option ℕ) (w : Withdrawal)
@@ -225,7 +225,7 @@ named-if : (b : Bool) (originator number : ℕ) (ticket : Option ℕ) (w : Withd
 named-if true originator number ticket w e = named originator number ticket w e
 named-if false originator number ticket w e = absurd (none-some w e)
 
-slot-named : (ledger : LedgerState) (originator number : ℕ) (found : Option SlotState) (w : Withdrawal)
+pub slot-named : (ledger : LedgerState) (originator number : ℕ) (found : Option SlotState) (w : Withdrawal)
     → withdraw_by_slot ledger originator number found ≡ Some w → IsNamed originator number w
 slot-named ledger originator number None w e = named-if (nat_lt (length ledger.taken) ledger.slots) originator number None w e
 slot-named ledger originator number (Some slot) w e = go (is_pending slot) e
@@ -235,7 +235,7 @@ slot-named ledger originator number (Some slot) w e = go (is_pending slot) e
     go true f = named-if (slot.number == number) originator number slot.ticket w f
     go false f = named-if (nat_lt slot.number number) originator number None w f
 
-forget-named : (originator number : ℕ) (found : Option SlotState) (w : Withdrawal)
+pub forget-named : (originator number : ℕ) (found : Option SlotState) (w : Withdrawal)
     → forget_by_slot originator number found ≡ Some w → IsNamed originator number w
 forget-named originator number None w e = absurd (none-some w e)
 forget-named originator number (Some slot) w e = go (is_pending slot) e

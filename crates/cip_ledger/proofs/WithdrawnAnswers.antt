@@ -207,16 +207,16 @@ withdrawn-answer device found max_size text e least = of_ledger device.ledger re
     of_left ledger asked w None is asks by facts leaves f = absurd (none-some found f)
     of_left ledger asked w (Some left) is asks by facts leaves f =
         let same : with_withdrawal w left ≡ found = same_device (with_withdrawal w left) found f in
-        let then = left-ledger device left ledger w is facts leaves in
-        let new : LedgerState = with_withdrawn w.originator w.number then.state in
+        let gone = left-ledger device left ledger w is facts leaves in
+        let new : LedgerState = with_withdrawn w.originator w.number gone.state in
         let own : found.ledger ≡ Some new
-        = ap (λ (n : Device). n.ledger) (sym same) ∙ ap (option_map (with_withdrawn w.originator w.number)) then.is in
+        = ap (λ (n : Device). n.ledger) (sym same) ∙ ap (option_map (with_withdrawn w.originator w.number)) gone.is in
         subst IsWithdrawnAnswer
         (sym (ap (λ l. (turn exec_after exec_answer owned_standing l found.router max_size text).answer) own
         ∙ ap (λ a. (turn_by exec_after exec_answer (fate_of owned_standing new found.router max_size a)
         (Some new) found.router max_size text).answer) asks))
         (acted_answer asked (action_of new max_size asked) (Some new) found.router
-        (asked_action ledger then.state w max_size least then.life then.place asked by))
+        (asked_action ledger gone.state w max_size least gone.life gone.place asked by))
 
     of_withdrawal : (ledger : LedgerState) (asked : LedgerRequest) (o : Option Withdrawal) → device.ledger ≡ Some ledger
         → ledger_request text ≡ Some asked → withdrawal_by ledger asked ≡ o
