@@ -84,6 +84,7 @@ uint32_t enip_core_adapter_asked(struct kept *, uint64_t, uint32_t, const uint8_
                                  struct asked *);
 uint32_t enip_core_adapter_feed_prepared(struct kept *, uint64_t, uint32_t, const uint8_t *, size_t, uint8_t,
                                          const uint8_t *, size_t, uint16_t, uint8_t *, size_t, enip_fed *);
+void enip_core_adapter_withdraw(struct kept *, uint64_t, uint32_t, const uint8_t *, size_t);
 void enip_core_adapter_tick(struct kept *, uint64_t);
 void enip_core_adapter_end(struct kept *, uint32_t);
 uint32_t enip_core_adapter_deadline(struct kept *, uint64_t *);
@@ -122,6 +123,8 @@ void enip_core_once_free(struct kept *);
 uint32_t enip_core_once_command(struct kept *, const uint8_t *, size_t, uint8_t *, size_t, size_t *);
 uint32_t enip_core_once_resend(struct kept *, uint8_t *, size_t, size_t *);
 uint32_t enip_core_once_receive(struct kept *, const uint8_t *, size_t, uint8_t *, size_t, enip_outcome *);
+uint32_t enip_core_once_withdraw(struct kept *, uint8_t *, size_t, size_t *);
+uint32_t enip_core_once_withdrawn(struct kept *, const uint8_t *, size_t, uint8_t *, size_t, enip_outcome *);
 uint32_t enip_core_once_abandon(struct kept *);
 void enip_core_once_values(struct kept *, uint64_t *, uint64_t *, uint32_t *);
 uint32_t enip_core_once_request(struct kept *, uint8_t *, size_t, size_t *);
@@ -325,11 +328,19 @@ int enip_adapter_begin_as(enip_adapter *adapter, int rights, const uint8_t group
     return (int)enip_core_adapter_begin_as(&adapter->kept, (uint32_t)rights, group != NULL, high, low, peer);
 }
 
+/* What the frame withdraws is withdrawn before it is executed. Without room for an answer nothing changes. */
+static int feed(enip_adapter *adapter, uint64_t now, uint32_t peer, const void *bytes, size_t length, void *buffer,
+                size_t size, enip_fed *fed) {
+    if (size >= ENIP_ANSWER_ROOM)
+        enip_core_adapter_withdraw(&adapter->kept, now, peer, bytes, length);
+    return (int)enip_core_adapter_feed(&adapter->kept, now, peer, bytes, length, buffer, size, fed);
+}
+
 int enip_adapter_feed(enip_adapter *adapter, uint64_t now, uint32_t peer, const void *bytes, size_t length,
                       void *buffer, size_t size, enip_fed *fed) {
     if (!is_free_adapter(adapter) || !is_call(bytes, length, buffer, size, fed, sizeof *fed))
         return ENIP_MISUSE;
-    return (int)enip_core_adapter_feed(&adapter->kept, now, peer, bytes, length, buffer, size, fed);
+    return feed(adapter, now, peer, bytes, length, buffer, size, fed);
 }
 
 /*
@@ -363,12 +374,12 @@ int enip_adapter_serve(enip_adapter *adapter, uint64_t now, uint32_t peer, const
     if (!is_free_adapter(adapter) || !is_call(bytes, length, buffer, size, fed, sizeof *fed))
         return ENIP_MISUSE;
     if (owner == NULL)
-        return (int)enip_core_adapter_feed(&adapter->kept, now, peer, bytes, length, buffer, size, fed);
+        return feed(adapter, now, peer, bytes, length, buffer, size, fed);
     if (size < ENIP_ANSWER_ROOM)
         return ENIP_ROOM;
     status = enip_core_adapter_asked(&adapter->kept, now, peer, bytes, length, data, sizeof data, &asked);
     if (status == ENIP_ABSENT)
-        return (int)enip_core_adapter_feed(&adapter->kept, now, peer, bytes, length, buffer, size, fed);
+        return feed(adapter, now, peer, bytes, length, buffer, size, fed);
     if (status == ENIP_OK) {
         adapter->asking_peer = peer;
         adapter->asking = bytes;
@@ -690,6 +701,19 @@ int enip_once_receive(enip_once *once, const void *reply, size_t length, void *b
     if (!is_once(once) || !is_call(reply, length, buffer, size, outcome, sizeof *outcome))
         return ENIP_MISUSE;
     return (int)enip_core_once_receive(&once->kept, reply, length, buffer, size, outcome);
+}
+
+int enip_once_withdraw(const enip_once *once, void *buffer, size_t size, size_t *count) {
+    if (!is_once(once) || !is_output(buffer, size, count))
+        return ENIP_MISUSE;
+    return (int)enip_core_once_withdraw(kept_to_read(&once->kept), buffer, size, count);
+}
+
+int enip_once_withdrawn(enip_once *once, const void *reply, size_t length, void *buffer, size_t size,
+                        enip_outcome *outcome) {
+    if (!is_once(once) || !is_call(reply, length, buffer, size, outcome, sizeof *outcome))
+        return ENIP_MISUSE;
+    return (int)enip_core_once_withdrawn(&once->kept, reply, length, buffer, size, outcome);
 }
 
 int enip_once_abandon(enip_once *once) {

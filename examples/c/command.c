@@ -211,6 +211,10 @@ static int send_pending(void) {
         fail_with("the device refused the command", ENIP_OF_GENERAL, outcome.general);
     if (outcome.kind == ENIP_ONCE_IN_DOUBT)
         fail(path, "the device does not know whether it executed the command, and its owner has to settle that");
+    if (outcome.kind == ENIP_ONCE_WITHDRAWN) {
+        write_file();
+        fail(path, "the command was withdrawn, and is never executed");
+    }
     if (outcome.kind != ENIP_ONCE_DONE)
         return 0;
     print_hex(stdout, embedded, outcome.reply);

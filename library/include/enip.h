@@ -556,21 +556,24 @@ enum {
     ENIP_LEDGER_PENDING = 0xd0    /* the originator's last command is in the queue: try again when it is done */
 };
 
-/* What enip_once_receive learned about the pending command. */
+/* What enip_once_receive and enip_once_withdrawn learned about the pending command. */
 enum {
     ENIP_ONCE_NOTHING = 0,   /* no command is pending */
     ENIP_ONCE_DONE = 1,      /* the command was executed, once; it is not pending any more */
     ENIP_ONCE_PENDING = 2,   /* the device has taken the command and not executed it yet */
     ENIP_ONCE_REFUSED = 3,   /* the device refused the command; it is still pending */
     ENIP_ONCE_MALFORMED = 4, /* not a reply to a command; it is still pending */
-    ENIP_ONCE_IN_DOUBT = 5   /* the device does not know whether it executed the command; it is still pending */
+    ENIP_ONCE_IN_DOUBT = 5,  /* the device does not know whether it executed the command; it is still pending */
+    ENIP_ONCE_WITHDRAWN = 6, /* the command was withdrawn, and is never executed; it is not pending any more */
+    ENIP_ONCE_SMALLER = 7,   /* not withdrawn: the device has a later command of the originator; it is still pending */
+    ENIP_ONCE_OTHER_LIFE = 8 /* not withdrawn: the device was started again; it is still pending */
 };
 
-/* The result of enip_once_receive. */
+/* The result of enip_once_receive and enip_once_withdrawn. */
 typedef struct enip_outcome {
     size_t reply;     /* ENIP_ONCE_DONE: the number of bytes in the buffer that are the reply to the request */
     uint32_t kind;    /* one of ENIP_ONCE_NOTHING and the following */
-    uint32_t general; /* the general status of that reply (DONE) or of the refusal (REFUSED), otherwise 0 */
+    uint32_t general; /* the general status of that reply (DONE) or of the device's refusal, otherwise 0 */
 } enip_outcome;
 
 /*
@@ -619,8 +622,28 @@ ENIP_API int enip_once_receive(enip_once *once, const void *reply, size_t length
                                enip_outcome *outcome);
 
 /*
+ * Writes the message that withdraws the pending command from the device (26 bytes): send it as the message of a
+ * command, and again on a new connection if no reply comes. The command is pending until enip_once_withdrawn says what
+ * became of it.
+ * ENIP_OK; ENIP_ABSENT if no command is pending; ENIP_ROOM; ENIP_MISUSE.
+ */
+ENIP_API int enip_once_withdraw(const enip_once *once, void *buffer, size_t size, size_t *count);
+
+/*
+ * Takes the reply to the message of enip_once_withdraw, as enip_once_receive takes one to a command. The command is
+ * not pending any more if it was withdrawn (ENIP_ONCE_WITHDRAWN) or is done (ENIP_ONCE_DONE, with the reply to its
+ * request). ENIP_ONCE_PENDING says that the owner of the device has it: send the message of the command again to wait
+ * for its reply. After ENIP_ONCE_SMALLER and ENIP_ONCE_OTHER_LIFE the device will not execute it, but may have executed
+ * it before. A device that is older than this call refuses it with the general status 0x08 (ENIP_ONCE_REFUSED).
+ * ENIP_OK, ENIP_ROOM, ENIP_MISUSE.
+ */
+ENIP_API int enip_once_withdrawn(enip_once *once, const void *reply, size_t length, void *buffer, size_t size,
+                                 enip_outcome *outcome);
+
+/*
  * Gives up the pending command: it is executed once or not at all. Once a later command is done, it will not be
- * executed any more. While it is in the queue of the device, a later one is refused (ENIP_LEDGER_PENDING).
+ * executed any more. While it is in the queue of the device, a later one is refused (ENIP_LEDGER_PENDING). Withdraw it
+ * (enip_once_withdraw) if it must not be executed any more.
  * ENIP_OK; ENIP_ABSENT if no command is pending; ENIP_MISUSE.
  */
 ENIP_API int enip_once_abandon(enip_once *once);

@@ -628,11 +628,11 @@ private:
 
 // ---- numbered commands ----
 
-// The result of Once::receive.
+// The result of Once::receive and Once::withdrawn.
 struct Outcome {
     bytes_view reply;      // ENIP_ONCE_DONE: the reply to the request
     std::uint32_t kind;    // ENIP_ONCE_NOTHING or one of the following
-    std::uint32_t general; // the general status of that reply (DONE) or of the refusal (REFUSED), otherwise 0
+    std::uint32_t general; // the general status of that reply (DONE) or of the device's refusal, otherwise 0
 };
 
 // What a program stores of an originator: the device's life, the originator, the number of the last command.
@@ -675,6 +675,21 @@ public:
         enip_outcome outcome = {};
         reply_.resize(std::max(reply_.size(), reply.size()));
         detail::check(enip_once_receive(handle(), reply.data(), reply.size(), reply_.data(), reply_.size(), &outcome));
+        return {bytes_view(reply_.data(), outcome.reply), outcome.kind, outcome.general};
+    }
+    // The message that withdraws the pending command; nothing if none is pending.
+    [[nodiscard]] std::optional<bytes_view> withdraw() {
+        std::size_t count = 0;
+        if (!detail::is_found(enip_once_withdraw(handle(), message_.data(), message_.size(), &count)))
+            return std::nullopt;
+        return bytes_view(message_.data(), count);
+    }
+    // Takes the reply to that message.
+    [[nodiscard]] Outcome withdrawn(bytes_view reply) {
+        enip_outcome outcome = {};
+        reply_.resize(std::max(reply_.size(), reply.size()));
+        detail::check(
+            enip_once_withdrawn(handle(), reply.data(), reply.size(), reply_.data(), reply_.size(), &outcome));
         return {bytes_view(reply_.data(), outcome.reply), outcome.kind, outcome.general};
     }
     // Gives the pending command up. Throws Error(ENIP_ABSENT) if none is pending.

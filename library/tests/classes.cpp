@@ -364,9 +364,16 @@ static void once() {
     }
     is("nothing is pending any more", !once.resend() && link.device.read(100, 1, 1)
         && enip::Reader(*link.device.read(100, 1, 1)).get_udint() == 5);
+    is("nothing to withdraw", !once.withdraw());
+    message = once.command(add).to_vector();
+    enip::Heard heard = link.exchange(link.client.ask(once.withdraw().value()));
+    is("it was withdrawn", once.withdrawn(heard.reply).kind == ENIP_ONCE_WITHDRAWN && !once.request());
+    heard = link.exchange(link.client.ask(message));
+    enip::Once late(once.values(), add);
+    is("and is not executed", late.receive(heard.reply).kind == ENIP_ONCE_WITHDRAWN && !late.request());
     (void)once.command(add);
     once.abandon();
-    is("it was given up", !once.request() && once.values().last_number == 2);
+    is("it was given up", !once.request() && once.values().last_number == 3);
     is("a reply that is not one", once.receive(ROW).kind == ENIP_ONCE_NOTHING);
     throws("no reply", ENIP_MISUSE, [&] { (void)once.receive({}); });
 }

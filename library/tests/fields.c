@@ -105,6 +105,7 @@ WRITING(client_unregister, client)
 WRITING(once_command, once, request, request_length)
 WRITING(once_resend, once)
 WRITING(once_request, once)
+WRITING(once_withdraw, once)
 
 /* Calls it with a buffer that is a byte too small, and with one of the size that it needs. */
 static void written(const char *what, writing *write, size_t room, size_t length) {
@@ -369,14 +370,17 @@ static void device_side(enip_endings *endings) {
     is("free", enip_client_free(client), ENIP_OK);
 }
 
+/* The call that takes the replies of `outcome`. */
+static int (*take)(enip_once *, const void *, size_t, void *, size_t, enip_outcome *) = enip_once_receive;
+
 static void outcome(const char *what, const char *bytes, size_t length, enip_outcome wanted, const char *inner) {
     void *buffer = in(BUFFER, length - 1), *piece = memcpy(in(READ, length), bytes, length);
     enip_outcome *got = in(RESULT, sizeof *got);
-    is(what, enip_once_receive(once, piece, length, buffer, length - 1, got), ENIP_ROOM);
+    is(what, take(once, piece, length, buffer, length - 1, got), ENIP_ROOM);
     is_kept(what, BUFFER);
     is_kept(what, RESULT);
     buffer = in(BUFFER, length);
-    is(what, enip_once_receive(once, piece, length, buffer, length, got), ENIP_OK);
+    is(what, take(once, piece, length, buffer, length, got), ENIP_OK);
     is(what, (long long)got->reply, (long long)wanted.reply);
     is(what, got->kind, wanted.kind);
     is(what, got->general, wanted.general);
@@ -389,6 +393,8 @@ static void outcome(const char *what, const char *bytes, size_t length, enip_out
 static void commands(void) {
     static const char message[] = {0x4b, 2, 0x20, 0x65, 0x24, 1, 8, 7, 6, 5, 4, 3, 2, 1, 0x18, 0x17, 0x16, 0x15, 0x14, 0x13,
                                    0x12, 0x11, 0x24, 0x23, 0x22, 0x21, 0x0e, 3, 0x20, 1, 0x24, 1, 0x30, 1};
+    static const char withdrawal[] = {0x4f, 2, 0x20, 0x65, 0x24, 1, 8, 7, 6, 5, 4, 3, 2, 1, 0x18, 0x17, 0x16, 0x15, 0x14,
+                                      0x13, 0x12, 0x11, 0x24, 0x23, 0x22, 0x21};
     uint64_t *life, *originator;
     uint32_t *number;
     is("new", enip_once_new(UINT64_C(0x0102030405060708), UINT64_C(0x1112131415161718), 0x21222323, &once), ENIP_OK);
@@ -398,6 +404,8 @@ static void commands(void) {
     is_bytes("a command", frame, message, sizeof message);
     written("its message", once_resend, sizeof message, sizeof message);
     is_bytes("its message", frame, message, sizeof message);
+    written("its withdrawal", once_withdraw, sizeof withdrawal, sizeof withdrawal);
+    is_bytes("its withdrawal", frame, withdrawal, sizeof withdrawal);
     written("its request", once_request, sizeof get_vendor, sizeof get_vendor);
     is_bytes("its request", frame, get_vendor, sizeof get_vendor);
     life = in(READ, sizeof *life);
@@ -415,6 +423,21 @@ static void commands(void) {
     outcome("malformed", "\xcc\0\0\0\1", 5, (enip_outcome){0, ENIP_ONCE_MALFORMED, 0}, "");
     outcome("done", "\xcb\0\0\0\0\x8e\0\x0a\0\7", 10, (enip_outcome){5, ENIP_ONCE_DONE, 0x0a}, "\x8e\0\x0a\0\7");
     outcome("nothing", "\xcb\0\0\0\0\x8e\0\0\0", 9, (enip_outcome){0, ENIP_ONCE_NOTHING, 0}, "");
+    written("another command", once_command, ENIP_MESSAGE_ROOM, sizeof message);
+    outcome("withdrawn before", "\xcb\0\0\0\3", 5, (enip_outcome){0, ENIP_ONCE_WITHDRAWN, 0}, "");
+    written("another command", once_command, ENIP_MESSAGE_ROOM, sizeof message);
+    take = enip_once_withdrawn;
+    outcome("refused", "\xcf\0\x08\0", 4, (enip_outcome){0, ENIP_ONCE_REFUSED, 0x08}, "");
+    outcome("handed over", "\xcf\0\0\0\1", 5, (enip_outcome){0, ENIP_ONCE_PENDING, 0}, "");
+    outcome("in doubt", "\xcf\0\0\0\2", 5, (enip_outcome){0, ENIP_ONCE_IN_DOUBT, 0}, "");
+    outcome("malformed", "\xcb\0\0\0\3", 5, (enip_outcome){0, ENIP_ONCE_MALFORMED, 0}, "");
+    outcome("a smaller number", "\xcf\0\x0c\0", 4, (enip_outcome){0, ENIP_ONCE_SMALLER, 0x0c}, "");
+    outcome("another life", "\xcf\0\x10\0", 4, (enip_outcome){0, ENIP_ONCE_OTHER_LIFE, 0x10}, "");
+    outcome("done", "\xcf\0\0\0\0\x8e\0\x0a\0\7", 10, (enip_outcome){5, ENIP_ONCE_DONE, 0x0a}, "\x8e\0\x0a\0\7");
+    outcome("nothing", "\xcf\0\0\0\3", 5, (enip_outcome){0, ENIP_ONCE_NOTHING, 0}, "");
+    written("another command", once_command, ENIP_MESSAGE_ROOM, sizeof message);
+    outcome("withdrawn", "\xcf\0\0\0\3", 5, (enip_outcome){0, ENIP_ONCE_WITHDRAWN, 0}, "");
+    take = enip_once_receive;
     is("free", enip_once_free(once), ENIP_OK);
 }
 

@@ -195,6 +195,20 @@ int main(void) {
     MISUSE(enip_once_receive(once, registers, 28, buffer, sizeof buffer, NULL));
     MISUSE(enip_once_receive(once, buffer, 28, buffer, sizeof buffer, &outcome));
     MISUSE(enip_once_receive(once, registers, 28, shared.bytes, sizeof shared.bytes, &shared.outcome));
+    MISUSE(enip_once_withdraw(NULL, buffer, sizeof buffer, &count));
+    MISUSE(enip_once_withdraw(alien, buffer, sizeof buffer, &count));
+    MISUSE(enip_once_withdraw(once, NULL, sizeof buffer, &count));
+    MISUSE(enip_once_withdraw(once, buffer, sizeof buffer, NULL));
+    MISUSE(enip_once_withdrawn(NULL, registers, 28, buffer, sizeof buffer, &outcome));
+    MISUSE(enip_once_withdrawn(alien, registers, 28, buffer, sizeof buffer, &outcome));
+    MISUSE(enip_once_withdrawn(once, NULL, 28, buffer, sizeof buffer, &outcome));
+    MISUSE(enip_once_withdrawn(once, registers, 0, buffer, sizeof buffer, &outcome));
+    MISUSE(enip_once_withdrawn(once, registers, far, buffer, sizeof buffer, &outcome));
+    MISUSE(enip_once_withdrawn(once, registers, 28, NULL, sizeof buffer, &outcome));
+    MISUSE(enip_once_withdrawn(once, registers, 28, buffer, 0, &outcome));
+    MISUSE(enip_once_withdrawn(once, registers, 28, buffer, sizeof buffer, NULL));
+    MISUSE(enip_once_withdrawn(once, buffer, 28, buffer, sizeof buffer, &outcome));
+    MISUSE(enip_once_withdrawn(once, registers, 28, shared.bytes, sizeof shared.bytes, &shared.outcome));
     MISUSE(enip_once_abandon(NULL));
     MISUSE(enip_once_abandon(alien));
     MISUSE(enip_once_values(NULL, &life, &originator, &number));
@@ -209,6 +223,7 @@ int main(void) {
     is("values", enip_once_values(once, &life, &originator, &number), ENIP_OK);
     is("values", life == 1 && originator == 2 && number == 3, 1);
     is("nothing is pending", enip_once_resend(once, buffer, sizeof buffer, &count), ENIP_ABSENT);
+    is("nothing to withdraw", enip_once_withdraw(once, buffer, sizeof buffer, &count), ENIP_ABSENT);
     MISUSE(enip_once_free(alien));
     is("free NULL", enip_once_free(NULL), ENIP_OK);
     enip_once *volatile gone = once;

@@ -97,6 +97,20 @@ static void receive(const char *what, const char *bytes, size_t length, uint32_t
     is_outcome(what, kind, general, inner);
 }
 
+/* What a reply of these bytes says to Withdraw. */
+static void withdrawn(const char *what, const char *bytes, size_t length, uint32_t kind, uint32_t general,
+                      size_t inner) {
+    is(what, enip_once_withdrawn(once, bytes, length, embedded, sizeof embedded, &outcome), ENIP_OK);
+    is_outcome(what, kind, general, inner);
+}
+
+/* Withdraws the pending command from the device. */
+static void withdraw(const char *what, uint32_t kind, uint32_t general, size_t inner) {
+    is(what, enip_once_withdraw(once, message, sizeof message, &size), ENIP_OK);
+    exchange(enip_client_ask(client, message, size, frame, sizeof frame, &count));
+    withdrawn(what, (const char *)reply, heard.reply, kind, general, inner);
+}
+
 static void has_values(const char *what, uint64_t life, uint64_t who, uint32_t last_number) {
     uint64_t its_life, its_originator;
     uint32_t its_number;
@@ -236,7 +250,7 @@ static void other_replies(void) {
     command(add_5, sizeof add_5);
     receive("one byte", "\xcb", 1, ENIP_ONCE_MALFORMED, 0, 0);
     receive("no state", "\xcb\0\0\0", 4, ENIP_ONCE_MALFORMED, 0, 0);
-    receive("another state", "\xcb\0\0\0\3", 5, ENIP_ONCE_MALFORMED, 0, 0);
+    receive("another state", "\xcb\0\0\0\4", 5, ENIP_ONCE_MALFORMED, 0, 0);
     receive("another service", "\xcc\0\0\0\0\xb2\0\0\0", 9, ENIP_ONCE_MALFORMED, 0, 0);
     receive("a request", "\x4b\0\0\0\0\xb2\0\0\0", 9, ENIP_ONCE_MALFORMED, 0, 0);
     receive("pending", "\xcb\0\0\0\1", 5, ENIP_ONCE_PENDING, 0, 0);
@@ -255,6 +269,74 @@ static void other_replies(void) {
     command(add_5, sizeof add_5);
     receive("an empty reply", "\xcb\0\0\0\0", 5, ENIP_ONCE_DONE, 0, 0);
     is_pending("an empty reply", NULL, 0);
+    command(add_5, sizeof add_5);
+    receive("withdrawn by another", "\xcb\0\0\0\3", 5, ENIP_ONCE_WITHDRAWN, 0, 0);
+    is_pending("withdrawn by another", NULL, 0);
+}
+
+/* What the replies to Withdraw say, and which of them end the command. */
+static void withdrawals(void) {
+    static const unsigned char wanted[] = {0x4f, 2, 0x20, 0x65, 0x24, 1, LIFE, 0, 0, 0, 0, 0, 0, 0};
+    make_once(LIFE, originator, 70);
+    is("nothing to withdraw", enip_once_withdraw(once, message, sizeof message, &size), ENIP_ABSENT);
+    withdrawn("nothing is pending", "\xcf\0\0\0\3", 5, ENIP_ONCE_NOTHING, 0, 0);
+    command(add_5, sizeof add_5);
+    is("a small buffer", enip_once_withdraw(once, message, 25, &size), ENIP_ROOM);
+    is("withdraw", enip_once_withdraw(once, message, 26, &size), ENIP_OK);
+    is("its message", size == 26 && memcmp(message, wanted, sizeof wanted) == 0 && message[22] == 71, 1);
+    withdrawn("one byte", "\xcf", 1, ENIP_ONCE_MALFORMED, 0, 0);
+    withdrawn("no state", "\xcf\0\0\0", 4, ENIP_ONCE_MALFORMED, 0, 0);
+    withdrawn("another state", "\xcf\0\0\0\4", 5, ENIP_ONCE_MALFORMED, 0, 0);
+    withdrawn("a reply to the command", "\xcb\0\0\0\3", 5, ENIP_ONCE_MALFORMED, 0, 0);
+    withdrawn("handed over", "\xcf\0\0\0\1", 5, ENIP_ONCE_PENDING, 0, 0);
+    withdrawn("in doubt", "\xcf\0\0\0\2", 5, ENIP_ONCE_IN_DOUBT, 0, 0);
+    withdrawn("a smaller number", "\xcf\0\x0c\0", 4, ENIP_ONCE_SMALLER, 0x0c, 0);
+    withdrawn("another life", "\xcf\0\x10\0", 4, ENIP_ONCE_OTHER_LIFE, 0x10, 0);
+    withdrawn("an older device", "\xcf\0\x08\0", 4, ENIP_ONCE_REFUSED, 0x08, 0);
+    is_pending("after all of these", add_5, sizeof add_5);
+    memset(embedded, 9, sizeof embedded);
+    outcome.kind = 77;
+    is("a small buffer", enip_once_withdrawn(once, "\xcf\0\0\0\0\xb2\0\0\0", 9, embedded, 8, &outcome), ENIP_ROOM);
+    is("a small buffer", outcome.kind == 77 && embedded[0] == 9, 1);
+    withdrawn("done", "\xcf\0\0\0\0\xb2\0\3\0", 9, ENIP_ONCE_DONE, 3, 4);
+    is("its reply", memcmp(embedded, "\xb2\0\3\0", 4), 0);
+    is_pending("done", NULL, 0);
+    command(add_5, sizeof add_5);
+    withdrawn("withdrawn", "\xcf\0\0\0\3", 5, ENIP_ONCE_WITHDRAWN, 0, 0);
+    is_pending("withdrawn", NULL, 0);
+    has_values("withdrawn", LIFE, originator, 72);
+}
+
+/* At the device: a command that did not reach it, and one whose answer was lost. */
+static void withdrawn_at_the_device(void) {
+    unsigned char first[ENIP_MESSAGE_ROOM];
+    size_t length;
+    const int before = counter();
+    make_once(LIFE, originator, 80);
+    command(add_5, sizeof add_5);
+    length = size;
+    memcpy(first, message, size);
+    withdraw("it did not arrive", ENIP_ONCE_WITHDRAWN, 0, 0);
+    is_pending("it did not arrive", NULL, 0);
+    exchange(enip_client_ask(client, first, length, frame, sizeof frame, &count));
+    is("it arrives later", heard.reply == 5 && reply[4] == 3, 1);
+    is("it is not executed", counter(), before);
+    command(add_5, sizeof add_5);
+    exchange(enip_client_ask(client, message, size, frame, sizeof frame, &count));
+    withdraw("it was executed", ENIP_ONCE_DONE, 0, 8);
+    is_pending("it was executed", NULL, 0);
+    is("it was executed", counter(), before + 5);
+    make_once(LIFE, originator, 80);
+    command(add_5, sizeof add_5);
+    withdraw("a smaller number", ENIP_ONCE_SMALLER, 0x0c, 0);
+    make_once(LIFE + 1, originator, 90);
+    command(add_5, sizeof add_5);
+    withdraw("another life", ENIP_ONCE_OTHER_LIFE, 0x10, 0);
+    is_pending("another life", add_5, sizeof add_5);
+    make_once(LIFE, SLOTS, 0);
+    command(add_5, sizeof add_5);
+    withdraw("no slot", ENIP_ONCE_REFUSED, ENIP_LEDGER_SLOTS, 0);
+    is("what was withdrawn is not executed", counter(), before + 5);
 }
 
 /* Each refusal of a command, and each pair of neighbours in the order of the checks. */
@@ -322,6 +404,8 @@ int main(int argument_count, char **arguments) {
         refusals();
         connected();
         other_replies();
+        withdrawals();
+        withdrawn_at_the_device();
         refused_commands();
         refused_resumptions();
         printf("%d passed, %d failed\n", passed, failed);

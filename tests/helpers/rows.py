@@ -132,7 +132,11 @@ class Server:
         self.process = subprocess.Popen(
             [program, "serve", config, address, *options], stderr=subprocess.PIPE, text=True, **streams
         )
-        self.line = self.process.stderr.readline()
+        self.line, self.reports = self.process.stderr.readline(), []
+        # what it says of its state comes first
+        while self.line.startswith("enip: "):
+            self.reports.append(self.line)
+            self.line = self.process.stderr.readline()
         self.at = self.line.rsplit(" ", 1)[-1].strip()
         self.port = int(self.line.rsplit(":", 1)[1])
 

@@ -13,6 +13,7 @@ NOT_RUN = {
     "times": "it measures times, and here it would run next to other tests",
     "library": "it tests the library for C, which is an area of its own",
     "owner_module": "it starts the program some hundred times, and an unproved one takes seconds to start with --keep",
+    "withdrawn": "it starts the program some hundred times, and an unproved one takes seconds to start with --keep",
 }
 # There are no fewer tests of the program than these.
 LEAST = 30

@@ -1,7 +1,7 @@
 """Random requests to the command ledger, right ones and ones with a fault, mixed with requests to the objects."""
 from reading.protocol import (
     CONNECTION_MANAGER, DO_ONCE, FORGET, FORWARD_CLOSE, FORWARD_OPEN, GET, GET_LAST, GET_LIST, GET_SLOTS,
-    LARGE_FORWARD_OPEN, LAST, LAST_MOMENT, LEDGER, SET, number,
+    LARGE_FORWARD_OPEN, LAST, LAST_MOMENT, LEDGER, SET, WITHDRAW, number,
 )
 from reading.ledger import EMBEDDED_ROOM
 from reading.requests import Requests
@@ -22,7 +22,7 @@ class Commands(Requests):
         return self.to_ledger(config) if self.seldom(share) else super().request(config)
 
     def to_ledger(self, config):
-        service = self.pick(*[DO_ONCE] * 12, *[GET_LAST, FORGET, GET_SLOTS] * 2, *[GET] * 4, GET_LIST, SET)
+        service = self.pick(*[DO_ONCE] * 12, *[GET_LAST, FORGET, WITHDRAW, GET_SLOTS] * 2, *[GET] * 4, GET_LIST, SET)
         path = self.right_path(LEDGER, self.pick(*[1] * 30, 0, 2, 65537))
         if service == DO_ONCE:
             data = self.command(config)
@@ -30,6 +30,8 @@ class Commands(Requests):
             data = self.fitted(number(8, self.pick(*ORIGINATORS)))
         elif service == FORGET:
             data = self.fitted(self.forgotten())
+        elif service == WITHDRAW:
+            data = self.fitted(self.withdrawn(config))
         elif service == GET_SLOTS:
             data = self.fitted(number(2, self.pick(0, 0, 0, 1, 1, 2, 3, 4, 64, 256, 0xFFFF)))
         elif service == GET_LIST:
@@ -82,6 +84,15 @@ class Commands(Requests):
         if kind < 0.2:
             return self.listing(EMBEDDED_ROOM + self.pick(-1, 0, 1, 1, 2))
         return super().request(config)
+
+    def withdrawn(self, config):
+        """The data of Withdraw: an originator's last command, one before it, or one that it has not given."""
+        originator = self.pick(*ORIGINATORS)
+        last, embedded = self.last_commands.get(originator, (self.pick(0, 1, LAST), b""))
+        this = min(max(last + self.pick(0, 0, 0, 1, 1, -1, 2**16), 0), LAST)
+        if this > last and embedded:
+            self.last_commands[originator] = this, embedded
+        return number(8, self.life(config)) + number(8, originator) + number(4, this)
 
     def forgotten(self):
         """The data of Forget: mostly the last number of an originator."""

@@ -4,36 +4,43 @@ import struct
 from dataclasses import dataclass
 
 from reading.protocol import (
-    ATTRIBUTE, CONNECTION_MANAGER, DESTINATION, DO_ONCE, FORGET, GET, GET_LAST, GET_LIST, GET_SLOTS, LEDGER, LIST,
-    LONG, NOT_NEW, NO_SLOT, OTHER_LIFE, PRIVILEGE_VIOLATION, SERVICE, SHORT, TOO_LARGE, UNKNOWN_ORIGINATOR, Refusal, class_of,
-    is_change, number, request_of,
+    ATTRIBUTE, CONNECTION_MANAGER, DESTINATION, DO_ONCE, FORGET, GET, GET_LAST, GET_LIST, GET_SLOTS, IS_PENDING, LEDGER, LIST,
+    LONG, NOT_NEW, NO_SLOT, OTHER_LIFE, PRIVILEGE_VIOLATION, SERVICE, SHORT, TOO_LARGE, UNKNOWN_ORIGINATOR, WITHDRAW, Refusal,
+    class_of, is_change, number, request_of,
 )
 from reading.objects import Objects, listed
 from reading.packets import is_packet, requests_in
 
-# The general status 0, and the state of a command that is done.
-SUCCESS, DONE = 0, b"\0"
+# The general status 0, and the states of a command that is done and of one that was withdrawn.
+SUCCESS, DONE, WITHDRAWN = 0, b"\0", b"\3"
 # The reply limit of an embedded request, and the size of the longest reply to a new command.
 EMBEDDED_ROOM, LARGEST_REPLY = 480, 485
 
 
 @dataclass
 class Slot:
-    """The number of an originator's last command, and the reply to it."""
+    """The number of an originator's last command, its state, and the reply to it."""
 
     number: int
     reply: bytes
+    state: bytes = DONE
+
+    @property
+    def answer(self):
+        return self.state + self.reply
 
 
 class Ledger:
     """The command ledger of a configuration, in front of its objects. `slots` has the slot of each originator.
 
+    If it does not withdraw, as the device of a script does not, Withdraw answers by the slots alone.
+
     Each service is a list of rows. The first row that applies decides. A row has a name, whether it applies, the
     general status, and the data of the reply if there are any. A statement between two rows takes effect only if no row
     above it applies."""
 
-    def __init__(self, config, objects, reached):
-        self.count, self.life = config["originators"], config.get("life", 1)
+    def __init__(self, config, objects, reached, withdraws):
+        self.count, self.life, self.withdraws = config["originators"], config.get("life", 1), withdraws
         self.objects, self.slots, self.reached = objects, {}, reached
 
     def execute(self, request, room):
@@ -46,7 +53,7 @@ class Ledger:
     def rows(self, request, room):
         service, path, data = request_of(request)
         instance, attribute = path["instance"], path.get("attribute")
-        services = {0: [GET], 1: [GET_LIST, GET, DO_ONCE, GET_LAST, FORGET, GET_SLOTS]}.get(instance)
+        services = {0: [GET], 1: [GET_LIST, GET, DO_ONCE, GET_LAST, FORGET, WITHDRAW, GET_SLOTS]}.get(instance)
         yield "another instance", services is None, DESTINATION
         yield "another service", service not in services, SERVICE
         if service == GET:
@@ -54,7 +61,10 @@ class Ledger:
         elif service == GET_LIST:
             yield from self.list_rows(data, room)
         else:
-            rows = {DO_ONCE: self.do_once, GET_LAST: self.get_last, FORGET: self.forget, GET_SLOTS: self.get_slots}
+            rows = {
+                DO_ONCE: self.do_once, GET_LAST: self.get_last, FORGET: self.forget, WITHDRAW: self.withdraw,
+                GET_SLOTS: self.get_slots,
+            }
             yield from rows[service](data, room)
 
     def do_once(self, data, room):
@@ -65,8 +75,9 @@ class Ledger:
         yield "Do_Once: all slots are taken", slot is None and len(self.slots) == self.count, NO_SLOT
         yield "Do_Once: the slot has a greater number", slot and slot.number > command, NOT_NEW
         if slot and slot.number == command:
-            yield "Do_Once: the kept reply does not fit", 4 + len(DONE + slot.reply) > room, TOO_LARGE
-            yield "Do_Once: the kept reply", True, SUCCESS, DONE + slot.reply
+            yield "Do_Once: the command was withdrawn", slot.state == WITHDRAWN, SUCCESS, WITHDRAWN
+            yield "Do_Once: the kept reply does not fit", 4 + len(slot.answer) > room, TOO_LARGE
+            yield "Do_Once: the kept reply", True, SUCCESS, slot.answer
         yield "Do_Once: new, and the reply limit is under 485", room < LARGEST_REPLY, TOO_LARGE
         self.slots[originator] = Slot(command, self.embedded(data[20:]))
         yield "Do_Once: a new originator", slot is None, SUCCESS, DONE + self.slots[originator].reply
@@ -91,8 +102,9 @@ class Ledger:
         yield "Get_Last: too long", len(data) > 8, LONG
         slot = self.slots.get(int.from_bytes(data, "little"))
         yield "Get_Last: no slot", slot is None, UNKNOWN_ORIGINATOR
-        last = number(4, slot.number) + DONE + slot.reply
+        last = number(4, slot.number) + slot.answer
         yield "Get_Last: the reply does not fit", 4 + len(last) > room, TOO_LARGE
+        yield "Get_Last: a command that was withdrawn", slot.state == WITHDRAWN, SUCCESS, last
         yield "Get_Last", True, SUCCESS, last
 
     def forget(self, data, room):
@@ -106,11 +118,30 @@ class Ledger:
         del self.slots[originator]
         yield "Forget", True, SUCCESS
 
+    def withdraw(self, data, room):
+        """No command of this device is in doubt, and none is queued."""
+        yield "Withdraw: too short", len(data) < 20, SHORT
+        yield "Withdraw: too long", len(data) > 20, LONG
+        life, originator, command = struct.unpack("<QQI", data)
+        last = self.slots.get(originator)
+        yield "Withdraw: another life", self.life != life, OTHER_LIFE
+        yield "Withdraw: no slot, in a script", not last and not self.withdraws, NO_SLOT
+        yield "Withdraw: all slots are taken", not last and len(self.slots) >= self.count, NO_SLOT
+        yield "Withdraw: the slot has a greater number", last and command < last.number, NOT_NEW
+        if last and command == last.number:
+            yield "Withdraw: again", last.state == WITHDRAWN, SUCCESS, WITHDRAWN
+            yield "Withdraw: the kept reply does not fit", 4 + len(last.answer) > room, TOO_LARGE
+            yield "Withdraw: the command is done", True, SUCCESS, last.answer
+        yield "Withdraw: a greater number, in a script", not self.withdraws, IS_PENDING
+        self.slots[originator] = Slot(command, b"", WITHDRAWN)
+        yield "Withdraw: a new originator", last is None, SUCCESS, WITHDRAWN
+        yield "Withdraw: a greater number", True, SUCCESS, WITHDRAWN
+
     def get_slots(self, data, room):
         yield "Get_Slots: too short", len(data) < 2, SHORT
         yield "Get_Slots: too long", len(data) > 2, LONG
         first = int.from_bytes(data, "little")
-        left = [number(8, originator) + number(4, slot.number) + DONE for originator, slot in self.slots.items()][first:]
+        left = [number(8, originator) + number(4, slot.number) + slot.state for originator, slot in self.slots.items()][first:]
         fitting = left[: (room - 6) // 13]
         listed = number(2, len(self.slots)) + b"".join(fitting)
         yield "Get_Slots: past the last slot", not left, SUCCESS, listed
@@ -143,9 +174,9 @@ class Device:
     """The device of a configuration. If it has a command ledger, requests to the ledger's class go there. `reached`
     counts how often each row of the ledger applied."""
 
-    def __init__(self, config):
+    def __init__(self, config, withdraws=True):
         self.objects, self.reached = Objects(config), collections.Counter()
-        self.ledger = Ledger(config["ledger"], self.objects, self.reached) if config["ledger"] else None
+        self.ledger = Ledger(config["ledger"], self.objects, self.reached, withdraws) if config["ledger"] else None
 
     def execute(self, request, room):
         """The reply to a request, of at most `room` bytes."""

@@ -22,7 +22,7 @@ class NumberedWorld:
 
     def run(self, until=None):
         """The device after the log, and the reply to the request with the number `until`."""
-        device, reply = Device(self.config), None
+        device, reply = Device(self.config, withdraws=False), None
         for entry in self.log:
             own = isinstance(entry, int)
             request, room = (self.submits[entry], self.T_O_SIZE - 2) if own else (entry, ROOM)

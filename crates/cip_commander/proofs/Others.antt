@@ -128,7 +128,8 @@ module _ (slot : SlotState) (ledger : LedgerState) (max_size : ℕ) where
       (λ is. forget-same request.data (λ n. rw (instance_is, is) at freed n))
       (λ is. same_if own (request.service == 0x0e) _ _ _ _ (λ is. tt)
       (λ is. same_if own (request.service == 0x03) _ _ _ _ (λ is. tt)
-      (λ is. same_if own (request.service == services.GET_SLOTS) _ _ _ _ (λ is. tt) (λ is. tt))))))
+      (λ is. same_if own (request.service == services.GET_SLOTS) _ _ _ _ (λ is. tt)
+      (λ is. same_if own (request.service == services.WITHDRAW) _ _ _ _ (λ is. tt) (λ is. tt)))))))
 
   action-same : (request : LedgerRequest) →
       option_map (λ (c : Command). c.originator) (command_by (Some request)) ≢ Some own → ((n : ℕ) → forgotten_by (Some request) ≢ Some (own, n)) →

@@ -7,7 +7,10 @@ use Rattle.cip_ledger.specs.Requests.{Command}
 use Rattle.cip_ledger.specs.declared.service.TheConstants as services
 use Rattle.cip_commander.specs.declared.refusal.CommandRefused.{CommandRefused}
 use Rattle.cip_commander.specs.declared.refusal.CommandRefused.TheVariants as refusals
-use Rattle.cip_commander.specs.Outcome.{Outcome, Done, StillPending, InDoubt, Refused, Malformed, NotPending, outcome_of_text}
+use Rattle.cip_commander.specs.Outcome.{Outcome, Done, StillPending, InDoubt, Withdrawn, Refused, Malformed, NotPending}
+use Rattle.cip_commander.specs.Outcome.{outcome_of_text}
+use Rattle.cip_commander.specs.Withdrawing as withdrawing
+use Rattle.cip_commander.specs.Withdrawing.{Withdrawing, withdraw, withdrawing_of_text}
 
 -- the device's life that the commands are for, who gives them, the number that the last one took, and its embedded
 -- request while it is pending
@@ -103,14 +106,48 @@ outcome_of commander text = outcome_at commander.pending text
 abbrev pub abandoned : CommanderState → CommanderState
 abandoned commander = record commander { pending = None }
 
--- only a command that is done is not pending any more
+-- only a command that is done or was withdrawn is not pending any more
 abbrev pub after_outcome : CommanderState → Outcome → CommanderState
 after_outcome commander (Done reply) = abandoned commander
 after_outcome commander StillPending = commander
 after_outcome commander InDoubt = commander
+after_outcome commander Withdrawn = abandoned commander
 after_outcome commander (Refused status) = commander
 after_outcome commander Malformed = commander
 after_outcome commander NotPending = commander
 
 abbrev pub after_reply : CommanderState → List ℕ → CommanderState
 after_reply commander text = after_outcome commander (outcome_of commander text)
+
+-- ---- the pending command is withdrawn
+
+-- Withdraw of the last command
+abbrev pub withdrawal_message : CommanderState → List ℕ
+withdrawal_message commander = withdraw commander.life commander.originator commander.last_number
+
+-- Withdraw of the pending command, if one is pending
+abbrev pub pending_withdrawal : CommanderState → Option (List ℕ)
+pending_withdrawal commander = option_map (λ _. withdrawal_message commander) commander.pending
+
+abbrev pub withdrawing_at : Option (List ℕ) → List ℕ → Withdrawing
+withdrawing_at None text = withdrawing.NotPending
+withdrawing_at (Some request) text = withdrawing_of_text text
+
+-- what a reply to Withdraw says about the pending command
+abbrev pub withdrawing_of : CommanderState → List ℕ → Withdrawing
+withdrawing_of commander text = withdrawing_at commander.pending text
+
+-- only a command that was withdrawn or is done is not pending any more
+abbrev pub after_withdrawing : CommanderState → Withdrawing → CommanderState
+after_withdrawing commander withdrawing.Withdrawn = abandoned commander
+after_withdrawing commander withdrawing.HandedOver = commander
+after_withdrawing commander (withdrawing.Done reply) = abandoned commander
+after_withdrawing commander withdrawing.InDoubt = commander
+after_withdrawing commander withdrawing.Smaller = commander
+after_withdrawing commander withdrawing.OtherLife = commander
+after_withdrawing commander (withdrawing.Refused status) = commander
+after_withdrawing commander withdrawing.Malformed = commander
+after_withdrawing commander withdrawing.NotPending = commander
+
+abbrev pub after_withdrawal : CommanderState → List ℕ → CommanderState
+after_withdrawal commander text = after_withdrawing commander (withdrawing_of commander text)

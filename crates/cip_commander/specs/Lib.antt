@@ -4,4 +4,5 @@ pub mod Laws
 pub mod NumberedWorld
 pub mod Outcome
 pub mod Slots
+pub mod Withdrawing
 pub mod Worlds

@@ -37,11 +37,12 @@ content_of service (Ok a) =
     else Err (faults.Refused a.status (unwrap_or (slice_get a.additional 0) 0)))
     else Err faults.Malformed
 
--- by the state byte: 0 is done, 1 is pending, 2 is in doubt
+-- by the state byte: 0 is done, 1 is pending, 2 is in doubt, 3 is withdrawn
 abbrev pub state_of : ℕ → Option CommandState
 state_of state =
     if state == 0 then Some states.Done
-    else (if state == 1 then Some states.Pending else (if state == 2 then Some states.InDoubt else None))
+    else (if state == 1 then Some states.Pending
+    else (if state == 2 then Some states.InDoubt else (if state == 3 then Some states.Withdrawn else None)))
 
 -- the number and the state of a last command; the kept reply behind them is not looked at
 abbrev pub last_with : ℕ → Option CommandState → Result (ℕ × CommandState) SlotsFault

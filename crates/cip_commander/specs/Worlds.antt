@@ -90,6 +90,7 @@ abbrev pub accepted_by : ℕ → outcomes.Outcome → List (ℕ × List ℕ)
 accepted_by number (outcomes.Done reply) = (number, reply) ∷ []
 accepted_by number outcomes.StillPending = []
 accepted_by number outcomes.InDoubt = []
+accepted_by number outcomes.Withdrawn = []
 accepted_by number (outcomes.Refused status) = []
 accepted_by number outcomes.Malformed = []
 accepted_by number outcomes.NotPending = []

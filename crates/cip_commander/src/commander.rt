@@ -1,15 +1,17 @@
 //! The originator's side: one pending command, until a reply says that it is done.
 //! Text: docs/PROTOCOL.md, "The command ledger".
-ghost use Rattle.std.specs.Prelude.{◌≡◌, ◌≤◌, Some, None, IfOk, IfErr, IfSome, OnOk, length, is_some};
+ghost use Rattle.std.specs.Prelude.{◌≡◌, ◌≤◌, Some, None, IfOk, IfErr, IfSome, OnOk, length, is_some, option_map};
 ghost use Rattle.std.specs.Option.{option_copied};
 ghost use Rattle.std.specs.Borrow.{sem};
 ghost use Rattle.std.specs.Io.BufRead.{Rests};
 ghost use Rattle.cip_bytes.specs.declared.protocol.TheConstants.{UNCONNECTED_LIMIT};
 ghost use Rattle.cip_commander.specs.Outcome.{outcome_in};
+ghost use Rattle.cip_commander.specs.Withdrawing.{withdrawing_in};
 ghost use Rattle.cip_commander.specs.CommanderRule.{embedded_refusal, do_once};
 
 use crate::outcome::{CommandOutcome, read_outcome};
 use crate::refusal::{CommandRefused, FRONT_SIZE, LONGEST_EMBEDDED};
+use crate::withdrawal::{WithdrawRequest, WithdrawalOutcome, read_withdrawal, withdraw_request};
 use arrayvec::ArrayVec;
 use cip_bytes::protocol::{SMALLEST_REQUEST, UNCONNECTED_LIMIT};
 use cip_bytes::{append, append_u32};
@@ -46,7 +48,7 @@ impl Model for Commander {
 impl Commander {
     ghost use Rattle.cip_commander.specs.CommanderRule.{commander_at, command_refusal, with_command, pending_message};
     ghost use Rattle.cip_commander.specs.CommanderRule.{message_of, outcome_of, after_reply, abandoned, resume_refusal};
-    ghost use Rattle.cip_commander.specs.CommanderRule.{IsInRange};
+    ghost use Rattle.cip_commander.specs.CommanderRule.{IsInRange, pending_withdrawal, withdrawing_of, after_withdrawal};
     ghost use Rattle.cip_commander.specs.contracts.commander.Commander.{the_row};
 
     /// A commander without a pending command, whose last command had this number.
@@ -140,8 +142,8 @@ impl Commander {
 
     /// Takes a reply to the pending request.
     ///
-    /// Only `Done` ends the command. After every other outcome the command is pending as before, and can be sent again. A
-    /// command in doubt is answered as such until the device's owner settles it, and as done from then on.
+    /// Only `Done` and `Withdrawn` end the command. After every other outcome the command is pending as before, and can be
+    /// sent again. A command in doubt is answered as such until the device's owner settles it, and as done from then on.
     pub fn receive<'a>(&mut self, reply: &'a [u8]) -> CommandOutcome<'a>
         ensures outcome { outcome_in result ≡ outcome_of self.old reply.now }
         ensures state { self.new ≡ after_reply self.old reply.now }
@@ -150,7 +152,35 @@ impl Commander {
             return CommandOutcome::NotPending;
         }
         let outcome = read_outcome(reply);
-        if let CommandOutcome::Done(_) = outcome {
+        if let CommandOutcome::Done(_) | CommandOutcome::Withdrawn = outcome {
+            self.is_pending = false;
+        }
+        outcome
+    }
+
+    /// Withdraw of the pending command: the request to send, and the same bytes each time. `None` if none is pending.
+    pub fn withdrawal(&self) -> Option<WithdrawRequest>
+        ensures { option_map (λ request. request.items) result ≡ pending_withdrawal self.now }
+    {
+        if !self.is_pending {
+            return None;
+        }
+        Some(withdraw_request(self.life, self.originator, self.last_number))
+    }
+
+    /// Takes a reply to Withdraw of the pending command.
+    ///
+    /// Only `Withdrawn` and `Done` end the command. After every other outcome it is pending as before, and can be sent
+    /// or withdrawn again.
+    pub fn receive_withdrawal<'a>(&mut self, reply: &'a [u8]) -> WithdrawalOutcome<'a>
+        ensures outcome { withdrawing_in result ≡ withdrawing_of self.old reply.now }
+        ensures state { self.new ≡ after_withdrawal self.old reply.now }
+    {
+        if !self.is_pending {
+            return WithdrawalOutcome::NotPending;
+        }
+        let outcome = read_withdrawal(reply);
+        if let WithdrawalOutcome::Withdrawn | WithdrawalOutcome::Done(_) = outcome {
             self.is_pending = false;
         }
         outcome

@@ -1,8 +1,8 @@
 //! The originator's side of commands that are executed once, even if connections are lost and opened anew.
 //!
 //! A [`Commander`] has at most one pending command. It lends the request to send, and the same bytes again after a new
-//! connection, until a reply says that the command is done, or the command is abandoned. [`laws`] states what follows
-//! for both ends: a commander, and a device with a ledger.
+//! connection, until a reply says that the command is done, or the command is withdrawn or abandoned. [`laws`] states
+//! what follows for both ends: a commander, and a device with a ledger.
 //!
 //! No call takes memory. Bytes come in and go out as slices: this crate has no sockets, no files and no clock.
 //!
@@ -20,6 +20,7 @@ pub mod laws;
 mod outcome;
 mod refusal;
 mod slots;
+mod withdrawal;
 
 pub use commander::Commander;
 pub use outcome::CommandOutcome;
@@ -27,4 +28,7 @@ pub use refusal::{CommandRefused, LONGEST_EMBEDDED};
 pub use slots::{
     COUNTS_REQUEST, CommandState, LedgerSlot, SLOT_REQUEST_SIZE, SlotList, SlotRequest, SlotsFault,
     forget_request, last_request, read_counts, read_forgotten, read_last, slots_request,
+};
+pub use withdrawal::{
+    WITHDRAW_REQUEST_SIZE, WithdrawRequest, WithdrawalOutcome, read_withdrawal, withdraw_request,
 };

@@ -15,6 +15,8 @@ pub enum CommandOutcome<'a> {
     /// The device does not know whether the command was executed, and will not execute it. Its owner has to settle the
     /// command. It is still pending.
     InDoubt,
+    /// The command was withdrawn: it was not executed, and never will be. Nothing is pending any more.
+    Withdrawn,
     /// The device refused the command with this general status. The command is still pending.
     Refused(u8),
     /// Not a reply to Do_Once. Nothing has changed.
@@ -24,13 +26,16 @@ pub enum CommandOutcome<'a> {
 }
 
 /// The state byte of a command that is done.
-const DONE: u8 = 0;
+pub(crate) const DONE: u8 = 0;
 
 /// The state byte of a command that the device has taken and not executed yet.
-const TAKEN: u8 = 1;
+pub(crate) const TAKEN: u8 = 1;
 
 /// The state byte of a command of which the device does not know whether it was executed.
-const IN_DOUBT: u8 = 2;
+pub(crate) const IN_DOUBT: u8 = 2;
+
+/// The state byte of a command that was withdrawn.
+pub(crate) const WITHDRAWN: u8 = 3;
 
 /// What a text says about a pending command.
 #[tactic(auto, unfolding(crate::specs::Outcome::outcome_of_text))]
@@ -58,6 +63,7 @@ fn outcome_by_state(data: &[u8]) -> CommandOutcome<'_>
         [DONE, reply @ ..] => CommandOutcome::Done(reply),
         [TAKEN, ..] => CommandOutcome::StillPending,
         [IN_DOUBT, ..] => CommandOutcome::InDoubt,
+        [WITHDRAWN, ..] => CommandOutcome::Withdrawn,
         _ => CommandOutcome::Malformed,
     }
 }

@@ -43,6 +43,8 @@ pub enum CommandState {
     Pending,
     /// The device does not know whether it was executed.
     InDoubt,
+    /// It was withdrawn, and is never executed.
+    Withdrawn,
 }
 
 /// A slot of a ledger: whose it is, and the number and the state of the last command.
@@ -131,6 +133,7 @@ fn state_of(state: u8) -> Option<CommandState>
         0 => Some(CommandState::Done),
         1 => Some(CommandState::Pending),
         2 => Some(CommandState::InDoubt),
+        3 => Some(CommandState::Withdrawn),
         _ => None,
     }
 }

@@ -17,7 +17,7 @@ use Rattle.cip_ledger.specs.Requests as requests
 use Rattle.cip_ledger.specs.Runs.{Request}
 use Rattle.cip_bytes.specs.Numbers.{number_at}
 use Rattle.cip_ledger.specs.Standings.{embedded_standing, by_standing, at_router}
-use Rattle.cip_ledger.specs.Services.{Action, Replies, Executes, Queues, Frees, Answer, HEAD_SIZE, KEPT_LIMIT, do_new, do_greater, do_by_slot, do_command, do_once, forget, forget_in, get_last, get_slots, size_fault, unless, refuses, refusal, success, within, last_content, instance_action, action_of, class_answer, single, value_named, ledger_values, get_attribute_list}
+use Rattle.cip_ledger.specs.Services.{Action, Replies, Executes, Queues, Frees, Answer, HEAD_SIZE, KEPT_LIMIT, do_new, do_greater, do_by_slot, do_command, do_once, forget, forget_in, get_last, get_slots, withdraw, size_fault, unless, refuses, refusal, success, within, last_content, instance_action, action_of, class_answer, single, value_named, ledger_values, get_attribute_list}
 use Rattle.cip_ledger.specs.Slots.{IsAt, IsMissing}
 use Rattle.cip_ledger.specs.Turn.{fate_of}
 use Rattle.cip_ledger.proofs.SlotLemmas.{slot_of-with_slot}
@@ -174,8 +174,14 @@ module _ (ledger : LedgerState) (max_size : ℕ) (request : LedgerRequest) where
   abbrev slots : Answer
   slots = get_slots ledger max_size request.data
 
+  abbrev withdrawn : Answer
+  withdrawn = withdraw ledger max_size request.data
+
+  abbrev after_withdraw : Action
+  after_withdraw = if request.service == services.WITHDRAW then Replies withdrawn else refuses statuses.ServiceNotSupported
+
   abbrev after_slots : Action
-  after_slots = if request.service == services.GET_SLOTS then Replies slots else refuses statuses.ServiceNotSupported
+  after_slots = if request.service == services.GET_SLOTS then Replies slots else after_withdraw
 
   abbrev after_list : Action
   after_list = if request.service == services.GET_ATTRIBUTE_LIST then Replies list else after_slots
@@ -201,8 +207,9 @@ module _ (ledger : LedgerState) (max_size : ℕ) (request : LedgerRequest) where
       (by_forgetting ledger request.data)
       (replied_or ledger (request.service == services.GET_ATTRIBUTE_SINGLE) one after_list
       (replied_or ledger (request.service == services.GET_ATTRIBUTE_LIST) list after_slots
-      (replied_or ledger (request.service == services.GET_SLOTS) slots (refuses statuses.ServiceNotSupported)
-      (by_reply ledger (refusal statuses.ServiceNotSupported)))))))
+      (replied_or ledger (request.service == services.GET_SLOTS) slots after_withdraw
+      (replied_or ledger (request.service == services.WITHDRAW) withdrawn (refuses statuses.ServiceNotSupported)
+      (by_reply ledger (refusal statuses.ServiceNotSupported))))))))
 
   abbrev by_class : Answer
   by_class = class_answer max_size request

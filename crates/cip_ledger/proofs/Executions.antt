@@ -49,10 +49,12 @@ done-right (Freed freed ∷ events) later originator number reply is = done-righ
 
 -- ---- what is kept is of an execution
 
--- A command that is done has the reply of its execution, one that is pending was executed, and none of them is in doubt.
+-- A command that is done has the reply of its execution, one that is pending was executed, and none of them is in doubt or
+-- withdrawn.
 -- One is pending only if the router may queue commands.
 abbrev IsDoneBy : Bool → ℕ → ℕ → Option (List ℕ) → Option ℕ → List Event → Type 0
-IsDoneBy queues originator number (Some reply) ticket past = IsDone originator number reply past
+IsDoneBy queues originator number (Some reply) None past = IsDone originator number reply past
+IsDoneBy queues originator number (Some reply) (Some ticket) past = ⊥
 IsDoneBy queues originator number None (Some ticket) past =
     (queues ≡ true) × (reply : List ℕ) × IsDone originator number reply past
 IsDoneBy queues originator number None None past = ⊥
@@ -67,7 +69,8 @@ Covered queues past ledger = (originator : ℕ) (slot : SlotState) → slot_in o
 with-left : (queues : Bool) (events later : List Event) (originator number : ℕ) (kept : Option (List ℕ)) (ticket : Option ℕ) →
     IsDoneBy queues originator number kept ticket events → IsNotFreed originator later →
     IsDoneBy queues originator number kept ticket (events ++ later)
-with-left queues events later originator number (Some reply) ticket is kept = done-left events later originator number reply is kept
+with-left queues events later originator number (Some reply) None is kept = done-left events later originator number reply is kept
+with-left queues events later originator number (Some reply) (Some ticket) is kept = absurd is
 with-left queues events later originator number None (Some ticket) is kept =
     (is.0, is.1, done-left events later originator number is.1 is.2 kept)
 with-left queues events later originator number None None is kept = absurd is
@@ -79,7 +82,8 @@ IsContentOf queues reply content = (content ≡ DONE ∷ reply) ⊎ ((content �
 done-kept : (queues : Bool) (originator number : ℕ) (kept : Option (List ℕ)) (ticket : Option ℕ) (past : List Event) →
     IsDoneBy queues originator number kept ticket past →
     (reply : List ℕ) × IsContentOf queues reply (state_content kept ticket) × IsDone originator number reply past
-done-kept queues originator number (Some reply) ticket past is = (reply, inl refl, is)
+done-kept queues originator number (Some reply) None past is = (reply, inl refl, is)
+done-kept queues originator number (Some reply) (Some ticket) past is = absurd is
 done-kept queues originator number None (Some ticket) past is = (is.1, inr (refl, is.0), is.2)
 done-kept queues originator number None None past is = absurd is
 

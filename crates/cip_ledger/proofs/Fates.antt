@@ -13,7 +13,7 @@ use Rattle.cip_ledger.specs.Ledger.{LedgerState, SlotState, slot_of, is_pending}
 use Rattle.cip_ledger.specs.Requests.{LedgerRequest, Command, command_of, ledger_request}
 use Rattle.cip_ledger.specs.Standings.{embedded_standing, by_standing, at_router}
 use Rattle.cip_ledger.specs.SlotList.{slot_list}
-use Rattle.cip_ledger.specs.Services.{Answer, Action, Replies, Executes, Queues, Frees, refusal, refuses, success, within, size_fault, unless, last_content, KEPT_LIMIT, HEAD_SIZE, do_once, do_command, do_by_slot, do_greater, do_new, get_last, last_in, forget, forget_in, get_slots, single, value_named, class_answer, class_values, get_attribute_list, list_answer, ledger_values, instance_action, action_of}
+use Rattle.cip_ledger.specs.Services.{Answer, Action, Replies, Executes, Queues, Frees, refusal, refuses, success, within, size_fault, unless, last_content, KEPT_LIMIT, HEAD_SIZE, do_once, do_command, do_by_slot, do_greater, do_new, get_last, last_in, forget, forget_in, get_slots, withdraw, withdraw_of, withdraw_in, single, value_named, class_answer, class_values, get_attribute_list, list_answer, ledger_values, instance_action, action_of}
 use Rattle.cip_ledger.specs.Turn.{Fate, Passed, Served, fate, fate_of}
 use Rattle.cip_ledger.specs.Runs.{Request, command_by, command_in_data, command_given, forgotten_by, forgotten_in_data, forgotten}
 
@@ -179,7 +179,7 @@ module _ (ledger : LedgerState) (max_size : ℕ) (bytes : List ℕ) (named : Opt
   once_means true h = refused_of ledger max_size None named statuses.NotEnoughData (λ e. absurd (omega (arith, e))) (λ e. absurd (omega (arith, e)))
   once_means false h = life_means ((command_of bytes).life == ledger.life) (ltb-false (length bytes) 22 h) refl
 
--- ---- Get_Last, the attributes and Get_Slots only reply
+-- ---- Get_Last, the attributes, Get_Slots and Withdraw only reply
 
 unless_fits : (max_size : ℕ) (fault : Option Status) (answer : Answer) → 8 ≤ max_size →
     HEAD_SIZE + length answer.content ≤ max_size → HEAD_SIZE + length (unless fault refusal answer).content ≤ max_size
@@ -209,6 +209,27 @@ slots-fit : (ledger : LedgerState) (max_size : ℕ) (bytes : List ℕ) → 8 ≤
 slots-fit ledger max_size bytes least =
     let answer = success (slot_list (max_size - HEAD_SIZE) (number_at 0 2 bytes) ledger.taken) in
     unless_fits max_size (size_fault 2 bytes) (within max_size answer) least (within-fits max_size answer least)
+
+withdraw_in-fits : (max_size number : ℕ) (found : Option SlotState) → 8 ≤ max_size →
+    HEAD_SIZE + length (withdraw_in max_size number found).content ≤ max_size
+withdraw_in-fits max_size number None least = omega (arith, least)
+withdraw_in-fits max_size number (Some slot) least = go (nat_lt number slot.number) (number == slot.number)
+  where
+    go : (less same : Bool) → HEAD_SIZE + length (if less then refusal statuses.ObjectStateConflict
+        else (if same then within max_size (success (last_content slot)) else refusal statuses.CommandPending)).content ≤ max_size
+    go true same = omega (arith, least)
+    go false true = within-fits max_size (success (last_content slot)) least
+    go false false = omega (arith, least)
+
+withdraw-fits : (ledger : LedgerState) (max_size : ℕ) (bytes : List ℕ) → 8 ≤ max_size →
+    HEAD_SIZE + length (withdraw ledger max_size bytes).content ≤ max_size
+withdraw-fits ledger max_size bytes least =
+    unless_fits max_size (size_fault 20 bytes) (withdraw_of ledger max_size bytes) least (by_life (number_at 0 8 bytes == ledger.life))
+  where
+    by_life : (own : Bool) → HEAD_SIZE + length (if not own then refusal statuses.DeviceStateConflict
+        else withdraw_in max_size (number_at 16 4 bytes) (slot_of (number_at 8 8 bytes) ledger.taken)).content ≤ max_size
+    by_life true = withdraw_in-fits max_size (number_at 16 4 bytes) (slot_of (number_at 8 8 bytes) ledger.taken) least
+    by_life false = omega (arith, least)
 
 -- ---- Forget
 
@@ -257,7 +278,7 @@ module _ (ledger : LedgerState) (max_size : ℕ) (request : LedgerRequest) where
   only_replies true forgets answer e fits = absurd (cc)
   only_replies false forgets answer e fits = no_command_of ledger max_size None (if forgets then forgotten_in_data request.data else None) answer refl fits
 
-  service_means : (once last forgets get list slots : Bool) → (request.service == services.DO_ONCE) ≡ once → (request.service == services.FORGET) ≡ forgets →
+  service_means : (once last forgets get list slots withdraws : Bool) → (request.service == services.DO_ONCE) ≡ once → (request.service == services.FORGET) ≡ forgets →
       MeansAction ledger max_size (if once then command_in_data request.data else None)
       (if forgets then forgotten_in_data request.data else None)
       (if once then do_once ledger max_size request.data
@@ -266,25 +287,29 @@ module _ (ledger : LedgerState) (max_size : ℕ) (request : LedgerRequest) where
       else (if get then Replies (single max_size request.data (value_named (ledger_values ledger) request.attribute))
       else (if list then Replies (get_attribute_list (ledger_values ledger) max_size request.data)
       else (if slots then Replies (get_slots ledger max_size request.data)
-      else refuses statuses.ServiceNotSupported))))))
-  service_means true last forgets get list slots h i =
+      else (if withdraws then Replies (withdraw ledger max_size request.data)
+      else refuses statuses.ServiceNotSupported)))))))
+  service_means true last forgets get list slots withdraws h i =
       once_means ledger max_size request.data (if forgets then forgotten_in_data request.data else None) (nat_lt (length request.data) 22) refl
-  service_means false true forgets get list slots h i =
+  service_means false true forgets get list slots withdraws h i =
       only_replies false forgets (get_last ledger max_size request.data) refl
       (λ least. unless_fits max_size (size_fault 8 request.data) (last_in max_size (slot_of (number_at 0 8 request.data) ledger.taken)) least
       (last-fits max_size (slot_of (number_at 0 8 request.data) ledger.taken) least))
-  service_means false false true get list slots h i =
+  service_means false false true get list slots withdraws h i =
       forget_means ledger max_size request.data (nat_lt (length request.data) 12) (nat_lt 12 (length request.data)) refl refl
-  service_means false false false true list slots h i =
+  service_means false false false true list slots withdraws h i =
       only_replies false false (single max_size request.data (value_named (ledger_values ledger) request.attribute)) refl
       (λ least. single-fits max_size request.data (value_named (ledger_values ledger) request.attribute) least)
-  service_means false false false false true slots h i =
+  service_means false false false false true slots withdraws h i =
       only_replies false false (get_attribute_list (ledger_values ledger) max_size request.data) refl
       (λ least. list-fits ledger max_size request.data (nat_lt (length request.data) 2) least)
-  service_means false false false false false true h i =
+  service_means false false false false false true withdraws h i =
       only_replies false false (get_slots ledger max_size request.data) refl
       (λ least. slots-fit ledger max_size request.data least)
-  service_means false false false false false false h i =
+  service_means false false false false false false true h i =
+      only_replies false false (withdraw ledger max_size request.data) refl
+      (λ least. withdraw-fits ledger max_size request.data least)
+  service_means false false false false false false false h i =
       refused_of ledger max_size None None statuses.ServiceNotSupported (λ e. absurd (omega (arith, e))) (λ e. absurd (omega (arith, e)))
 
   class-fits : (get : Bool) → 8 ≤ max_size →
@@ -307,7 +332,7 @@ module _ (ledger : LedgerState) (max_size : ℕ) (request : LedgerRequest) where
   instance_means false true h i =
       service_means (request.service == services.DO_ONCE) (request.service == services.GET_LAST) (request.service == services.FORGET)
       (request.service == services.GET_ATTRIBUTE_SINGLE) (request.service == services.GET_ATTRIBUTE_LIST)
-      (request.service == services.GET_SLOTS) refl refl
+      (request.service == services.GET_SLOTS) (request.service == services.WITHDRAW) refl refl
   instance_means false false h i =
       refused_of ledger max_size None None statuses.PathDestinationUnknown (λ e. absurd (omega (arith, e))) (λ e. absurd (omega (arith, e)))
 

@@ -5,7 +5,7 @@ use Rattle.std.proofs.lemmas.Bool.Decides.{nat_tests}
 use Rattle.std.proofs.lemmas.List.{length-append, append-nil}
 use Rattle.cip_ledger.specs.Kept.{restored, restored_all, IsLedger, restored_law}
 use Rattle.cip_ledger.specs.Slots.{IsFound, IsMissing}
-use Rattle.cip_ledger.specs.Ledger.{SlotState, LedgerState, slot_of, kept_bytes, has_both, with_slot, without_slot, AreApart, IsSlot, AreSlots}
+use Rattle.cip_ledger.specs.Ledger.{SlotState, LedgerState, slot_of, kept_bytes, are_apt, with_slot, without_slot, AreApart, IsSlot, AreSlots}
 use Rattle.cip_ledger.proofs.SlotLemmas.{slot_of-with_other, slot_of-without_other}
 
 -- slots stay apart and short
@@ -80,9 +80,9 @@ room front rest slot slots h = omega (arith, length-append front (slot ∷ rest)
 abbrev state : ℕ → ℕ → List SlotState → LedgerState
 state slots life taken = record { slots = slots; life = life; taken = taken }
 
-all_hold : (free none fits both : Bool) (ledger : LedgerState) → free ≡ true → none ≡ false → fits ≡ true → both ≡ false
-    → ◌≡◌ {A = Option LedgerState} (if free && not none && fits && not both then Some ledger else None) (Some ledger)
-all_hold free none fits both ledger e f g h = rw (e, f, g, h) refl
+all_hold : (free none fits apt : Bool) (ledger : LedgerState) → free ≡ true → none ≡ false → fits ≡ true → apt ≡ true
+    → ◌≡◌ {A = Option LedgerState} (if free && not none && fits && apt then Some ledger else None) (Some ledger)
+all_hold free none fits apt ledger e f g h = rw (e, f, g, h) refl
 
 below : (a b : ℕ) → a < b → nat_lt a b ≡ true
 below a b h = grind (arith, nat_tests)
@@ -95,7 +95,7 @@ pub next_restored : (slots life : ℕ) (front rest : List SlotState) (slot : Slo
     → restored slot (state slots life front) ≡ Some (state slots life (front ++ slot ∷ []))
 next_restored slots life front rest slot is =
     all_hold (nat_lt (length front) slots) (is_some (slot_of slot.originator front)) (nat_le (length (kept_bytes slot)) 480)
-    (has_both slot) (state slots life (front ++ slot ∷ []))
+    (are_apt slot.reply slot.ticket) (state slots life (front ++ slot ∷ []))
     (below (length front) slots (room front rest slot slots is.within))
     (ap is_some (none_in_front front rest slot is.apart))
     (at_most (length (kept_bytes slot)) 480 (slot_behind front rest slot is.sized).short)
@@ -119,14 +119,14 @@ found_slot taken originator None f e = absurd (cc)
 found_slot taken originator (Some index) f e = ap is_some (f.is (record { originator = 0; number = 0; reply = None; ticket = None }))
 
 none_if : (a n b d : Bool) (ledger : LedgerState) → n ≡ true
-    → ◌≡◌ {A = Option LedgerState} (if a && not n && b && not d then Some ledger else None) None
+    → ◌≡◌ {A = Option LedgerState} (if a && not n && b && d then Some ledger else None) None
 none_if true n b d ledger e = rw e refl
 none_if false n b d ledger e = refl
 
 pub taken_slot_refused : (slot : SlotState) (ledger : LedgerState) (index : Option ℕ) → IsFound ledger.taken slot.originator index → is_some index ≡ true → restored slot ledger ≡ None
 taken_slot_refused slot ledger index f e =
     none_if (nat_lt (length ledger.taken) ledger.slots) (is_some (slot_of slot.originator ledger.taken))
-    (nat_le (length (kept_bytes slot)) 480) (has_both slot) (record ledger { taken = ledger.taken ++ slot ∷ [] })
+    (nat_le (length (kept_bytes slot)) 480) (are_apt slot.reply slot.ticket) (record ledger { taken = ledger.taken ++ slot ∷ [] })
     (found_slot ledger.taken slot.originator index f e)
 
 -- a new slot behind the others

@@ -8,6 +8,7 @@ pub mod Finals
 pub mod Answered
 pub mod Executions
 pub mod Doubts
+pub mod Withdrawals
 pub mod Pendings
 pub mod OnePending
 pub mod Lives
@@ -15,6 +16,7 @@ pub mod Forms
 pub mod Words
 pub mod Turns
 pub mod Devices
+pub mod WithdrawnAnswers
 pub mod ReachingLemmas
 pub mod ExecutingLemmas
 pub mod SlotListLemmas

@@ -9,7 +9,7 @@ use Rattle.cip_ledger.specs.declared.target.Standing.{Standing}
 use Rattle.cip_ledger.specs.Doubt.{is_doubtful, is_in_doubt_at, is_in_doubt, is_kept_reply, can_settle, with_last, settled}
 use Rattle.cip_ledger.specs.Ledger.{LedgerState, SlotState, slot_of, with_slot, is_pending}
 use Rattle.cip_ledger.specs.Pending.{is_pending_at, any_pending, completed_slot, done_with, with_completed, completed}
-use Rattle.cip_ledger.specs.PendingLaws.{IsPending, Step, Asks, Completes, Changes, completed_if, result_in, node_step, node_after_steps}
+use Rattle.cip_ledger.specs.PendingLaws.{IsPending, Step, Asks, Completes, Changes, Withdraws, completed_if, result_in, IsNotWithdrawn, node_step, node_after_steps}
 use Rattle.cip_ledger.specs.Requests.{LedgerRequest, Command, ledger_request}
 use Rattle.cip_ledger.specs.Runs.{Request, slot_in, command_by, command_given, turn_at, Event, Executed, events_by, journal}
 use Rattle.cip_ledger.specs.Standings.{at_router}
@@ -21,6 +21,7 @@ use Rattle.cip_ledger.proofs.Fates.{HasEnded, Means, fate-means}
 use Rattle.cip_ledger.proofs.Pendings.{pending-is, slot_of-after}
 use Rattle.cip_ledger.proofs.SlotLemmas.{slot_of-with_slot, slot_of-with_other}
 use Rattle.cip_ledger.proofs.Settled.{next_by, taken-other, freed-other}
+use Rattle.cip_ledger.proofs.Withdrawals.{withdrawn-keeps}
 
 -- ---- a slot whose command is pending
 
@@ -262,26 +263,30 @@ module _ {M : Type 0} (after : M → ℕ → List ℕ → M) (answer : M → ℕ
 
   step-keeps : (step : Step M) (steps : List (Step M)) (node : LedgerRouter M) (originator ticket : ℕ) (slot : SlotState) →
       slot_in originator node.ledger ≡ Some slot → slot.reply ≡ None → slot.ticket ≡ Some ticket →
-      result_in ticket (step ∷ steps) ≡ None →
+      result_in ticket (step ∷ steps) ≡ None → IsNotWithdrawn originator slot.number (step ∷ steps) →
       (slot_in originator (node_step after answer standing node step).ledger ≡ Some slot) × (result_in ticket steps ≡ None)
-  step-keeps (Asks request) steps node originator ticket slot found none own later = (
+      × IsNotWithdrawn originator slot.number steps
+  step-keeps (Asks request) steps node originator ticket slot found none own later kept = (
     stays-by after answer (fate standing node.ledger node.router request.0 request.1) node request originator slot
         (fate-means standing node.ledger node.router request) found (waiting slot ticket none own),
     later,
+    kept,
   )
-  step-keeps (Changes router) steps node originator ticket slot found none own later = (found, later)
-  step-keeps (Completes other given router) steps node originator ticket slot found none own later =
+  step-keeps (Changes router) steps node originator ticket slot found none own later kept = (found, later, kept)
+  step-keeps (Withdraws by number router) steps node originator ticket slot found none own later kept =
+      (withdrawn-keeps node.ledger by number originator slot found (waiting slot ticket none own) kept.0, later, kept.1)
+  step-keeps (Completes other given router) steps node originator ticket slot found none own later kept =
       let parts = not_own slot ticket given (is_kept_reply given) (ticket == other) (result_in ticket steps) later in
       let same : completed_if other given slot ≡ slot
       = ap (λ pending. if is_kept_reply given then (if pending then done_with given slot else slot) else slot)
       (pending-is slot ticket other none own) ∙ parts.0 in
-      (completed_found node.ledger other given originator slot found ∙ ap (λ s. Some s) same, parts.1)
+      (completed_found node.ledger other given originator slot found ∙ ap (λ s. Some s) same, parts.1, kept)
 
   pub keeps-slot : (node : LedgerRouter M) (steps : List (Step M)) (originator ticket : ℕ) (slot : SlotState) →
       slot_in originator node.ledger ≡ Some slot → slot.reply ≡ None → slot.ticket ≡ Some ticket →
-      result_in ticket steps ≡ None →
+      result_in ticket steps ≡ None → IsNotWithdrawn originator slot.number steps →
       slot_in originator (node_after_steps after answer standing node steps).ledger ≡ Some slot
-  keeps-slot node [] originator ticket slot found none own later = found
-  keeps-slot node (step ∷ steps) originator ticket slot found none own later =
-      let parts = step-keeps step steps node originator ticket slot found none own later in
-      keeps-slot (node_step after answer standing node step) steps originator ticket slot parts.0 none own parts.1
+  keeps-slot node [] originator ticket slot found none own later kept = found
+  keeps-slot node (step ∷ steps) originator ticket slot found none own later kept =
+      let parts = step-keeps step steps node originator ticket slot found none own later kept in
+      keeps-slot (node_step after answer standing node step) steps originator ticket slot parts.0 none own parts.1 parts.2

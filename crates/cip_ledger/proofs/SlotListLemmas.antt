@@ -15,7 +15,8 @@ state_first slot state kept e = go slot.reply slot.ticket e
   where
     go : (reply : Option (List ℕ)) (ticket : Option ℕ)
         → state ∷ kept ≡ state_content reply ticket → state ≡ state_byte reply ticket
-    go (Some reply) ticket e = cc
+    go (Some reply) None e = cc
+    go (Some reply) (Some ticket) e = cc
     go None (Some ticket) e = cc
     go None None e = cc
 

@@ -3,7 +3,7 @@ use Rattle.std.specs.Prelude.{◌≡◌, ℕ, ◌≤◌, ◌<◌, ◌^◌, nat_l
 use Rattle.std.specs.Prelude.{unwrap_or, List, [], ◌∷◌, ◌++◌, length}
 use Rattle.std.specs.Option.{option_copied}
 use Rattle.cip_ledger.specs.declared.ledger.KeptCommand.{KeptCommand}
-use Rattle.cip_ledger.specs.Ledger.{SlotState, LedgerState, slot_of, kept_bytes, has_both, empty_ledger, AreApart}
+use Rattle.cip_ledger.specs.Ledger.{SlotState, LedgerState, slot_of, kept_bytes, are_apt, empty_ledger, AreApart}
 use Rattle.cip_ledger.specs.Ledger.{AreSlots}
 use Rattle.cip_ledger.specs.Services.{KEPT_LIMIT}
 
@@ -19,12 +19,12 @@ kept_in kept = record {
 abbrev pub with_life : ℕ → LedgerState → LedgerState
 with_life life ledger = record ledger { life = life }
 
--- a last command can be put back: a slot is free, its originator has none, its reply is not too long, and it is not
--- both done and pending
+-- a last command can be put back: a slot is free, its originator has none, its reply is not too long, and with a reply
+-- and a ticket it is one that was withdrawn
 abbrev pub can_restore : SlotState → LedgerState → Bool
 can_restore slot ledger =
     nat_lt (length ledger.taken) ledger.slots && not (is_some (slot_of slot.originator ledger.taken))
-    && nat_le (length (kept_bytes slot)) KEPT_LIMIT && not (has_both slot)
+    && nat_le (length (kept_bytes slot)) KEPT_LIMIT && are_apt slot.reply slot.ticket
 
 -- the ledger once this last command has a free slot, if it can be put back
 abbrev pub restored : SlotState → LedgerState → Option LedgerState

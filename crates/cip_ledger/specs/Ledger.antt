@@ -1,9 +1,10 @@
 -- The command ledger's state: for each originator the greatest number that was executed or is in doubt, and its reply.
-use Rattle.std.specs.Prelude.{◌≡◌, ℕ, ◌≤◌, ◌<◌, ◌^◌, ◌==◌, ◌&&◌, Bool, false, is_some, if◌then◌else◌, Option, None}
+use Rattle.std.specs.Prelude.{◌≡◌, ℕ, ◌≤◌, ◌<◌, ◌^◌, ◌==◌, ◌&&◌, Bool, true, is_some, if◌then◌else◌, Option, Some, None}
 use Rattle.std.specs.Prelude.{List, [], ◌∷◌, find, filter, not, length, unwrap_or}
 
 -- An originator's slot: the last of its commands, and the reply to it. Without a reply the command is pending if it has
--- a ticket: it is in the queue of the router. Else it is in doubt: the device does not know whether it was executed.
+-- a ticket: it is in the queue of the router. Else it is in doubt: the device does not know whether it was executed. With
+-- both it was withdrawn: it is never executed.
 pub record SlotState : Type 0 where
   pub originator : ℕ
   pub number : ℕ
@@ -37,9 +38,20 @@ is_pending slot = not (is_some slot.reply) && is_some slot.ticket
 abbrev pub kept_bytes : SlotState → List ℕ
 kept_bytes slot = unwrap_or slot.reply []
 
--- a command that is done has no ticket
-abbrev pub has_both : SlotState → Bool
-has_both slot = is_some slot.reply && is_some slot.ticket
+-- the command was withdrawn
+abbrev pub is_withdrawn : SlotState → Bool
+is_withdrawn slot = is_some slot.reply && is_some slot.ticket
+
+-- the slot of a command that was withdrawn: its reply is empty, and its ticket is none of a queue
+abbrev pub slot_withdrawn : ℕ → ℕ → SlotState
+slot_withdrawn originator number =
+    record { originator = originator; number = number; reply = Some []; ticket = Some 0 }
+
+-- a command that is done has no ticket, and one that was withdrawn has this reply and this ticket
+abbrev pub are_apt : Option (List ℕ) → Option ℕ → Bool
+are_apt (Some reply) (Some ticket) = (length reply == 0) && (ticket == 0)
+are_apt (Some reply) None = true
+are_apt None ticket = true
 
 -- the originator has 64 bits, the number and the ticket 32, and the reply at most 480 bytes
 pub record IsSlot (slot : SlotState) : Type 0 where
@@ -47,7 +59,7 @@ pub record IsSlot (slot : SlotState) : Type 0 where
   pub number : slot.number < 2 ^ 32
   pub short : length (kept_bytes slot) ≤ 480
   pub ticket : unwrap_or slot.ticket 0 < 2 ^ 32
-  pub one : has_both slot ≡ false
+  pub one : are_apt slot.reply slot.ticket ≡ true
 
 abbrev pub AreSlots : List SlotState → Type 0
 AreSlots [] = Unit {0}

@@ -22,3 +22,5 @@ pub mod Runs
 pub mod Reaching
 pub mod Executing
 pub mod Device
+pub mod Withdrawing
+pub mod WithdrawLaws

@@ -5,7 +5,7 @@ use Rattle.cip_ledger.specs.declared.service.TheConstants as services
 use Rattle.cip_ledger.specs.declared.status.Status.TheVariants as statuses
 use Rattle.cip_ledger.specs.declared.target.Standing.{Standing}
 use Rattle.cip_ledger.specs.Ledger.{LedgerState, SlotState, is_pending}
-use Rattle.cip_ledger.specs.PendingLaws.{IsPending, Step, result_in, node_after_steps}
+use Rattle.cip_ledger.specs.PendingLaws.{IsPending, Step, result_in, IsNotWithdrawn, node_after_steps}
 use Rattle.cip_ledger.specs.Requests.{Command}
 use Rattle.cip_ledger.specs.Runs.{Request, slot_in, command_given, turn_at, Executed, journal}
 use Rattle.cip_ledger.specs.Services.{reply_to, refusal}
@@ -29,10 +29,10 @@ module _ {M : Type 0} (after : M → ℕ → List ℕ → M) (answer : M → ℕ
       turn_at after answer standing node request
       ≡ turn_of node.ledger node.router (reply_to services.DO_ONCE (refusal statuses.CommandPending))
 
-  -- Until a reply is given to its ticket, a pending command keeps its slot, whatever is asked: no other command of its
+  -- Until a reply is given to its ticket or it is withdrawn, a pending command keeps its slot, whatever is asked: no other command of its
   -- originator is executed, and no Forget frees the slot.
   abbrev pub keeps_slot_law : Type 0
   keeps_slot_law = (node : LedgerRouter M) (steps : List (Step M)) (originator ticket : ℕ) (slot : SlotState) →
       slot_in originator node.ledger ≡ Some slot → slot.reply ≡ None → slot.ticket ≡ Some ticket →
-      result_in ticket steps ≡ None →
+      result_in ticket steps ≡ None → IsNotWithdrawn originator slot.number steps →
       slot_in originator (node_after_steps after answer standing node steps).ledger ≡ Some slot

@@ -1,5 +1,5 @@
 -- What holds of pending commands over every list of requests and of replies to their tickets.
-use Rattle.std.specs.Prelude.{◌≡◌, ℕ, ◌+◌, ◌==◌, ◌&&◌, true, false, if◌then◌else◌, Option, Some, None, List, [], ◌∷◌}
+use Rattle.std.specs.Prelude.{◌≡◌, ⊤, ℕ, ◌+◌, ◌==◌, ◌&&◌, true, false, if◌then◌else◌, Option, Some, None, List, [], ◌∷◌}
 use Rattle.std.specs.Prelude.{◌++◌, length, option_map}
 use Rattle.cip_ledger.specs.declared.router.LedgerRouter.{LedgerRouter}
 use Rattle.cip_ledger.specs.declared.service.TheConstants as services
@@ -7,12 +7,13 @@ use Rattle.cip_ledger.specs.declared.target.Standing.{Standing}
 use Rattle.cip_ledger.specs.Doubt.{is_kept_reply}
 use Rattle.cip_ledger.specs.DoubtLaws.{IsGiven}
 use Rattle.cip_ledger.specs.Laws.{IsNotFreed, Succeeds}
-use Rattle.cip_ledger.specs.Ledger.{LedgerState, SlotState, slot_of}
+use Rattle.cip_ledger.specs.Ledger.{LedgerState, SlotState, slot_of, is_pending, slot_withdrawn}
 use Rattle.cip_ledger.specs.Pending.{completed_slot, can_complete, completed}
 use Rattle.cip_ledger.specs.Requests.{Command}
 use Rattle.cip_ledger.specs.Runs.{Request, Event, slot_in, turn_at, answer_to, next, journal}
 use Rattle.cip_ledger.specs.Services.{reply_to, success, last_content, DONE, PENDING, HEAD_SIZE}
 use Rattle.cip_ledger.specs.Turn.{turn_of}
+use Rattle.cip_ledger.specs.Withdrawing.{withdrawn}
 
 -- once a reply is given to a ticket, no other reply is taken for it
 abbrev pub completed_once_law : Type 0
@@ -35,15 +36,22 @@ pub record IsPending (ledger : LedgerState) (originator number ticket : ℕ) : T
 
 -- ---- over every list of steps
 
--- A request comes, the reply to the command with a ticket is given, or the router is changed by its owner. With a reply
--- the router may change too: the command leaves its queue.
+-- A request comes, the reply to the command with a ticket is given, the router is changed by its owner, or a command is
+-- withdrawn. With a reply, and with a command that is withdrawn, the router may change too: the command leaves its queue.
 pub data Step (M : Type 0) : Type 0 where
   Asks : (request : Request) → Step M
   Completes : (ticket : ℕ) (reply : List ℕ) (router : M) → Step M
   Changes : (router : M) → Step M
+  Withdraws : (originator number : ℕ) (router : M) → Step M
 
 abbrev pub completed_if : ℕ → List ℕ → SlotState → SlotState
 completed_if ticket reply slot = if is_kept_reply reply then completed_slot ticket reply slot else slot
+
+-- a pending command once this originator's number is withdrawn
+abbrev pub withdrawn_if : ℕ → ℕ → SlotState → SlotState
+withdrawn_if originator number slot =
+    if is_pending slot && (slot.originator == originator) && (slot.number == number)
+    then slot_withdrawn originator number else slot
 
 -- the slot of a command after these steps, as long as it is not freed and no other command takes it
 abbrev pub slot_after : {M : Type 0} → SlotState → List (Step M) → SlotState
@@ -51,6 +59,7 @@ slot_after slot [] = slot
 slot_after slot (Asks request ∷ steps) = slot_after slot steps
 slot_after slot (Completes ticket reply router ∷ steps) = slot_after (completed_if ticket reply slot) steps
 slot_after slot (Changes router ∷ steps) = slot_after slot steps
+slot_after slot (Withdraws originator number router ∷ steps) = slot_after (withdrawn_if originator number slot) steps
 
 -- the first reply that these steps give to a ticket, and that a slot can keep
 abbrev pub result_in : {M : Type 0} → ℕ → List (Step M) → Option (List ℕ)
@@ -59,21 +68,32 @@ result_in ticket (Asks request ∷ steps) = result_in ticket steps
 result_in ticket (Completes other reply router ∷ steps) =
     if is_kept_reply reply && (ticket == other) then Some reply else result_in ticket steps
 result_in ticket (Changes router ∷ steps) = result_in ticket steps
+result_in ticket (Withdraws originator number router ∷ steps) = result_in ticket steps
+
+-- the command of this originator and number is not withdrawn
+abbrev pub IsNotWithdrawn : {M : Type 0} → ℕ → ℕ → List (Step M) → Type 0
+IsNotWithdrawn originator number [] = ⊤
+IsNotWithdrawn originator number (Asks request ∷ steps) = IsNotWithdrawn originator number steps
+IsNotWithdrawn originator number (Completes ticket reply router ∷ steps) = IsNotWithdrawn originator number steps
+IsNotWithdrawn originator number (Changes router ∷ steps) = IsNotWithdrawn originator number steps
+IsNotWithdrawn originator number (Withdraws by own router ∷ steps) =
+    (by ≡ originator → own ≡ number → ⊥) × IsNotWithdrawn originator number steps
 
 -- the data of the answer to a command that was pending
 abbrev pub content_by : Option (List ℕ) → List ℕ
 content_by None = PENDING ∷ []
 content_by (Some reply) = DONE ∷ reply
 
--- a command that is done stays so, with the same reply
+-- a command that is done or withdrawn stays so, with the same reply
 abbrev pub done_law : Type 0 → Type 0
 done_law M = (slot : SlotState) (reply : List ℕ) (steps : List (Step M)) → slot.reply ≡ Some reply →
     slot_after slot steps ≡ slot
 
--- a pending command is pending until a reply is given to its ticket, and is done with this reply then
+-- a pending command is pending until a reply is given to its ticket, and is done with this reply then, if it is not
+-- withdrawn
 abbrev pub result_law : Type 0 → Type 0
 result_law M = (slot : SlotState) (ticket : ℕ) (steps : List (Step M)) → slot.reply ≡ None → slot.ticket ≡ Some ticket →
-    last_content (slot_after slot steps) ≡ content_by (result_in ticket steps)
+    IsNotWithdrawn slot.originator slot.number steps → last_content (slot_after slot steps) ≡ content_by (result_in ticket steps)
 
 module _ {M : Type 0} (after : M → ℕ → List ℕ → M) (answer : M → ℕ → List ℕ → List ℕ)
     (standing : M → List ℕ → Standing) where
@@ -84,6 +104,8 @@ module _ {M : Type 0} (after : M → ℕ → List ℕ → M) (answer : M → ℕ
     router = router;
   }
   node_step node (Changes router) = record { ledger = node.ledger; router = router }
+  node_step node (Withdraws originator number router) =
+      record { ledger = option_map (withdrawn originator number) node.ledger; router = router }
 
   abbrev pub node_after_steps : LedgerRouter M → List (Step M) → LedgerRouter M
   node_after_steps node [] = node
@@ -93,6 +115,7 @@ module _ {M : Type 0} (after : M → ℕ → List ℕ → M) (answer : M → ℕ
   journal_of_step node (Asks request) = journal after answer standing node (request ∷ [])
   journal_of_step node (Completes ticket reply router) = []
   journal_of_step node (Changes router) = []
+  journal_of_step node (Withdraws originator number router) = []
 
   abbrev pub journal_of_steps : LedgerRouter M → List (Step M) → List Event
   journal_of_steps node [] = []
@@ -127,7 +150,7 @@ module _ {M : Type 0} (after : M → ℕ → List ℕ → M) (answer : M → ℕ
         ≡ reply_to services.DO_ONCE (success (last_content (slot_after slot between)))
 
   -- Every two success answers to a number have the same bytes, or the first says that the command is pending, and the
-  -- other one has its one result. So no answer goes back (`done_law`, `result_law`).
+  -- other one has its one result, or says that it was withdrawn. So no answer goes back (`done_law`, `result_law`).
   abbrev pub never_back_law : Type 0
   never_back_law = (node : LedgerRouter M) (first again : Request) (between : List (Step M)) (originator number : ℕ) →
       Succeeds after answer standing node first originator number →

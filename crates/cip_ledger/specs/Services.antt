@@ -35,9 +35,14 @@ PENDING = 1
 abbrev pub IN_DOUBT : ℕ
 IN_DOUBT = 2
 
--- the state of a command by what is kept of it, its reply or its ticket
+-- the state byte of a command that was withdrawn: it is never executed
+abbrev pub WITHDRAWN : ℕ
+WITHDRAWN = 3
+
+-- the state of a command by what is kept of it, its reply or its ticket or both
 abbrev pub state_content : Option (List ℕ) → Option ℕ → List ℕ
-state_content (Some reply) ticket = DONE ∷ reply
+state_content (Some reply) None = DONE ∷ reply
+state_content (Some reply) (Some ticket) = WITHDRAWN ∷ []
 state_content None (Some ticket) = PENDING ∷ []
 state_content None None = IN_DOUBT ∷ []
 
@@ -148,6 +153,27 @@ forget ledger bytes =
     unless (size_fault 12 bytes) refuses
     (forget_in (number_at 0 8 bytes) (number_at 8 4 bytes) (slot_of (number_at 0 8 bytes) ledger.taken))
 
+-- ---- Withdraw
+
+-- What can be withdrawn was withdrawn before (`Withdrawing`). So without a slot none is free, a number that is greater than
+-- that of the slot follows a pending command, and the last number is answered by its state.
+abbrev pub withdraw_in : ℕ → ℕ → Option SlotState → Answer
+withdraw_in max_size number None = refusal statuses.ResourceUnavailable
+withdraw_in max_size number (Some slot) =
+    if nat_lt number slot.number then refusal statuses.ObjectStateConflict
+    else (if number == slot.number then within max_size (success (last_content slot))
+    else refusal statuses.CommandPending)
+
+-- a command of another life is not withdrawn: it is never executed
+abbrev pub withdraw_of : LedgerState → ℕ → List ℕ → Answer
+withdraw_of ledger max_size bytes =
+    if not (number_at 0 8 bytes == ledger.life) then refusal statuses.DeviceStateConflict
+    else withdraw_in max_size (number_at 16 4 bytes) (slot_of (number_at 8 8 bytes) ledger.taken)
+
+-- the life, the originator and the number in the data name the command
+abbrev pub withdraw : LedgerState → ℕ → List ℕ → Answer
+withdraw ledger max_size bytes = unless (size_fault 20 bytes) refusal (withdraw_of ledger max_size bytes)
+
 -- ---- Get_Slots
 
 -- how many slots are taken, and then the slots from the index in the data on, as many as fit
@@ -219,7 +245,8 @@ instance_action ledger max_size request =
     else (if request.service == services.GET_ATTRIBUTE_LIST
     then Replies (get_attribute_list (ledger_values ledger) max_size request.data)
     else (if request.service == services.GET_SLOTS then Replies (get_slots ledger max_size request.data)
-    else refuses statuses.ServiceNotSupported)))))
+    else (if request.service == services.WITHDRAW then Replies (withdraw ledger max_size request.data)
+    else refuses statuses.ServiceNotSupported))))))
 
 -- by the instance: 0 is the class itself
 abbrev pub action_of : LedgerState → ℕ → LedgerRequest → Action

@@ -7,9 +7,10 @@ use Rattle.cip_ledger.specs.Ledger.{SlotState}
 abbrev pub ENTRY_SIZE : ℕ
 ENTRY_SIZE = 13
 
--- the state of a command by what is kept of it, its reply or its ticket: done, pending, or in doubt
+-- the state of a command by what is kept of it, its reply or its ticket or both: done, withdrawn, pending, or in doubt
 abbrev pub state_byte : Option (List ℕ) → Option ℕ → ℕ
-state_byte (Some reply) ticket = 0
+state_byte (Some reply) None = 0
+state_byte (Some reply) (Some ticket) = 3
 state_byte None (Some ticket) = 1
 state_byte None None = 2
 

@@ -12,6 +12,7 @@ ghost use Rattle.cip_ledger.specs.Kept.{restored_law};
 ghost use Rattle.cip_ledger.specs.PendingLaws.{completed_once_law, completed_numbers_law, done_law, result_law};
 ghost use Rattle.cip_ledger.specs.PendingLaws.{pending_law, completed_law, never_back_law};
 ghost use Rattle.cip_ledger.specs.OnePending.{one_pending_law, not_taken_law, keeps_slot_law};
+ghost use Rattle.cip_ledger.specs.WithdrawLaws.{withdraw_answer_law, withdrawn_law, withdrawn_once_law};
 
 use crate::target::Target;
 
@@ -137,6 +138,21 @@ pub fn a_pending_command_is_not_executed<R: Target>()
 /// executed: nothing changes.
 pub fn completed_is_answered<R: Target>()
     ensures { completed_law R.after R.answer R.standing }
+{}
+
+/// Withdraw that withdraws a command answers that it is withdrawn, and Forget that does so frees the slot.
+pub fn withdraw_says_so()
+    ensures { withdraw_answer_law }
+{}
+
+/// A command that was withdrawn is answered by its state, and is not executed: nothing changes.
+pub fn a_withdrawn_command_is_not_executed<R: Target>()
+    ensures { withdrawn_law R.after R.answer R.standing }
+{}
+
+/// A command is withdrawn once.
+pub fn withdrawn_once()
+    ensures { withdrawn_once_law }
 {}
 
 /// An originator has one pending command at most. While its last one is pending, one with a greater number is refused

@@ -19,13 +19,16 @@ ghost use Rattle.cip_ledger.specs.AttributeValue.{values_in};
 mod commands;
 mod executing;
 mod listing;
+mod withdrawing;
 
 use crate::attributes::{Attributes, class_value, write_single};
 use crate::doubt::DoubtfulCommand;
-use crate::reply::{DONE, HEAD_SIZE, IN_DOUBT, LONGEST_DONE, PENDING, answer, begin, size_fault};
+use crate::reply::{
+    DONE, HEAD_SIZE, IN_DOUBT, LONGEST_DONE, PENDING, WITHDRAWN, answer, begin, size_fault,
+};
 use crate::request::{Command, LedgerRequest, SHORT_SIZE, is_do_once};
 use crate::service::{
-    DO_ONCE, FORGET, GET_ATTRIBUTE_LIST, GET_ATTRIBUTE_SINGLE, GET_LAST, GET_SLOTS,
+    DO_ONCE, FORGET, GET_ATTRIBUTE_LIST, GET_ATTRIBUTE_SINGLE, GET_LAST, GET_SLOTS, WITHDRAW,
 };
 use crate::slot::{KEPT_LIMIT, Slot};
 use crate::slots::{MOST_ORIGINATORS, Slots};
@@ -56,7 +59,8 @@ pub struct KeptCommand<'a> {
     pub number: u32,
     /// The reply, at most 480 bytes. `None` if the command is pending or in doubt.
     pub reply: Option<&'a [u8]>,
-    /// The ticket of a command that is pending. A command without a reply and without a ticket is in doubt.
+    /// The ticket of a command that is pending. A command without a reply and without a ticket is in doubt, and one that
+    /// was withdrawn has an empty reply and the ticket 0.
     pub ticket: Option<u32>,
 }
 
@@ -222,8 +226,8 @@ impl Ledger {
     }
 
     /// Puts the last command of an originator into a free slot, as it was kept, and returns whether it did. If no slot
-    /// is free, the originator has one, the reply has over 480 bytes, or there are both a reply and a ticket, nothing
-    /// changes.
+    /// is free, the originator has one, the reply has over 480 bytes, or there are both a reply and a ticket that are not
+    /// those of a command that was withdrawn, nothing changes.
     ///
     /// With this call a device starts from what was kept of its ledger, before it answers any peer.
     ///
@@ -244,8 +248,13 @@ impl Ledger {
             return false;
         }
         match (kept.reply, kept.ticket) {
-            // a command that is done has no ticket
-            (Some(_), Some(_)) => return false,
+            (Some(reply), Some(ticket)) => {
+                // a command that is done has no ticket
+                if !reply.is_empty() || ticket != 0 {
+                    return false;
+                }
+                self.slots.withdraw(index, kept.originator, kept.number);
+            }
             (Some(reply), None) => {
                 self.slots.keep(index, kept.originator, kept.number, reply);
             }
@@ -418,6 +427,7 @@ impl Ledger {
             }
             GET_ATTRIBUTE_LIST => self.attributes().write_list(request.data, max_size, reply),
             GET_SLOTS => self.get_slots(request.data, max_size, reply),
+            WITHDRAW => self.withdraw(request.data, max_size, reply),
             // the ledger does not have this service: 0x08 (objects)
             _ => begin(request.service, Status::ServiceNotSupported, reply),
         }
@@ -529,6 +539,8 @@ fn last_state(slot: &Slot) -> (u8, &[u8])
     ensures fits { length result.1.now ≤ KEPT_LIMIT }
 {
     match slot.reply() {
+        // what was withdrawn is never executed: state 3 (ledger, ours)
+        Some(_) if slot.is_withdrawn() => (WITHDRAWN, &[]),
         Some(kept) => (DONE, kept),
         // what is in the queue is not executed again: state 1 (ledger, ours)
         None if slot.ticket().is_some() => (PENDING, &[]),

@@ -22,6 +22,9 @@ pub(crate) const PENDING: u8 = 1;
 /// The state byte of a command in doubt.
 pub(crate) const IN_DOUBT: u8 = 2;
 
+/// The state byte of a command that was withdrawn: it is never executed.
+pub(crate) const WITHDRAWN: u8 = 3;
+
 /// The smallest reply limit at which a new command is executed, in bytes: the longest reply to it fits.
 pub(crate) const LONGEST_DONE: usize = HEAD_SIZE + 1 + KEPT_LIMIT;
 

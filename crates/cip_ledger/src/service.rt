@@ -15,5 +15,9 @@ pub const GET_LAST: u8 = 0x4c;
 /// Forget (ours): frees an originator's slot.
 pub const FORGET: u8 = 0x4d;
 
+/// Withdraw (ours): takes a pending command out of the queue of the router, if no owner was handed it, or uses a number up
+/// that was not used.
+pub const WITHDRAW: u8 = 0x4f;
+
 /// Get_Slots (ours): whose slots are taken, and the number and the state of the last command in each.
 pub const GET_SLOTS: u8 = 0x50;

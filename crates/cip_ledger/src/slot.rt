@@ -2,7 +2,7 @@
 ghost use Rattle.std.specs.Prelude.{◌≡◌, ◌≤◌, ℕ, List, length, Some, None, IfSome, if◌then◌else◌};
 ghost use Rattle.std.specs.Option.{option_copied};
 ghost use Rattle.cip_ledger.specs.Doubt.{is_doubtful};
-ghost use Rattle.cip_ledger.specs.Ledger.{is_pending};
+ghost use Rattle.cip_ledger.specs.Ledger.{is_pending, is_withdrawn, slot_withdrawn};
 ghost use Rattle.cip_ledger.specs.Pending.{is_pending_at, completed_slot};
 ghost use Rattle.cip_ledger.specs.Services.{KEPT_LIMIT};
 
@@ -14,7 +14,7 @@ use std::marker::Model;
 pub const KEPT_LIMIT: usize = 480;
 
 /// An originator's slot: the last of its commands, and the reply to it, unless the command is pending or in doubt. A
-/// pending one has a ticket.
+/// pending one has a ticket. One that was withdrawn has an empty reply and the ticket 0.
 #[derive(Drop)]
 pub(crate) struct Slot {
     originator: u64,
@@ -67,6 +67,19 @@ impl Slot {
         }
     }
 
+    /// The slot of an originator whose last command has this number and was withdrawn.
+    pub(crate) fn new_withdrawn(originator: u64, number: u32) -> Slot
+        ensures { result ≡ slot_withdrawn originator number }
+    {
+        Slot {
+            originator,
+            number,
+            is_done: true,
+            ticket: Some(0),
+            reply: ArrayVec::new(),
+        }
+    }
+
     /// Whose slot it is.
     pub(crate) fn originator(&self) -> u64
         ensures { result ≡ self.now.originator }
@@ -95,14 +108,18 @@ impl Slot {
         !self.is_done && self.ticket.is_some()
     }
 
-    /// The ticket of the last command, if that is pending.
+    /// Whether the last command was withdrawn.
+    pub(crate) fn is_withdrawn(&self) -> bool
+        ensures { result ≡ is_withdrawn self.now }
+    {
+        self.is_done && self.ticket.is_some()
+    }
+
+    /// The ticket of the last command, if that is pending, and 0 if it was withdrawn.
     pub(crate) fn ticket(&self) -> Option<u32>
         ensures { result ≡ self.now.ticket }
     {
-        if !self.is_done {
-            return self.ticket;
-        }
-        None
+        self.ticket
     }
 
     /// The reply to the last command, `None` if that is pending or in doubt.
@@ -131,6 +148,7 @@ impl Slot {
     {
         self.number = number;
         self.is_done = true;
+        self.ticket = None;
         keep_reply(&mut self.reply, reply);
     }
 
@@ -141,6 +159,16 @@ impl Slot {
         self.number = number;
         self.is_done = false;
         self.ticket = ticket;
+        self.reply.clear();
+    }
+
+    /// Keeps the originator's next command, which was withdrawn.
+    pub(crate) fn withdraw(&mut self, number: u32)
+        ensures { self.new ≡ slot_withdrawn self.old.originator number }
+    {
+        self.number = number;
+        self.is_done = true;
+        self.ticket = Some(0);
         self.reply.clear();
     }
 

@@ -4,7 +4,7 @@ ghost use Rattle.std.specs.Prelude.{IfOk, IfSome, IfNone, unwrap_or, ◌^◌};
 ghost use Rattle.std.specs.Prelude.{slice_index_or, slice_set, slice_get, map, filter};
 ghost use Rattle.cip_ledger.specs.Doubt.{is_doubtful, command_name};
 ghost use Rattle.cip_ledger.specs.Pending.{any_pending, completed_slot};
-ghost use Rattle.cip_ledger.specs.Ledger.{SlotState, slot_of, with_slot, without_slot, AreApart, AreSlots};
+ghost use Rattle.cip_ledger.specs.Ledger.{SlotState, slot_of, with_slot, without_slot, slot_withdrawn, AreApart, AreSlots};
 ghost use Rattle.cip_ledger.specs.Services.{KEPT_LIMIT};
 ghost use Rattle.cip_ledger.specs.Slots.{slots_in, IsKeptAt, IsFound};
 
@@ -178,6 +178,22 @@ impl Slots {
             return;
         };
         self.taken[index].await_reply(number, ticket);
+    }
+
+    /// Keeps the last command of an originator, which was withdrawn, in the slot that was found at this index or in a free
+    /// one.
+    pub(crate) fn withdraw(&mut self, index: Option<usize>, originator: u64, number: u32)
+        requires found { IsFound self.old.taken originator index }
+        requires free { slot_of originator self.old.taken ≡ None → length self.old.taken < self.old.limit }
+        ensures limit { self.new.limit ≡ self.old.limit }
+        ensures taken { self.new.taken ≡ with_slot (slot_withdrawn originator number) self.old.taken }
+    {
+        let Some(index) = index else {
+            self.taken
+                .push_reserved(Slot::new_withdrawn(originator, number));
+            return;
+        };
+        self.taken[index].withdraw(number);
     }
 
     /// Keeps the reply to the command with this ticket, wherever it is pending, and returns whether it is.

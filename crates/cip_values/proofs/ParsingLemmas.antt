@@ -1,7 +1,7 @@
 -- Parsing words.
-use Rattle.std.proofs.Common.{◌≡◌, ◌≢◌, ◌⊎◌, ℕ, zero, suc, ◌-◌, ◌*◌, ◌^◌, ◌<◌, ◌≤◌, true, false, List, [], ◌∷◌, ◌++◌, length, get_or, take, drop, refl, sym, ap, ◌∙◌, arith, inl, inr, ℤ, pos, negsuc, neg_ℤ, ◌-ℤ◌, nat_lt, ◌==◌, min, of_z, to_z, Result, Ok, Err, MatchResult, FitsSigned}
+use Rattle.std.proofs.Common.{◌≡◌, ◌≢◌, ◌⊎◌, ℕ, zero, suc, ◌-◌, ◌*◌, ◌^◌, ◌<◌, ◌≤◌, Bool, true, false, List, [], ◌∷◌, ◌++◌, length, get_or, take, drop, refl, sym, ap, subst, ◌∙◌, arith, inl, inr, ℤ, pos, negsuc, neg_ℤ, ◌-ℤ◌, nat_lt, ◌==◌, min, of_z, to_z, Result, Ok, Err, MatchResult, FitsSigned}
 use Rattle.std.proofs.Math.Nat.{pow-le-pow_right}
-use Rattle.std.proofs.lemmas.Bool.{and_parts, cases_lt}
+use Rattle.std.proofs.lemmas.Bool.{and_parts, cases_lt, eq-eqb, ne_eqb}
 use Rattle.std.proofs.lemmas.List.{length-drop, take_all}
 use Rattle.std.proofs.lemmas.Int.{ints, to_z-of_z}
 use Rattle.std.specs.Char.{digit_value, is_digit}
@@ -11,7 +11,7 @@ use Rattle.std.specs.List.{list_all}
 use Rattle.std.specs.Result.{OkIff, result_unwrap_or}
 use Rattle.std.specs.Str.Parse.{IsNumeral, AllDigits, digits_value, ParsesSigned}
 use Rattle.cip_values.specs.Values.{IsSignedOf, IsUnsignedOf}
-use Rattle.cip_values.specs.Parsing.{ParsesAsInteger, ParsesAsBits, Clamps}
+use Rattle.cip_values.specs.Parsing.{ParsesAsInteger, ParsesAsSized, ParsesAsUnsigned, ParsesAsBits, Clamps}
 use Rattle.cip_values.specs.declared.parsing.ParseFault.{ParseFault}
 use Rattle.cip_values.specs.declared.parsing.ParseFault.TheVariants as parse_faults
 
@@ -218,3 +218,15 @@ hexadecimal word digits (Err miss) e h = (h.0, hexadecimal_untold word digits e 
 pub bits : (word : List ℕ) (r : Result ℤ ParseFault) → ((rest : List ℕ) → word ≢ codes "0x" ++ rest) → Reads (ParsesAsInteger word) r → Reads (ParsesAsBits word) r
 bits word (Ok n) mark h = bits_told word n h
 bits word (Err miss) mark h = (h.0, bits_untold word mark h.1)
+
+-- an unsigned number, by whether it has 8 bytes
+pub sized_wide : (size : ℕ) (word : List ℕ) (r : Result ℤ ParseFault) → size ≡ 8 → Reads (ParsesAsBits word) r → Reads (ParsesAsUnsigned size word) r
+sized_wide size word r e h = subst (λ b. Reads (ParsesAsSized b word) r) (sym (eq-eqb size 8 e)) h
+
+pub sized_plain : (size : ℕ) (word : List ℕ) (r : Result ℤ ParseFault) → (size ≡ 8 → ⊥) → Reads (ParsesAsInteger word) r → Reads (ParsesAsUnsigned size word) r
+sized_plain size word r e h = subst (λ b. Reads (ParsesAsSized b word) r) (sym (ne_eqb size 8 e)) h
+
+-- of one that does not fit
+pub unsigned_beyond : (size : ℕ) (word : List ℕ) (n m : ℤ) → size ≤ 8 → Clamps (ParsesAsUnsigned size word) n → m ≡ n → (IsUnsignedOf size m → ⊥)
+    → (z : ℤ) × (ParsesAsUnsigned size word z × (IsUnsignedOf size z → ⊥))
+unsigned_beyond size word n m high clamps same out = unsigned_out (ParsesAsUnsigned size word) size n high clamps (λ fits. out (subst (IsUnsignedOf size) (sym same) fits))

@@ -1,5 +1,5 @@
 -- Parsing a word as a value.
-use Rattle.std.specs.Prelude.{◌≡◌, ◌≢◌, ◌⊎◌, ◌<◌, ◌≤◌, ◌*◌, ◌/◌, ◌%◌, ◌^◌, [], length, ⊤, ℕ, ℤ, pos, neg_ℤ, Bool, true, false, ◌&&◌, List, ◌∷◌, ◌++◌, codes, None, Some, to_bits, unsigned_abs, slice_index, take, drop}
+use Rattle.std.specs.Prelude.{◌≡◌, ◌≢◌, ◌⊎◌, ◌==◌, ◌<◌, ◌≤◌, ◌*◌, ◌/◌, ◌%◌, ◌^◌, [], length, ⊤, ℕ, ℤ, pos, neg_ℤ, Bool, true, false, ◌&&◌, List, ◌∷◌, ◌++◌, codes, None, Some, to_bits, unsigned_abs, slice_index, take, drop}
 use Rattle.std.specs.Char.{is_digit}
 use Rattle.std.specs.Float.{Format, binary32, binary64, float_is_infinite}
 use Rattle.std.specs.Float.Ieee.{Float}
@@ -37,6 +37,14 @@ ParsesAsBits word number =
     ParsesAsInteger word number
     ⊎ ((digits : List ℕ) × ((word ≡ codes "0x" ++ digits) × IsNumeral 16 digits × (number ≡ pos (digits_value 16 digits))))
 
+-- An unsigned number of this size: an integer. One of 8 bytes, as an originator or a life is, may be in hexadecimal, too.
+abbrev pub ParsesAsSized : Bool → List ℕ → ℤ → Type 0
+ParsesAsSized false word number = ParsesAsInteger word number
+ParsesAsSized true word number = ParsesAsBits word number
+
+abbrev pub ParsesAsUnsigned : ℕ → List ℕ → ℤ → Type 0
+ParsesAsUnsigned size word number = ParsesAsSized (size == 8) word number
+
 -- The word has a decimal digit. `inf` and `nan` have none.
 abbrev pub has_digit : List ℕ → Bool
 has_digit word = list_any (λ byte. is_digit byte 10) word
@@ -63,7 +71,7 @@ ParsesAsInstant word value =
 abbrev pub ParsesAs : Form → List ℕ → Value → Type 0
 ParsesAs forms.Bool word (Truth truth) = ParsesAsBool word truth
 ParsesAs (forms.Signed n) word (Signed number) = ParsesAsInteger word number
-ParsesAs (forms.Unsigned n) word (Unsigned number) = ParsesAsInteger word (pos number)
+ParsesAs (forms.Unsigned n) word (Unsigned number) = ParsesAsUnsigned n word (pos number)
 ParsesAs (forms.Bits n) word (Bits number) = ParsesAsBits word (pos number)
 ParsesAs forms.Real word (Real bits) = ParsesAsFloat binary32 word bits
 ParsesAs forms.Lreal word (Lreal bits) = ParsesAsFloat binary64 word bits
@@ -129,7 +137,7 @@ IsDateAndTimeFault word parse_faults.Range =
 abbrev pub IsParseFault : Form → List ℕ → ParseFault → Type 0
 IsParseFault forms.Bool word parse_faults.Form = (truth : Bool) → ParsesAsBool word truth → ⊥
 IsParseFault (forms.Signed n) word parse_faults.Form = (number : ℤ) → ParsesAsInteger word number → ⊥
-IsParseFault (forms.Unsigned n) word parse_faults.Form = (number : ℤ) → ParsesAsInteger word number → ⊥
+IsParseFault (forms.Unsigned n) word parse_faults.Form = (number : ℤ) → ParsesAsUnsigned n word number → ⊥
 IsParseFault (forms.Bits n) word parse_faults.Form = (number : ℤ) → ParsesAsBits word number → ⊥
 IsParseFault forms.Real word parse_faults.Form = parse_float binary32 word ≡ None
 IsParseFault forms.Lreal word parse_faults.Form = parse_float binary64 word ≡ None
@@ -140,7 +148,7 @@ IsParseFault (forms.Text n) word parse_faults.Form = ⊤
 IsParseFault forms.Wide word parse_faults.Form = ⊤
 IsParseFault forms.Path word parse_faults.Form = ⊤
 IsParseFault (forms.Signed n) word parse_faults.Range = (number : ℤ) × (ParsesAsInteger word number × (IsSignedOf n number → ⊥))
-IsParseFault (forms.Unsigned n) word parse_faults.Range = (number : ℤ) × (ParsesAsInteger word number × (IsUnsignedOf n number → ⊥))
+IsParseFault (forms.Unsigned n) word parse_faults.Range = (number : ℤ) × (ParsesAsUnsigned n word number × (IsUnsignedOf n number → ⊥))
 IsParseFault (forms.Bits n) word parse_faults.Range = (number : ℤ) × (ParsesAsBits word number × (IsUnsignedOf n number → ⊥))
 IsParseFault forms.Real word parse_faults.Range = IsBeyond binary32 word
 IsParseFault forms.Lreal word parse_faults.Range = IsBeyond binary64 word

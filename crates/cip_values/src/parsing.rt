@@ -7,7 +7,7 @@ ghost use Rattle.std.specs.Str.Parse.{IsNumeral, digits_value};
 ghost use Rattle.cip_values.specs.Types.{IsSized, form_of};
 ghost use Rattle.cip_values.specs.Values.{Real, Lreal, value_in, IsOf, IsSignedOf, IsUnsignedOf};
 ghost use Rattle.cip_values.specs.Parsing.{has_digit, ParsesAs, ParsesAsNumber, IsParseFault, IsWordFault};
-ghost use Rattle.cip_values.specs.Parsing.{Clamps, ParsesAsInteger, ParsesAsBits, IsWithoutUnit, IsTimed};
+ghost use Rattle.cip_values.specs.Parsing.{Clamps, ParsesAsInteger, ParsesAsUnsigned, ParsesAsBits, IsWithoutUnit, IsTimed};
 
 use crate::element::{ElementaryType, Form};
 use crate::fault::ValueFault;
@@ -27,9 +27,9 @@ pub(crate) enum ParseFault {
 /// Parses a word as a value of any type but a string or a path.
 ///
 /// A BOOL is `0`, `1`, `false` or `true`. An integer is decimal digits, with a minus sign if it is negative. A bit
-/// string is `0x` and hexadecimal digits, or an integer. A REAL or an LREAL is a decimal number, with or without an
-/// exponent, `inf` or `nan`. A DATE is `YYYY-MM-DD`, a TIME_OF_DAY `hh:mm:ss.mmm`, and a DATE_AND_TIME both with `T`
-/// between them. A TIME is an integer, with or without `ms` behind it, and an LTIME one with or without `us`.
+/// string is `0x` and hexadecimal digits, or an integer, and so is a ULINT. A REAL or an LREAL is a decimal number, with or
+/// without an exponent, `inf` or `nan`. A DATE is `YYYY-MM-DD`, a TIME_OF_DAY `hh:mm:ss.mmm`, and a DATE_AND_TIME both
+/// with `T` between them. A TIME is an integer, with or without `ms` behind it, and an LTIME one with or without `us`.
 ///
 /// # Errors
 ///
@@ -80,7 +80,7 @@ fn parse_word(form: Form, word: &str) -> Result<Value<'static>, ParseFault>
             Ok(Value::Signed(number as i64))
         }
         Form::Unsigned(size) => {
-            let number = integer(word)?;
+            let number = unsigned(word, size)?;
             if !fits_unsigned(number, size) {
                 return Err(ParseFault::Range);
             }
@@ -158,6 +158,18 @@ fn integer(word: &str) -> Result<i128, ParseFault>
     match after_prefix("-", word) {
         Some(digits) => Ok(-number_of(digits, 10)?),
         None => number_of(word, 10),
+    }
+}
+
+/// Parses an unsigned number of `size` bytes. One of 8 bytes may be in hexadecimal, as a bit string is.
+fn unsigned(word: &str, size: usize) -> Result<i128, ParseFault>
+    ensures { MatchResult result (Clamps (ParsesAsUnsigned size word.now))
+        (λ miss. (miss ≡ ParseFault.Form) × ((number : ℤ) → ParsesAsUnsigned size word.now number → ⊥)) }
+{
+    if size == 8 {
+        bit_string(word)
+    } else {
+        integer(word)
     }
 }
 

@@ -46,8 +46,13 @@ impl KeptValues {
         self.entries.as_slice()
     }
 
-    /// Prints a line on standard error for each value that is not used. They stay in FILE.
+    /// Prints a line on standard error for each value that is not used, which stays in FILE, and one if commands that waited
+    /// were dropped.
     pub fn report_unused(&self, rt: &HostRuntime, file: KeptFile<'_>) {
+        let waiting = self.waiting_commands();
+        if file.accepts_older() && waiting > 0 {
+            print_reason(rt, &Dropped(file.name(), waiting));
+        }
         let mut has_lost = false;
         for key in &self.unused {
             let name = EntryName::of_key(*key);
@@ -57,6 +62,14 @@ impl KeptValues {
         if has_lost {
             print_reason(rt, &Reason::Named(file.name(), NamedReason::NewLife));
         }
+    }
+
+    /// How many commands wait in the queue that is kept.
+    fn waiting_commands(&self) -> usize {
+        self.entries
+            .iter()
+            .filter(|entry| is_waiting_command(entry))
+            .count()
     }
 
     /// Prints each entry in hexadecimal. A slot of the command ledger that is free has no line.
@@ -74,6 +87,32 @@ impl KeptValues {
             writeln!(output)?;
         }
         output.flush()
+    }
+}
+
+/// Whether an entry is of a command that waits. That of a free place has no bytes.
+fn is_waiting_command(entry: &Entry) -> bool {
+    let name = EntryName::of_key(entry.key);
+    matches!(name, EntryName::WaitingCommand(_)) && !entry.bytes.is_empty()
+}
+
+/// So many commands that waited in the file of this name were dropped, as its state may be older than it was.
+#[derive(Clone, Copy)]
+struct Dropped<'a>(&'a str, usize);
+
+impl fmt::Display for Dropped<'_> {
+    fn fmt<W: fmt::Write>(&self, f: &mut fmt::Formatter<W>) -> fmt::Result {
+        let (file, count) = (self.0, self.1);
+        if count == 1 {
+            return write!(
+                f,
+                "{file}: 1 command that waited was dropped (--accept-older)"
+            );
+        }
+        write!(
+            f,
+            "{file}: {count} commands that waited were dropped (--accept-older)"
+        )
     }
 }
 

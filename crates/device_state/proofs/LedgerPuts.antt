@@ -1,12 +1,13 @@
 -- The ledger that is put back.
-use Rattle.std.proofs.Common.{◌≡◌, ℕ, suc, ◌+◌, ◌^◌, ◌<◌, ◌≤◌, ◌≡◌, eqb, nat_lt, false, cond, ◌&&◌, is_some, unwrap_or, List, [], ◌∷◌, ◌++◌, length, append_assoc, Option, Some, None, sym, ap, ◌∙◌, arith}
+use Rattle.std.proofs.Common.{◌≡◌, ℕ, zero, suc, ◌+◌, ◌^◌, ◌<◌, ◌≤◌, ◌≡◌, eqb, ◌==◌, nat_lt, true, false, cond, unwrap_or, List, [], ◌∷◌, ◌++◌, length, append_assoc, Option, Some, None, sym, ap, ◌∙◌, arith}
+use Rattle.std.proofs.lemmas.Bool.{eqb-true, and_parts}
 use Rattle.std.proofs.lemmas.Bool.Decides.{nat_tests}
 use Rattle.std.proofs.lemmas.List.{append-nil, length-append}
 use Rattle.byteorder.specs.Numbers.{little_number-reads_back}
 use Rattle.cip_bytes.specs.Numbers.{le, number_at}
 use Rattle.cip_ledger.specs.declared.request.TheConstants.{LEDGER}
 use Rattle.cip_ledger.specs.Kept.{IsLedger, restored as slot_restored}
-use Rattle.cip_ledger.specs.Ledger.{SlotState, LedgerState, IsSlot, empty_ledger}
+use Rattle.cip_ledger.specs.Ledger.{SlotState, LedgerState, IsSlot, are_apt, empty_ledger}
 use Rattle.cip_ledger.proofs.KeptLemmas.{next_restored, slot_behind}
 use Rattle.cip_objects.specs.Contents.{Contents}
 use Rattle.cip_objects.specs.Kept.{name_of}
@@ -39,7 +40,7 @@ slot_of originator number reply ticket = record { originator = originator; numbe
 ticket_back : (ticket : ℕ) → ticket < 2 ^ 32 → number_at 0 4 (le 4 ticket) ≡ ticket
 ticket_back ticket h = ap (number_at 0 4) (sym (append-nil (le 4 ticket))) ∙ little_number-reads_back 4 ticket [] h
 
-slot_back_by : (o n : ℕ) (reply : Option (List ℕ)) (ticket : Option ℕ) → o < 2 ^ 64 → n < 2 ^ 32 → unwrap_or ticket 0 < 2 ^ 32 → is_some reply && is_some ticket ≡ false → slot_in (slot_bytes (slot_of o n reply ticket)) ≡ Some (slot_of o n reply ticket)
+slot_back_by : (o n : ℕ) (reply : Option (List ℕ)) (ticket : Option ℕ) → o < 2 ^ 64 → n < 2 ^ 32 → unwrap_or ticket 0 < 2 ^ 32 → are_apt reply ticket ≡ true → slot_in (slot_bytes (slot_of o n reply ticket)) ≡ Some (slot_of o n reply ticket)
 slot_back_by o n None None wide narrow below one =
     let b = slot_bytes (slot_of o n None None) in
     let a : number_at 0 8 b ≡ o = little_number-reads_back 8 o (le 4 n ++ 2 ∷ []) wide in
@@ -53,7 +54,17 @@ slot_back_by o n None (Some ticket) wide narrow below one =
     ap (λ k. Some (slot_of k (number_at 8 4 b) None (Some t))) a
     ∙ ap (λ k. Some (slot_of o k None (Some t))) c
     ∙ ap (λ k. Some (slot_of o n None (Some k))) (ticket_back ticket below)
-slot_back_by o n (Some reply) (Some ticket) wide narrow below one = absurd (cc)
+slot_back_by o n (Some []) (Some zero) wide narrow below one =
+    let b = slot_bytes (slot_of o n (Some []) (Some 0)) in
+    let a : number_at 0 8 b ≡ o = little_number-reads_back 8 o (le 4 n ++ 3 ∷ []) wide in
+    let c : number_at 8 4 b ≡ n = little_number-reads_back 4 n (3 ∷ []) narrow in
+    ap (λ k. Some (slot_of k (number_at 8 4 b) (Some []) (Some 0))) a
+    ∙ ap (λ k. Some (slot_of o k (Some []) (Some 0))) c
+slot_back_by o n (Some []) (Some (suc ticket)) wide narrow below one =
+    let same = eqb-true (suc ticket) 0 one in absurd (omega (arith, same))
+slot_back_by o n (Some (byte ∷ reply)) (Some ticket) wide narrow below one =
+    let both = and_parts (length (byte ∷ reply) == 0) (ticket == 0) one in
+    let same = eqb-true (length (byte ∷ reply)) 0 both.0 in absurd (omega (arith, same))
 slot_back_by o n (Some reply) None wide narrow below one =
     let b = slot_bytes (slot_of o n (Some reply) None) in
     let size : length b ≡ 13 + length reply = omega (arith, length-append (le 8 o) (le 4 n ++ 0 ∷ reply), length-append (le 4 n) (0 ∷ reply)) in

@@ -1,5 +1,5 @@
 -- A device that starts from what was saved.
-use Rattle.std.proofs.Common.{rules, ◌≡◌, ℕ, ◌/◌, ◌%◌, ◌^◌, eqb, nat_lt, Bool, true, false, cond, if◌then◌else◌, ◌&&◌, ◌||◌, List, [], ◌∷◌, ◌++◌, length, map, Option, Some, None, option_map, IfSome, refl, sym, ap, ◌∙◌, subst, arith}
+use Rattle.std.proofs.Common.{rules, ◌≡◌, ℕ, ◌/◌, ◌%◌, ◌^◌, eqb, nat_lt, Bool, true, false, cond, if◌then◌else◌, ◌&&◌, ◌||◌, ◌⊎◌, inl, inr, List, [], ◌∷◌, ◌++◌, length, map, Option, Some, None, option_map, IfSome, refl, sym, ap, ◌∙◌, subst, arith}
 use Rattle.std.specs.Str.{bytes_eq}
 use Rattle.std.proofs.lemmas.Bool.{eqb-true}
 use Rattle.std.proofs.lemmas.Bool.Decides.{nat_tests}
@@ -17,10 +17,9 @@ use Rattle.cip_objects.proofs.ReadAfterSet.{value_at-other}
 use Rattle.device_state.specs.declared.restoring.Outcome.TheVariants.{Used, OtherDevice}
 use Rattle.device_state.specs.Keys.{key_of, name_in}
 use Rattle.std.specs.List.{AllByRecursion}
-use Rattle.device_state.specs.Laws.{IsName, IsKept, IsFresh, IsRestored, saved_law, used_law, others_law, other_device_law, version_law, marked_law}
+use Rattle.device_state.specs.Laws.{IsName, IsKept, IsFresh, IsRestored, saved_law, used_law, others_law, other_device_law, version_law, version_2_law}
 use Rattle.device_state.specs.Restored.{Done, done, by_name, if_value, with_objects, to_ledger, restored_entry, restored}
-use Rattle.device_state.specs.QueueEntries.{has_handed_all}
-use Rattle.device_state.specs.Saved.{State, state_of, Entry, entry_of, MARKED, identity_bytes, identity_entry, value_entry, value_entries, ledger_entries, saved}
+use Rattle.device_state.specs.Saved.{State, state_of, Entry, entry_of, VERSION_2, identity_bytes, first_entry, has_mark, has_withdrawn, needs_version_2, with_version, value_entry, value_entries, ledger_entries, saved}
 use Rattle.device_state.proofs.KeyLemmas.{name_back, key_again}
 use Rattle.device_state.proofs.LedgerPuts.{ledger_leads}
 use Rattle.device_state.proofs.Puts.{Leads, leads_nowhere, leads_on, leads_further, put_all, shapes_stay, values_lead, used_lead, used_behind, entries_same, identity_stays}
@@ -35,7 +34,7 @@ same_bytes xs ys e = search (rules, bytes_eq-Decides)
 identity_put : (s : State) (content : List ℕ) → content ≡ identity_bytes s.objects → restored_entry s (entry_of (key_of IDENTITY 1 0) content) ≡ done s Used
 identity_put s content e =
     ap (by_name s content) own_name
-    ∙ ap (λ t. done s (cond (t || bytes_eq content (identity_bytes s.objects ++ MARKED ∷ [])) Used OtherDevice))
+    ∙ ap (λ t. done s (cond (t || bytes_eq content (identity_bytes s.objects ++ VERSION_2 ∷ [])) Used OtherDevice))
     (same_bytes content (identity_bytes s.objects) e)
 
 or_true : (a : Bool) → a || true ≡ true
@@ -43,38 +42,41 @@ or_true true = refl
 or_true false = refl
 
 -- so is the one with the version behind it
-version_put : (s : State) (content : List ℕ) → content ≡ identity_bytes s.objects ++ MARKED ∷ []
+version_put : (s : State) (content : List ℕ) → content ≡ identity_bytes s.objects ++ VERSION_2 ∷ []
     → restored_entry s (entry_of (key_of IDENTITY 1 0) content) ≡ done s Used
 version_put s content e =
     ap (by_name s content) own_name
     ∙ ap (λ t. done s (cond (bytes_eq content (identity_bytes s.objects) || t) Used OtherDevice))
-    (same_bytes content (identity_bytes s.objects ++ MARKED ∷ []) e)
+    (same_bytes content (identity_bytes s.objects ++ VERSION_2 ∷ []) e)
     ∙ ap (λ t. done s (cond t Used OtherDevice)) (or_true (bytes_eq content (identity_bytes s.objects)))
 
-version_by : (s : State) (all : Bool)
-    → restored_entry s (entry_of (key_of IDENTITY 1 0) (if all then identity_bytes s.objects else identity_bytes s.objects ++ MARKED ∷ []))
-    ≡ done s Used
-version_by s true = identity_put s (identity_bytes s.objects) refl
-version_by s false = version_put s (identity_bytes s.objects ++ MARKED ∷ []) refl
+version_by : (s : State) (own : List ℕ) (new : Bool) → own ≡ identity_bytes s.objects
+    → restored_entry s (entry_of (key_of IDENTITY 1 0) (if new then own ++ VERSION_2 ∷ [] else own)) ≡ done s Used
+version_by s own true e = version_put s (own ++ VERSION_2 ∷ []) (ap (λ b. b ++ VERSION_2 ∷ []) e)
+version_by s own false e = identity_put s own e
 
 pub version_used : version_law
-version_used s None = identity_put s (identity_bytes s.objects) refl
-version_used s (Some q) = version_by s (has_handed_all q)
+version_used s is_version_2 = version_by s (identity_bytes s.objects) is_version_2 refl
 
 -- bytes of another length differ
 other_bytes : (xs ys : List ℕ) → (xs ≡ ys → ⊥) → bytes_eq xs ys ≡ false
 other_bytes xs ys e = search (rules, bytes_eq-Decides)
 
-longer : (xs ys : List ℕ) → length xs ≡ length ys → xs ++ MARKED ∷ [] ≡ ys → ⊥
+longer : (xs ys : List ℕ) → length xs ≡ length ys → xs ++ VERSION_2 ∷ [] ≡ ys → ⊥
 longer xs ys same e =
-    let size = length-append xs (MARKED ∷ []) in
-    let whole : length (xs ++ MARKED ∷ []) ≡ length ys = ap length e in
+    let size = length-append xs (VERSION_2 ∷ []) in
+    let whole : length (xs ++ VERSION_2 ∷ []) ≡ length ys = ap length e in
     absurd (omega (arith, size, whole, same))
 
-pub marked_refused : marked_law
-marked_refused m n q same marked =
-    ap (λ t. bytes_eq (if t then identity_bytes m else identity_bytes m ++ MARKED ∷ []) (identity_bytes n)) marked
-    ∙ other_bytes (identity_bytes m ++ MARKED ∷ []) (identity_bytes n) (longer (identity_bytes m) (identity_bytes n) same)
+either_needs : (a b : Bool) → (a ≡ true) ⊎ (b ≡ true) → a || b ≡ true
+either_needs a b (inl e) = ap (λ t. t || b) e
+either_needs a b (inr e) = ap (λ t. a || t) e ∙ or_true a
+
+pub version_2_refused : version_2_law
+version_2_refused m n queue ledger same new =
+    ap (λ t. bytes_eq (if t then identity_bytes m ++ VERSION_2 ∷ [] else identity_bytes m) (identity_bytes n))
+    (either_needs (has_mark queue) (has_withdrawn ledger) new)
+    ∙ other_bytes (identity_bytes m ++ VERSION_2 ∷ []) (identity_bytes n) (longer (identity_bytes m) (identity_bytes n) same)
 
 pub other_device : other_device_law
 other_device s content e =
@@ -97,8 +99,11 @@ module _ (s fresh : State) (life : ℕ) (new : IsFresh s fresh life) (is : IfSom
   start : fresh ≡ behind_identity
   start = ap (state_of fresh.objects) new.ledger
 
-  identity_used : restored_entry fresh (identity_entry s.objects) ≡ done fresh Used
-  identity_used = identity_put fresh (identity_bytes s.objects) (sym new.identity)
+  abbrev own_version : Bool
+  own_version = needs_version_2 None s.ledger
+
+  identity_used : restored_entry fresh (first_entry s.objects own_version) ≡ done fresh Used
+  identity_used = version_by fresh (identity_bytes s.objects) own_version (sym new.identity)
 
   ledger_used : Leads behind_identity (ledger_entries s.ledger) (state_of fresh.objects s.ledger)
   ledger_used = ledgers_lead fresh.objects s.ledger life is
@@ -115,7 +120,7 @@ module _ (s fresh : State) (life : ℕ) (new : IsFresh s fresh life) (is : IfSom
       let behind : Leads behind_identity (ledger_entries s.ledger ++ value_entries m) (state_of end s.ledger) =
       leads_further behind_identity (ledger_entries s.ledger) (value_entries m) (state_of f s.ledger) (state_of end s.ledger) ledger_used put in
       let all : Leads fresh (saved s) (state_of end s.ledger) =
-      leads_on fresh fresh (state_of end s.ledger) (identity_entry m) (ledger_entries s.ledger ++ value_entries m) identity_used
+      leads_on fresh fresh (state_of end s.ledger) (first_entry m own_version) (ledger_entries s.ledger ++ value_entries m) identity_used
       (subst (λ x. Leads x (ledger_entries s.ledger ++ value_entries m) (state_of end s.ledger)) (sym start) behind) in
       let shapes : end.shapes ≡ m.shapes = shapes_stay m f names ∙ new.shapes in
       let values : value_entries end ≡ value_entries m = ap (λ x. map (value_entry end) (kept_names x)) shapes ∙ entries_same m f names in
@@ -124,8 +129,8 @@ module _ (s fresh : State) (life : ℕ) (new : IsFresh s fresh life) (is : IfSom
         used = all.used;
         ledger = ap (λ (x : State). x.ledger) all.after;
         saved = ap saved all.after
-            ∙ ap (λ b. entry_of (key_of IDENTITY 1 0) b ∷ (ledger_entries s.ledger ++ value_entries end)) identity
-            ∙ ap (λ es. identity_entry m ∷ (ledger_entries s.ledger ++ es)) values;
+            ∙ ap (λ b. entry_of (key_of IDENTITY 1 0) (with_version own_version b) ∷ (ledger_entries s.ledger ++ value_entries end)) identity
+            ∙ ap (λ es. first_entry m own_version ∷ (ledger_entries s.ledger ++ es)) values;
       }
 
 pub saved_again : saved_law

@@ -1,19 +1,18 @@
 -- What holds of a device that starts from what was saved.
-use Rattle.std.specs.Prelude.{◌≡◌, ◌<◌, ℕ, ◌^◌, ◌==◌, true, false, is_some, List, length, Option, Some, option_map, IfSome, bytes_eq}
+use Rattle.std.specs.Prelude.{◌≡◌, ◌<◌, ℕ, ◌^◌, ◌==◌, ◌⊎◌, Bool, true, false, is_some, List, length, Option, option_map, IfSome, bytes_eq}
 use Rattle.std.specs.List.{AllByRecursion}
 use Rattle.cip_application.specs.declared.object.AttributeName.{AttributeName}
 use Rattle.cip_bytes.specs.declared.protocol.TheConstants.{IDENTITY}
 use Rattle.cip_ledger.specs.declared.request.TheConstants.{LEDGER}
 use Rattle.cip_ledger.specs.Kept.{IsLedger}
-use Rattle.cip_ledger.specs.Ledger.{empty_ledger}
+use Rattle.cip_ledger.specs.Ledger.{LedgerState, empty_ledger}
 use Rattle.cip_objects.specs.Contents.{Contents, bytes_at, value_at}
 use Rattle.cip_objects.specs.Kept.{kept_names, restored as value_restored}
 use Rattle.cip_owner.specs.Queue.{QueueState}
 use Rattle.device_state.specs.declared.restoring.Outcome.TheVariants.{Used, OtherDevice}
 use Rattle.device_state.specs.Keys.{key_of}
-use Rattle.device_state.specs.QueueEntries.{has_handed_all}
 use Rattle.device_state.specs.Restored.{Restored, done, is_same_device, restored, restored_entry}
-use Rattle.device_state.specs.Saved.{State, Entry, entry_of, identity_bytes, saved, with_version}
+use Rattle.device_state.specs.Saved.{State, Entry, entry_of, identity_bytes, first_entry, has_mark, has_withdrawn, needs_version_2, saved}
 
 -- A name has 16 bits a part, and is none of Identity or of the ledger.
 pub record IsName (name : AttributeName) : Type 0 where
@@ -71,14 +70,15 @@ other_device_law =
     (s : State) (content : List ℕ) → is_same_device s.objects content ≡ false
     → restored_entry s (entry_of (key_of IDENTITY 1 0) content) ≡ done s OtherDevice
 
--- The first entry of a state is used by the same device, with a version and without.
+-- The first entry of a state is used by the same device, with either version.
 abbrev pub version_law : Type 0
 version_law =
-    (s : State) (queue : Option QueueState)
-    → restored_entry s (entry_of (key_of IDENTITY 1 0) (with_version queue (identity_bytes s.objects))) ≡ done s Used
+    (s : State) (is_version_2 : Bool) → restored_entry s (first_entry s.objects is_version_2) ≡ done s Used
 
--- With a mark it is not what a program of version 1 writes, for any device.
-abbrev pub marked_law : Type 0
-marked_law =
-    (m n : Contents) (q : QueueState) → length (identity_bytes m) ≡ length (identity_bytes n)
-    → has_handed_all q ≡ false → bytes_eq (with_version (Some q) (identity_bytes m)) (identity_bytes n) ≡ false
+-- With a mark or a withdrawn command it is not what a program of version 1 writes, for any device.
+abbrev pub version_2_law : Type 0
+version_2_law =
+    (m n : Contents) (queue : Option QueueState) (ledger : Option LedgerState)
+    → length (identity_bytes m) ≡ length (identity_bytes n)
+    → (has_mark queue ≡ true) ⊎ (has_withdrawn ledger ≡ true)
+    → bytes_eq (first_entry m (needs_version_2 queue ledger)).content (identity_bytes n) ≡ false

@@ -42,7 +42,8 @@ place_bytes q index =
     if nat_lt index PLACES then bytes_of_command (slice_get q.waiting index)
     else bytes_of_result (slice_get q.results (index - PLACES))
 
--- Each ticket that was given was handed over, or those of the waiting commands are not.
+-- Whether the mark is the last ticket that was given: then each command of the queue counts as handed over, and the mark
+-- is not written.
 abbrev pub has_handed_all : QueueState → Bool
 has_handed_all q = q.handed == q.next - 1
 

@@ -12,7 +12,7 @@ use Rattle.cip_objects.specs.Kept.{restored as value_restored}
 use Rattle.device_state.specs.declared.restoring.Outcome.{Outcome}
 use Rattle.device_state.specs.declared.restoring.Outcome.TheVariants.{Used, Unknown, Unfit, OtherDevice}
 use Rattle.device_state.specs.Keys.{name_in}
-use Rattle.device_state.specs.Saved.{State, state_of, Entry, identity_bytes, MARKED}
+use Rattle.device_state.specs.Saved.{State, state_of, Entry, identity_bytes, VERSION_2}
 
 -- What an entry leaves, and what became of the entry.
 pub record Done (A : Type 0) : Type 0 where
@@ -27,7 +27,7 @@ done after outcome = record { after = after; outcome = outcome }
 -- The version may be behind it.
 abbrev pub is_same_device : Contents → List ℕ → Bool
 is_same_device m content =
-    bytes_eq content (identity_bytes m) || bytes_eq content (identity_bytes m ++ MARKED ∷ [])
+    bytes_eq content (identity_bytes m) || bytes_eq content (identity_bytes m ++ VERSION_2 ∷ [])
 
 -- The entry names this device, or another one.
 abbrev pub identity_outcome : Contents → AttributeName → List ℕ → Outcome
@@ -38,7 +38,8 @@ identity_outcome m name content =
 
 -- ---- the ledger
 
--- What is kept of a command: its reply if it is done, its ticket if it is pending, and neither if it is in doubt.
+-- What is kept of a command: its reply if it is done, its ticket if it is pending, neither if it is in doubt, and an empty
+-- reply with the ticket 0 if it was withdrawn.
 pub record KeptState : Type 0 where
   pub reply : Option (List ℕ)
   pub ticket : Option ℕ
@@ -51,7 +52,8 @@ abbrev pub state_in : ℕ → List ℕ → Option KeptState
 state_in state content =
     if state == 0 then Some (kept_state (Some content) None)
     else (if (state == 1) && (length content == 4) then Some (kept_state None (Some (number_at 0 4 content)))
-    else (if (state == 2) && (length content == 0) then Some (kept_state None None) else None))
+    else (if (state == 2) && (length content == 0) then Some (kept_state None None)
+    else (if (state == 3) && (length content == 0) then Some (kept_state (Some []) (Some 0)) else None)))
 
 abbrev pub slot_with : List ℕ → KeptState → SlotState
 slot_with content kept = record {

@@ -1,10 +1,11 @@
 -- The entries in which the state of a device is saved.
-use Rattle.std.specs.Prelude.{ℕ, suc, if◌then◌else◌, List, [], ◌∷◌, ◌++◌, map, Option, Some, None}
+use Rattle.std.specs.Prelude.{ℕ, suc, Bool, false, not, ◌||◌, if◌then◌else◌, List, [], ◌∷◌, ◌++◌, map, Option, Some, None}
+use Rattle.std.specs.List.{list_any}
 use Rattle.cip_application.specs.declared.object.AttributeName.{AttributeName}
 use Rattle.cip_bytes.specs.Numbers.{le}
 use Rattle.cip_bytes.specs.declared.protocol.TheConstants.{IDENTITY}
 use Rattle.cip_ledger.specs.declared.request.TheConstants.{LEDGER}
-use Rattle.cip_ledger.specs.Ledger.{SlotState, LedgerState}
+use Rattle.cip_ledger.specs.Ledger.{SlotState, LedgerState, is_withdrawn}
 use Rattle.cip_objects.specs.Contents.{Contents, bytes_at}
 use Rattle.cip_objects.specs.Kept.{kept_names}
 use Rattle.cip_owner.specs.Queue.{QueueState}
@@ -30,8 +31,37 @@ entry_of key content = record { key = key; content = content }
 abbrev pub identity_bytes : Contents → List ℕ
 identity_bytes m = bytes_at m IDENTITY 1 1 ++ (bytes_at m IDENTITY 1 3 ++ bytes_at m IDENTITY 1 6)
 
-abbrev pub identity_entry : Contents → Entry
-identity_entry m = entry_of (key_of IDENTITY 1 0) (identity_bytes m)
+-- ---- the version
+
+-- A state that an older program would misread has version 2. Any other one has version 1, which is not written.
+abbrev pub VERSION_2 : ℕ
+VERSION_2 = 2
+
+-- Whether commands of the queue may wait that no owner was handed: the queue has a mark then.
+abbrev pub has_mark : Option QueueState → Bool
+has_mark None = false
+has_mark (Some q) = not (has_handed_all q)
+
+-- Whether a slot of the ledger has a command that was withdrawn.
+abbrev pub has_withdrawn : Option LedgerState → Bool
+has_withdrawn None = false
+has_withdrawn (Some ledger) = list_any is_withdrawn ledger.taken
+
+-- A program that knows neither marks nor withdrawn commands would take the queue for a lost one, or the slot for a
+-- damaged one, and start with an empty ledger.
+abbrev pub needs_version_2 : Option QueueState → Option LedgerState → Bool
+needs_version_2 queue ledger = has_mark queue || has_withdrawn ledger
+
+-- Which device it is, and behind it the version if it is 2. A program of version 1 takes it for another device then, and
+-- refuses the state.
+abbrev pub with_version : Bool → List ℕ → List ℕ
+with_version is_version_2 content = if is_version_2 then content ++ VERSION_2 ∷ [] else content
+
+-- The first entry.
+abbrev pub first_entry : Contents → Bool → Entry
+first_entry m is_version_2 = entry_of (key_of IDENTITY 1 0) (with_version is_version_2 (identity_bytes m))
+
+-- ---- the entries
 
 -- The number of the device's life.
 abbrev pub life_entry : ℕ → Entry
@@ -42,10 +72,11 @@ abbrev pub unreplied_bytes : Option ℕ → List ℕ
 unreplied_bytes None = 2 ∷ []
 unreplied_bytes (Some ticket) = 1 ∷ le 4 ticket
 
--- The state of a command, and what is kept of it: 0 and its reply if it is done.
+-- The state of a command, and what is kept of it: 0 and its reply if it is done, and 3 if it was withdrawn.
 abbrev pub state_bytes : Option (List ℕ) → Option ℕ → List ℕ
 state_bytes None ticket = unreplied_bytes ticket
-state_bytes (Some reply) ticket = 0 ∷ reply
+state_bytes (Some reply) None = 0 ∷ reply
+state_bytes (Some reply) (Some ticket) = 3 ∷ []
 
 -- A slot: the originator, the number of its last command, the state of the command, and its reply or its ticket.
 abbrev pub slot_bytes : SlotState → List ℕ
@@ -69,25 +100,15 @@ value_entry m name =
 abbrev pub value_entries : Contents → List Entry
 value_entries m = map (value_entry m) (kept_names m.shapes)
 
--- All entries: which device it is, the ledger, and each value that is kept, in the order of the configuration.
+-- All entries of a device without a queue: which device it is, the ledger, and each value that is kept, in the order of
+-- the configuration.
 abbrev pub saved : State → List Entry
-saved s = identity_entry s.objects ∷ (ledger_entries s.ledger ++ value_entries s.objects)
+saved s =
+    first_entry s.objects (needs_version_2 None s.ledger) ∷ (ledger_entries s.ledger ++ value_entries s.objects)
 
--- ---- the version
-
--- The version of a state with a mark. One without marks has version 1, which is not written.
-abbrev pub MARKED : ℕ
-MARKED = 2
-
--- Which device it is, and the version behind it if commands of the queue may wait that no owner has seen. A program of
--- version 1 takes it for another device then, and refuses the state.
-abbrev pub with_version : Option QueueState → List ℕ → List ℕ
-with_version None content = content
-with_version (Some q) content = if has_handed_all q then content else content ++ MARKED ∷ []
-
--- Which device it is, with the version, and each value that is kept: the entries but those of the ledger and of the queue.
-abbrev pub object_entries : Contents → Option QueueState → List Entry
-object_entries m queue = entry_of (key_of IDENTITY 1 0) (with_version queue (identity_bytes m)) ∷ value_entries m
+-- Which device it is, and each value that is kept: the entries but those of the ledger and of the queue.
+abbrev pub object_entries : Contents → Bool → List Entry
+object_entries m is_version_2 = first_entry m is_version_2 ∷ value_entries m
 
 -- An entry, if there is one: its key, and the bytes that were written.
 abbrev pub entry_in : Option ℕ → List ℕ → Option Entry

@@ -3,17 +3,19 @@ ghost use Rattle.arrayvec.specs.ArrayVec.{array_vec_len};
 ghost use Rattle.std.specs.Prelude.{◌≡◌, ◌<◌, ◌^◌, option_map};
 ghost use Rattle.device_state.specs.Keys.{key_of};
 ghost use Rattle.device_state.specs.Restored.{is_same_device};
-ghost use Rattle.device_state.specs.Saved.{identity_bytes, with_version};
+ghost use Rattle.device_state.specs.Saved.{has_mark, has_withdrawn, identity_bytes, needs_version_2, with_version};
 
 use crate::key::key_of;
+use crate::ledger::has_withdrawn;
 use crate::queue::has_handed_all;
 use cip_bytes::protocol::IDENTITY;
 use cip_bytes::{append, append_u8};
+use cip_ledger::Ledger;
 use cip_objects::{Objects, ReplyBuf};
 use cip_owner::Queue;
 
-/// The version of a state with a mark. One without marks has version 1, which is not written.
-const MARKED: u8 = 2;
+/// The version of a state with a mark or a withdrawn command. Any other one has version 1, which is not written.
+const VERSION_2: u8 = 2;
 
 /// The key of the entry that says which device it is.
 pub fn identity_key() -> u64
@@ -36,16 +38,34 @@ pub(crate) fn write_identity(objects: &Objects, bytes: &mut ReplyBuf)
     append(bytes, &part);
 }
 
-/// Writes the same, and behind it the version of the state, if commands of the queue may wait that no owner has seen.
-pub(crate) fn write_versioned(objects: &Objects, queue: Option<&Queue>, bytes: &mut ReplyBuf)
-    ensures { bytes.new.items ≡ with_version (option_map (λ q. q.now) queue.entry) (identity_bytes objects.now) }
+/// Writes the same, and behind it the version of the state if that is 2.
+pub(crate) fn write_versioned(objects: &Objects, is_version_2: bool, bytes: &mut ReplyBuf)
+    ensures { bytes.new.items ≡ with_version is_version_2 (identity_bytes objects.now) }
 {
     write_identity(objects, bytes);
-    if let Some(queue) = queue {
-        if !has_handed_all(queue) {
-            append_u8(bytes, MARKED);
-        }
+    if is_version_2 {
+        append_u8(bytes, VERSION_2);
     }
+}
+
+/// Whether a state has version 2: commands of its queue may wait that no owner was handed, or its ledger has a command that
+/// was withdrawn. An older program would misread either, so it must refuse the state.
+///
+/// ```
+/// let is_version_2 = needs_version_2(adapter.queue(), adapter.ledger());
+/// ```
+pub fn needs_version_2(queue: Option<&Queue>, ledger: Option<&Ledger>) -> bool
+    ensures { result ≡ needs_version_2 (option_map (λ q. q.now) queue.entry) (option_map (λ l. l.now) ledger.entry) }
+{
+    let has_mark = match queue {
+        Some(queue) => !has_handed_all(queue),
+        None => false,
+    };
+    let has_withdrawn = match ledger {
+        Some(ledger) => has_withdrawn(ledger),
+        None => false,
+    };
+    has_mark || has_withdrawn
 }
 
 /// Whether entries are of this device: `bytes` is what its entry of `identity_key` holds, with the version of the state or
@@ -64,6 +84,6 @@ pub fn is_same_device(objects: &Objects, bytes: &[u8]) -> bool
     if bytes == own.as_slice() {
         return true;
     }
-    append_u8(&mut own, MARKED);
+    append_u8(&mut own, VERSION_2);
     bytes == own.as_slice()
 }

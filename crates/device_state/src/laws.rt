@@ -1,6 +1,6 @@
 //! What holds of a device that starts from what was saved. The functions do nothing: their clauses are the laws.
 
-ghost use Rattle.device_state.specs.Laws.{saved_law, used_law, others_law, other_device_law, version_law, marked_law};
+ghost use Rattle.device_state.specs.Laws.{saved_law, used_law, others_law, other_device_law, version_law, version_2_law};
 ghost use Rattle.device_state.specs.QueueEntries.{queue_law};
 
 /// A device of the same configuration that starts from what was saved of a device uses every entry. Its ledger is the
@@ -25,14 +25,15 @@ pub fn other_device_is_reported()
     ensures { other_device_law }
 {}
 
-/// The entry that says which device it is belongs to the same device, with the version of the state and without.
+/// The first entry of a state, which says which device it is, is used by the same device, with either version.
 pub fn either_version_is_used()
     ensures { version_law }
 {}
 
-/// With a mark this entry is not one that a program of version 1 writes, for any device: such a program refuses the state.
-pub fn marked_states_are_refused_by_version_1()
-    ensures { marked_law }
+/// With a mark or a withdrawn command this entry is not one that a program of version 1 writes, for any device: such a program
+/// refuses the state.
+pub fn version_1_refuses_version_2()
+    ensures { version_2_law }
 {}
 
 /// A queue with as many places that starts from the entries of a queue is that queue: the next ticket, what was handed over,

@@ -1,8 +1,9 @@
 //! The entries of the command ledger.
 ghost use Rattle.std.specs.Prelude.{◌≡◌, ◌<◌, ◌≤◌, ◌^◌, length, slice_get, Some, IfSome};
 ghost use Rattle.cip_ledger.specs.Kept.{kept_in};
+ghost use Rattle.cip_ledger.specs.Ledger.{is_withdrawn};
 ghost use Rattle.device_state.specs.Restored.{done, slot_in, life_done, slot_done, ledger_done};
-ghost use Rattle.device_state.specs.Saved.{entry_in, ledger_entries, slot_bytes};
+ghost use Rattle.device_state.specs.Saved.{entry_in, has_withdrawn, ledger_entries, slot_bytes};
 
 use crate::key::key_of;
 use crate::restoring::Outcome;
@@ -20,6 +21,9 @@ const PENDING: u8 = 1;
 /// The state of a command that is in doubt.
 const IN_DOUBT: u8 = 2;
 
+/// The state of a command that was withdrawn.
+const WITHDRAWN: u8 = 3;
+
 /// The bytes of a slot before the reply or the ticket: the originator, the number and the state.
 const SLOT_HEAD: usize = 13;
 
@@ -35,7 +39,8 @@ fn write_slot(kept: KeptCommand<'_>, bytes: &mut ReplyBuf)
     append(bytes, &kept.originator.to_le_bytes());
     append_u32(bytes, kept.number);
     match (kept.reply, kept.ticket) {
-        (Some(reply), _) => {
+        (Some(_), Some(_)) => append_u8(bytes, WITHDRAWN),
+        (Some(reply), None) => {
             append_u8(bytes, DONE);
             append(bytes, reply);
         }
@@ -45,6 +50,32 @@ fn write_slot(kept: KeptCommand<'_>, bytes: &mut ReplyBuf)
         }
         (None, None) => append_u8(bytes, IN_DOUBT),
     }
+}
+
+/// Whether a slot has a command that was withdrawn.
+pub(crate) fn has_withdrawn(ledger: &Ledger) -> bool
+    ensures { result ≡ has_withdrawn (Some ledger.now) }
+{
+    for index in 0..ledger.slot_count() {
+        let Some(kept) = ledger.slot(index) else {
+            return false;
+        };
+        if is_withdrawn(kept) {
+            return true;
+        }
+    }
+    false
+}
+
+/// Whether the last command in a slot was withdrawn.
+///
+/// ```
+/// let is_never_executed = ledger.slot(0).is_some_and(is_withdrawn);
+/// ```
+pub fn is_withdrawn(kept: KeptCommand<'_>) -> bool
+    ensures { result ≡ is_withdrawn (kept_in kept.entry) }
+{
+    kept.reply.is_some() && kept.ticket.is_some()
 }
 
 /// The key of an entry of the ledger, by its index: the life, then the slots. Its bytes are written to `bytes`. `None`
@@ -102,6 +133,7 @@ fn restore_slot(ledger: &mut Ledger, bytes: &[u8]) -> Outcome
             (None, Some(LittleEndian::read_u32(&bytes[SLOT_HEAD..])))
         }
         IN_DOUBT if bytes.len() == SLOT_HEAD => (None, None),
+        WITHDRAWN if bytes.len() == SLOT_HEAD => (Some(b"".as_slice()), Some(0)),
         _ => return Outcome::Unfit,
     };
     let kept = KeptCommand {

@@ -7,9 +7,13 @@
 //! `specs/Restored.antt` the device after them. [`laws`] states that a device of the same configuration that starts from
 //! what was saved goes on with the same values and the same ledger.
 //!
+//! A state has version 2 if commands of its queue may wait that no owner was handed, or if its ledger has a command that was
+//! withdrawn. Its first entry says so, and an older program refuses it as that of another device. Any other state is one that
+//! an older program reads as well.
+//!
 //! The queue has [`QUEUE_ENTRIES`] entries of its own, each with a number: [`write_queue_entry`] writes one, and
 //! [`restore_queue_entry`] puts one back. `specs/QueueEntries.antt` defines both. With a queue, [`object_entry`] gives the
-//! other entries, but those of the ledger: the first one has the version of the state.
+//! other entries, but those of the ledger: the first one has the version that [`needs_version_2`] says.
 //!
 //! A key has 48 bits: the class, the instance and the attribute. The entries come in the order of the configuration, so
 //! a saved form that wants rising keys sorts them. They are the whole state, and replace those that were saved before:
@@ -39,7 +43,8 @@ mod queue;
 mod restoring;
 mod saving;
 
-pub use identity::{identity_key, is_same_device};
+pub use identity::{identity_key, is_same_device, needs_version_2};
+pub use ledger::is_withdrawn;
 pub use queue::{QUEUE_ENTRIES, restore_queue_entry, write_queue_entry};
 pub use restoring::{Outcome, restore};
 pub use saving::{object_entry, saved_entry};

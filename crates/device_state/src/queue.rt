@@ -46,8 +46,8 @@ pub fn write_queue_entry(queue: &Queue, number: u16, bytes: &mut ReplyBuf)
     write_place(queue, usize::from(number - 1), bytes);
 }
 
-/// Writes the next ticket to `bytes`, in place of their old content, and behind it the greatest ticket that was handed
-/// over, unless each one was that was given.
+/// Writes the next ticket to `bytes`, in place of their old content, and behind it the mark, the greatest ticket that was
+/// handed over, unless that is the last one that was given.
 fn write_next(queue: &Queue, bytes: &mut ReplyBuf)
     ensures { bytes.new.items ≡ next_bytes queue.now }
 {
@@ -59,7 +59,7 @@ fn write_next(queue: &Queue, bytes: &mut ReplyBuf)
     }
 }
 
-/// Whether each ticket that was given was handed over.
+/// Whether the greatest ticket that was handed over is the last one that was given.
 pub(crate) fn has_handed_all(queue: &Queue) -> bool
     ensures { result ≡ has_handed_all queue.now }
 {

@@ -2,20 +2,20 @@
 ghost use Rattle.std.specs.Prelude.{◌≡◌, ◌<◌, ◌^◌, ◌++◌, Some, IfSome, slice_get, option_map};
 ghost use Rattle.device_state.specs.Saved.{state_of, saved, ledger_entries, value_entries, object_entries, entry_in};
 
-use crate::identity::{identity_key, write_identity, write_versioned};
+use crate::identity::{identity_key, needs_version_2, write_versioned};
 use crate::key::key_of;
 use crate::ledger::ledger_entry;
 use cip_ledger::Ledger;
 use cip_objects::{Objects, ReplyBuf};
-use cip_owner::Queue;
 
-/// The key of an entry by its index, and its bytes, which are written to `bytes` in place of the old content. `None` past
-/// the last entry. The first says which device it is. Then come the ledger, if there is one, and the values that are kept,
-/// in the order of the configuration.
+/// The key of an entry of a device without a queue, by the entry's index, and its bytes, which are written to `bytes` in
+/// place of the old content. `None` past the last entry. The first says which device it is; behind that is the version of
+/// the state, 2, if the ledger has a command that was withdrawn. Then come the ledger, if there is one, and the values that
+/// are kept, in the order of the configuration.
 ///
 /// ```
 /// let mut bytes = ReplyBuf::new();
-/// let first = saved_entry(adapter.objects(), adapter.ledger(), 0, &mut bytes); // `identity_key()`, and 8 bytes
+/// let first = saved_entry(adapter.objects(), adapter.ledger(), 0, &mut bytes); // `identity_key()`, and 8 or 9 bytes
 /// ```
 pub fn saved_entry(
     objects: &Objects,
@@ -27,7 +27,7 @@ pub fn saved_entry(
     ensures small { IfSome result (λ key. key < 2 ^ 48) }
 {
     if index == 0 {
-        write_identity(objects, bytes);
+        write_versioned(objects, needs_version_2(None, ledger), bytes);
         return Some(identity_key());
     }
     match ledger {
@@ -37,25 +37,27 @@ pub fn saved_entry(
 }
 
 /// The key of an entry of the objects by its index, and its bytes, which are written to `bytes` in place of the old content.
-/// `None` past the last entry. The first says which device it is, as `saved_entry` has it; behind that is the version of the
-/// state, 2, if commands of the queue may wait that no owner has seen. Then come the values. Keep these entries if you keep
-/// those of a queue (`write_queue_entry`): an earlier program, which knows no marks, refuses them as those of another device.
+/// `None` past the last entry. The first says which device it is; behind that is the version of the state if it is 2, as
+/// `needs_version_2` says. Then come the values. Keep these entries if you keep those of a queue (`write_queue_entry`). An
+/// older program refuses a state of version 2 as that of another device.
 ///
 /// ```
-/// let first = object_entry(adapter.objects(), adapter.queue(), 0, &mut bytes); // `identity_key()`, and 8 or 9 bytes
+/// let is_version_2 = needs_version_2(adapter.queue(), adapter.ledger());
+/// // `identity_key()`, and 8 or 9 bytes
+/// let first = object_entry(adapter.objects(), is_version_2, 0, &mut bytes);
 /// ```
 pub fn object_entry(
     objects: &Objects,
-    queue: Option<&Queue>,
+    is_version_2: bool,
     index: usize,
     bytes: &mut ReplyBuf,
 ) -> Option<u64>
     ensures entry { entry_in result bytes.new.items
-        ≡ slice_get (object_entries objects.now (option_map (λ q. q.now) queue.entry)) index }
+        ≡ slice_get (object_entries objects.now is_version_2) index }
     ensures small { IfSome result (λ key. key < 2 ^ 48) }
 {
     if index == 0 {
-        write_versioned(objects, queue, bytes);
+        write_versioned(objects, is_version_2, bytes);
         return Some(identity_key());
     }
     value_entry(objects, index - 1, bytes)

@@ -42,10 +42,10 @@ use Rattle.enip_adapter.specs.declared.shared.Shared.{Shared}
 use Rattle.enip_adapter.specs.Asks.{asks_by_reached, asks_by_step, asks_by_steps, asks_of_call, asks_of_calls, asks_by_requests, with_reply, after_asking, asking_adapter, calls_asking, asked_adapter}
 use Rattle.enip_adapter.specs.Calls.{AdapterState, Call, after_call, call_answer, call_meaning, bytes_held, piece_to, piece_meaning, dropped_piece, events_of_parsed}
 use Rattle.enip_adapter.specs.Calls.Call.{Feeds, Writes}
-use Rattle.enip_adapter.specs.DeviceRuns.{DeviceStep, Requested, device_steps, steps_of_calls, objects_after, objects_answer, objects_after_steps, reached_by_steps, reached_by_step, steps_by_event, device_after, device_after_step, journal_by_step, journal_by_steps}
+use Rattle.enip_adapter.specs.DeviceRuns.{DeviceStep, Requested, WrittenBy, reached_by_withdrawal, device_steps, steps_of_calls, objects_after, objects_answer, objects_after_steps, reached_by_steps, reached_by_step, steps_by_event, device_after, device_after_step, journal_by_step, journal_by_steps}
 use Rattle.enip_adapter.specs.DeviceRuns.{requests_by_rights, requests_by_route, requests_in_rr, requests_by_connection, requests_by_target, requests_in_unit, requests_by_command, requests_in_frame, requests_by_session}
 use Rattle.enip_adapter.specs.OwnerLaws.{owned_in, answer_by, HadValue, EndsNone, IsRepeat, no_answer, no_change, asks_call_by_call, asking_events, asking_journal_by_steps}
-use Rattle.enip_adapter.specs.OwnWrites.{OwnWrite, objects_written, device_written, Prepares}
+use Rattle.enip_adapter.specs.OwnWrites.{OwnWrite, objects_written, device_written, Prepares, Withdraws}
 use Rattle.enip_adapter.specs.Replies.{is_registered_as}
 use Rattle.enip_adapter.specs.Rights.{is_refused}
 use Rattle.enip_adapter.specs.Runs.{after_calls, events_of_calls}
@@ -56,8 +56,9 @@ use Rattle.enip_adapter.proofs.DeviceLemmas.{objects-end, events-end, commands-o
 use Rattle.enip_adapter.proofs.ListLemmas.{both}
 use Rattle.enip_adapter.proofs.PeerLemmas.{at_state}
 use Rattle.enip_adapter.proofs.WrittenLemmas.{own-alike}
-use Rattle.enip_adapter.proofs.SettleLemmas.{through_by_action, through_by, through, written-through}
+use Rattle.enip_adapter.proofs.SettleLemmas.{through_by_action, through_by, through, router-alike, written-through}
 use Rattle.enip_adapter.proofs.StandingLemmas.{Stands, fate-stands, fate-alike}
+use Rattle.enip_adapter.proofs.WithdrawalLemmas.{by-ticket}
 
 -- ---- at most one
 
@@ -374,9 +375,17 @@ asked-alike a write now peer piece had none =
     let requests : List Request = feed_requests a now peer piece in
     feed-asks (after_call a (Writes write)) now peer piece
     ∙ (reached-asks (device_written write device) requests
+    ∙ (ap (λ (o : OwnedState). asks_of o.objects (through_of (device_written write device).ledger requests))
+    (router-alike write device none)
     ∙ (ap (asks_of (objects_written write (owned_in a)).objects) (through-alike write device requests none)
     ∙ (asks-alike write (owned_in a) (through_of device.ledger requests) had
-    ∙ (sym (reached-asks device requests) ∙ sym (feed-asks a now peer piece)))))
+    ∙ (sym (reached-asks device requests) ∙ sym (feed-asks a now peer piece))))))
+
+-- what a request withdraws asks nothing
+pub withdraw-asks : (device : Device) (text : List ℕ) → asks_by_step device (WrittenBy (Withdraws text)) ≡ []
+withdraw-asks device text =
+    by-ticket (λ d ticket. flat_map (asks_by_reached device.router.objects) (reached_by_withdrawal ticket) ≡ []) device text
+    refl (λ ledger w is facts. refl) (λ ledger w ticket is facts of not_handed some. refl)
 
 -- ---- a repeat
 

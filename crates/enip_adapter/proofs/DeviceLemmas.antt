@@ -16,6 +16,7 @@ use Rattle.cip_ledger.specs.Runs.{Event as LedgerEvent}
 use Rattle.cip_ledger.specs.Laws.{HasNoDoubles, Rises, UntilFreed, IsNotFreed}
 use Rattle.cip_ledger.specs.Services.{Replies, Executes as ExecutesCommand, Queues, Frees, DONE, PENDING}
 use Rattle.cip_ledger.specs.Turn.{Fate, Passed, Served as ServedByLedger, fate, embedded_reply}
+use Rattle.cip_ledger.specs.Withdrawing.{withdrawal_result}
 use Rattle.cip_ledger.proofs.Answered.{rises-apart}
 use Rattle.cip_ledger.proofs.Fates.{Means, fate-means}
 use Rattle.cip_ledger.proofs.Settled.{Settled, next_by, settled-run, settled-command, settled-queued, journal-above, router-reached}
@@ -39,8 +40,8 @@ use Rattle.enip_adapter.specs.DeviceRuns.{requests_by_route, requests_in_rr, req
 use Rattle.enip_adapter.specs.DeviceRuns.{DeviceStep, Requested, WrittenBy, steps_by_event, device_steps, steps_of_calls}
 use Rattle.enip_adapter.specs.DeviceRuns.{IsNoWrite, device_requests, requests_of_calls}
 use Rattle.enip_adapter.specs.DeviceRuns.{device_after_step, device_after, objects_after_step, objects_after_steps}
-use Rattle.enip_adapter.specs.DeviceRuns.{reached_by_step, reached_by_steps, journal_by_steps}
-use Rattle.enip_adapter.specs.OwnWrites.{device_written}
+use Rattle.enip_adapter.specs.DeviceRuns.{reached_by_withdrawal, reached_by_write, reached_by_step, reached_by_steps, journal_by_steps}
+use Rattle.enip_adapter.specs.OwnWrites.{OwnWrite, WritesData, WritesAttribute, SetsStatus, SetsState, Prepares, Settles, Finishes, Marks, Withdraws, router_written, device_written}
 use Rattle.enip_adapter.specs.Replies.{Served, leaving, is_registered_as}
 use Rattle.enip_adapter.specs.Rights.{is_refused, after_for, answer_for}
 use Rattle.enip_adapter.specs.Runs.{after_calls, events_of_calls}
@@ -51,7 +52,8 @@ use Rattle.enip_adapter.specs.Turn.Event.{Begin, End, At, Framed, Long, Written}
 use Rattle.enip_adapter.proofs.EventLemmas.{state-events}
 use Rattle.enip_adapter.proofs.ListLemmas.{both}
 use Rattle.enip_adapter.proofs.BeginLemmas.{each-begun}
-use Rattle.enip_adapter.proofs.SettleLemmas.{written-settled}
+use Rattle.enip_adapter.proofs.SettleLemmas.{finished-router, written-settled}
+use Rattle.enip_adapter.proofs.WithdrawalLemmas.{by-ticket}
 
 -- The device after these requests.
 abbrev Ends : Device → Device → List Request → Type 0
@@ -263,12 +265,27 @@ objects-two : (objects : OwnedState) (first second : List DeviceStep)
 objects-two objects [] second = refl
 objects-two objects (step ∷ first) second = objects-two (objects_after_step objects step) first second
 
+written-reached : (write : OwnWrite) (device : Device)
+    → router_written write device ≡ objects_after_steps device.router (reached_by_write write device)
+written-reached (WritesData instance offset bytes) device = refl
+written-reached (WritesAttribute class instance attribute offset bytes) device = refl
+written-reached (SetsStatus status) device = refl
+written-reached (SetsState state) device = refl
+written-reached (Prepares reply) device = refl
+written-reached (Settles originator number reply) device = refl
+written-reached (Finishes ticket reply) device = refl
+written-reached (Marks ticket) device = refl
+written-reached (Withdraws request) device =
+    by-ticket (λ d ticket. d.router ≡ objects_after_steps device.router (reached_by_withdrawal ticket)) device request
+    refl (λ ledger w is facts. refl)
+    (λ ledger w ticket is facts of not_handed some. finished-router ticket withdrawal_result device)
+
 pub step-reached : (device : Device) (step : DeviceStep)
     → (device_after_step device step).router ≡ objects_after_steps device.router (reached_by_step device step)
 step-reached device (Requested request) =
     router-reached objects_after objects_answer owned_standing (request ∷ []) device
     ∙ sym (objects-requests device.router (reached objects_after objects_answer owned_standing device (request ∷ [])))
-step-reached device (WrittenBy write) = refl
+step-reached device (WrittenBy write) = written-reached write device
 
 steps-reached : (steps : List DeviceStep) (device : Device)
     → (device_after device steps).router ≡ objects_after_steps device.router (reached_by_steps device steps)
@@ -299,7 +316,7 @@ above-append originator IsSo (ExecutedCommand command reply ∷ events) later is
 above-append originator IsSo (Freed freed ∷ events) later is more = λ other.
     above-append originator IsSo events later (is other) (λ kept. more (other, kept))
 
-above-steps : (steps : List DeviceStep) (device : Device) (originator number : ℕ) (content : List ℕ)
+pub above-steps : (steps : List DeviceStep) (device : Device) (originator number : ℕ) (content : List ℕ)
     → Settled number content (slot_in originator device.ledger)
     → UntilFreed originator (λ command. number < command.number) (journal_by_steps device steps)
 above-steps [] device originator number content settled = tt

@@ -1,5 +1,5 @@
 -- A command of the ledger whose queued command the device has finished is answered by the owner's reply.
-use Rattle.std.proofs.Common.{◌≡◌, ℕ, ◌+◌, length, true, if◌then◌else◌, Option, Some, None, unwrap_or, List, [], ◌∷◌, ap, ◌∙◌}
+use Rattle.std.proofs.Common.{◌≡◌, ℕ, ◌+◌, length, true, if◌then◌else◌, Option, Some, None, unwrap_or, List, ◌∷◌, ap, ◌∙◌}
 use Rattle.std.specs.Prelude.{option_map}
 use Rattle.cip_ledger.specs.declared.service.TheConstants as services
 use Rattle.cip_ledger.specs.Device.{Device, owned_standing, exec_device, FinishedCommand, finished_command, finished_of, finished_text, with_finished}

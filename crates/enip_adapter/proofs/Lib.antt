@@ -26,6 +26,7 @@ pub mod CauseLemmas
 pub mod DeviceLemmas
 pub mod AskLemmas
 pub mod ExecutingLemmas
+pub mod RequestedLemmas
 pub mod OwnerLemmas
 pub mod AskedLemmas
 pub mod WrittenLemmas
@@ -35,6 +36,8 @@ pub mod PendingLemmas
 pub mod KeepingLemmas
 pub mod FinishLemmas
 pub mod LedgerStepLemmas
+pub mod WithdrawnLemmas
+pub mod WithdrawalLemmas
 pub mod SettleLemmas
 pub mod RouteLemmas
 pub mod RightsLemmas

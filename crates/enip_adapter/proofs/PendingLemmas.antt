@@ -1,19 +1,21 @@
 -- A command of the ledger that is pending waits in the queue, whatever calls are made.
-use Rattle.std.proofs.Common.{◌≡◌, ◌≢◌, ◌⊎◌, inl, inr, ℕ, ◌+◌, ◌<◌, ◌≤◌, ◌==◌, ◌&&◌, Bool, true, false, cond, if◌then◌else◌, not, Option, Some, None, unwrap_or, Result, Ok, Err, List, [], ◌∷◌, ◌++◌, length, arith, refl, sym, ap, subst, ◌∙◌}
+use Rattle.std.proofs.Common.{◌≡◌, ◌≢◌, ◌⊎◌, inl, inr, ℕ, ◌≤◌, ◌==◌, ◌&&◌, Bool, true, false, cond, if◌then◌else◌, not, Option, Some, None, unwrap_or, Result, Ok, Err, List, [], ◌∷◌, ◌++◌, length, arith, refl, sym, ap, subst, ◌∙◌}
 use Rattle.std.specs.Prelude.{is_some, option_map}
 use Rattle.std.proofs.lemmas.Bool.{eq-eqb, eqb-true, eqb-false, le-leb, and_from}
 use Rattle.cip_application.specs.declared.config.ServiceKind.{ServiceKind}
 use Rattle.cip_application.specs.declared.config.ServiceKind.TheVariants as kinds
 use Rattle.cip_ledger.specs.declared.target.Standing.TheVariants as standings
+use Rattle.cip_ledger.specs.declared.withdrawal.Withdrawal.{Withdrawal}
 use Rattle.cip_ledger.specs.Device.{Device, owned_standing, standing_by_ticket, standing_of_kind, standing_in, queued_device}
 use Rattle.cip_ledger.specs.Device.{FinishedCommand, finished_command, finished_of, finished_text, with_finished}
 use Rattle.cip_ledger.specs.Doubt.{is_kept_reply, can_settle, with_last, settled}
-use Rattle.cip_ledger.specs.Ledger.{LedgerState, SlotState, empty_ledger, slot_of}
+use Rattle.cip_ledger.specs.Ledger.{LedgerState, SlotState, empty_ledger, slot_of, slot_withdrawn}
 use Rattle.cip_ledger.specs.Pending.{is_pending_at, has_ticket, done_with, completed_slot, with_completed, completed}
 use Rattle.cip_ledger.specs.Requests.{is_barred}
 use Rattle.cip_ledger.specs.Runs.{Request, slot_in}
 use Rattle.cip_ledger.specs.Services.{Replies, Executes, Queues, Frees, KEPT_LIMIT}
 use Rattle.cip_ledger.specs.Turn.{Fate, Passed, Served, fate, turn_by, with_taken, with_freed, slot_done, slot_queued, after_embedded, embedded_reply}
+use Rattle.cip_ledger.specs.Withdrawing.{has_place, with_withdrawn, withdrawal_result, with_withdrawal, found_by}
 use Rattle.cip_ledger.proofs.CompletedSlots.{slot_of-completed}
 use Rattle.cip_ledger.proofs.SlotLemmas.{slot_of-with_slot, slot_of-with_other, slot_of-without_slot, slot_of-without_other}
 use Rattle.cip_objects.specs.declared.status.Refusal.{Refusal}
@@ -28,12 +30,13 @@ use Rattle.cip_owner.proofs.QueueLemmas.{reply_is, by_mark}
 use Rattle.cip_owner.proofs.TicketLemmas.{others_stay}
 use Rattle.enip_adapter.specs.Calls.{AdapterState, Call}
 use Rattle.enip_adapter.specs.DeviceRuns.{DeviceStep, Requested, WrittenBy, device_after_step, device_after, objects_after, objects_answer, steps_of_calls}
-use Rattle.enip_adapter.specs.OwnWrites.{OwnWrite, WritesData, WritesAttribute, SetsStatus, SetsState, Prepares, Settles, Finishes, Marks, device_written}
+use Rattle.enip_adapter.specs.OwnWrites.{OwnWrite, WritesData, WritesAttribute, SetsStatus, SetsState, Prepares, Settles, Finishes, Marks, Withdraws, device_written}
 use Rattle.enip_adapter.specs.QueueLaws.{is_waiting, PendingWait}
 use Rattle.enip_adapter.specs.Runs.{after_calls}
 use Rattle.enip_adapter.proofs.DeviceLemmas.{calls-end}
 use Rattle.enip_adapter.proofs.SettleLemmas.{finished_written}
 use Rattle.enip_adapter.proofs.StandingLemmas.{Stands, fate-stands, IsFree, fate-free}
+use Rattle.enip_adapter.proofs.WithdrawalLemmas.{device_left, by-ticket}
 
 -- ---- what waits goes on to wait while others are pushed
 
@@ -305,6 +308,40 @@ settled-wait by number reply device wait = λ originator ticket slot found is.
     by_ledger (Some ledger) slot originator ticket found is =
         by_case ledger (can_settle ledger by number reply) slot originator ticket found is
 
+-- a command that was withdrawn is not pending
+withdrawn-wait : (w : Withdrawal) (device : Device) → PendingWait device → PendingWait (with_withdrawal w device)
+withdrawn-wait w device wait = λ originator ticket slot found is.
+    wait originator ticket slot (by_ledger device.ledger slot originator ticket found is) is
+  where
+    new : SlotState
+    new = slot_withdrawn w.originator w.number
+
+    by_place : (ledger : LedgerState) (place : Bool) (slot : SlotState) (originator ticket : ℕ)
+        → slot_of originator (if place then with_taken new ledger else ledger).taken ≡ Some slot
+        → is_pending_at ticket slot ≡ true → slot_of originator ledger.taken ≡ Some slot
+    by_place ledger false slot originator ticket found is = found
+    by_place ledger true slot originator ticket found is =
+        elim (taken-slot (Some ledger) new slot originator found) [
+          | inl same ↦ absurd (done_not_pending ticket slot new [] same refl is)
+          | inr before ↦ before
+        ]
+
+    by_ledger : (ledger : Option LedgerState) (slot : SlotState) (originator ticket : ℕ)
+        → slot_in originator (option_map (with_withdrawn w.originator w.number) ledger) ≡ Some slot
+        → is_pending_at ticket slot ≡ true → slot_in originator ledger ≡ Some slot
+    by_ledger None slot originator ticket found is = absurd (cc)
+    by_ledger (Some ledger) slot originator ticket found is =
+        by_place ledger (has_place ledger w.originator) slot originator ticket found is
+
+found-wait : (text : List ℕ) (device : Device) → PendingWait device → PendingWait (found_by text device)
+found-wait text device wait =
+    by-ticket (λ d ticket. PendingWait d) device text wait
+    (λ ledger w is facts. withdrawn-wait w device wait)
+    (λ ledger w ticket is facts of not_handed some.
+    withdrawn-wait w (device_left ticket device)
+    (subst PendingWait (sym (finished_written ticket withdrawal_result device))
+    (finished-wait ticket withdrawal_result device wait)))
+
 -- a mark leaves all that waits
 marked-waits : (queue : Option QueueState) (ticket other : ℕ) → is_waiting other queue ≡ true
     → is_waiting other (option_map (λ q. after_step q (Marked ticket)) queue) ≡ true
@@ -322,6 +359,7 @@ written-wait (Settles by number reply) device wait = settled-wait by number repl
 written-wait (Finishes ticket reply) device wait = finished-wait ticket reply device wait
 written-wait (Marks ticket) device wait = λ originator other slot found is.
     marked-waits device.router.queue ticket other (wait originator other slot found is)
+written-wait (Withdraws request) device wait = found-wait request device wait
 
 -- ---- lists of calls
 

@@ -1,9 +1,10 @@
 -- The queue after calls is the one after their pushes and finishes.
-use Rattle.std.proofs.Common.{◌≡◌, List, [], ◌∷◌, ◌++◌, map, Option, Some, None, append-nil, refl, sym, ap, ◌∙◌}
+use Rattle.std.proofs.Common.{◌≡◌, ℕ, List, [], ◌∷◌, ◌++◌, map, Option, Some, None, append-nil, refl, sym, ap, ◌∙◌}
 use Rattle.std.specs.Prelude.{option_map}
 use Rattle.cip_ledger.specs.Device.{Device, owned_standing}
 use Rattle.cip_ledger.specs.Runs.{Request, reached}
 use Rattle.cip_ledger.specs.Turn.{fate}
+use Rattle.cip_ledger.specs.Withdrawing.{withdrawal_result}
 use Rattle.cip_owner.specs.Owned.{OwnedState}
 use Rattle.cip_owner.specs.Queue.{QueueState}
 use Rattle.cip_owner.specs.QueueLaws.{HasTickets}
@@ -14,12 +15,14 @@ use Rattle.cip_owner.proofs.TicketLemmas.{tickets}
 use Rattle.enip_adapter.specs.Calls.{AdapterState, Call}
 use Rattle.enip_adapter.specs.DeviceRuns.{DeviceStep, Requested, WrittenBy, device_after_step, device_after, objects_after, objects_answer, objects_after_steps}
 use Rattle.enip_adapter.specs.DeviceRuns.{steps_of_calls}
-use Rattle.enip_adapter.specs.OwnWrites.{OwnWrite, WritesData, WritesAttribute, SetsStatus, SetsState, Prepares, Settles, Finishes, Marks, objects_written}
+use Rattle.enip_adapter.specs.OwnWrites.{OwnWrite, WritesData, WritesAttribute, SetsStatus, SetsState, Prepares, Settles, Finishes, Marks, Withdraws, router_written}
 use Rattle.enip_adapter.specs.OwnerLaws.{owned_in}
-use Rattle.enip_adapter.specs.QueueLaws.{AreHandedOver, queue_steps_by_write, queue_steps_by_reached, queue_steps_by_step, queue_steps_by_steps, queue_steps_of_calls}
+use Rattle.enip_adapter.specs.QueueLaws.{AreHandedOver, queue_steps_by_withdrawal, queue_steps_by_write, queue_steps_by_reached, queue_steps_by_step, queue_steps_by_steps, queue_steps_of_calls}
 use Rattle.enip_adapter.specs.Runs.{after_calls}
 use Rattle.enip_adapter.proofs.AskedLemmas.{AtMostOne, Zero, One, few-fate}
 use Rattle.enip_adapter.proofs.DeviceLemmas.{calls-end, step-reached}
+use Rattle.enip_adapter.proofs.SettleLemmas.{finished-router}
+use Rattle.enip_adapter.proofs.WithdrawalLemmas.{device_left, by-ticket}
 
 steps-two : (queue : QueueState) (first second : List QueueStep)
     → after_steps (after_steps queue first) second ≡ after_steps queue (first ++ second)
@@ -39,16 +42,24 @@ run-two : (queue : Option QueueState) (first second : List QueueStep)
 run-two None first second = refl
 run-two (Some queue) first second = ap Some (steps-two queue first second)
 
-written-queue : (write : OwnWrite) (owned : OwnedState)
-    → (objects_written write owned).queue ≡ run (queue_steps_by_write write) owned.queue
-written-queue (WritesData instance offset bytes) owned = run-nothing owned.queue
-written-queue (WritesAttribute class instance attribute offset bytes) owned = run-nothing owned.queue
-written-queue (SetsStatus status) owned = run-nothing owned.queue
-written-queue (SetsState state) owned = run-nothing owned.queue
-written-queue (Prepares reply) owned = run-nothing owned.queue
-written-queue (Settles originator number reply) owned = run-nothing owned.queue
-written-queue (Finishes ticket reply) owned = refl
-written-queue (Marks ticket) owned = refl
+left-queue : (ticket : ℕ) (device : Device)
+    → (device_left ticket device).router.queue ≡ run (queue_steps_by_withdrawal (Some ticket)) device.router.queue
+left-queue ticket device = ap (λ (o : OwnedState). o.queue) (finished-router ticket withdrawal_result device)
+
+written-queue : (write : OwnWrite) (device : Device)
+    → (router_written write device).queue ≡ run (queue_steps_by_write write device) device.router.queue
+written-queue (WritesData instance offset bytes) device = run-nothing device.router.queue
+written-queue (WritesAttribute class instance attribute offset bytes) device = run-nothing device.router.queue
+written-queue (SetsStatus status) device = run-nothing device.router.queue
+written-queue (SetsState state) device = run-nothing device.router.queue
+written-queue (Prepares reply) device = run-nothing device.router.queue
+written-queue (Settles originator number reply) device = run-nothing device.router.queue
+written-queue (Finishes ticket reply) device = refl
+written-queue (Marks ticket) device = refl
+written-queue (Withdraws request) device =
+    by-ticket (λ d ticket. d.router.queue ≡ run (queue_steps_by_withdrawal ticket) device.router.queue) device request
+    (run-nothing device.router.queue) (λ ledger w is facts. run-nothing device.router.queue)
+    (λ ledger w ticket is facts of not_handed some. left-queue ticket device)
 
 few-queue : (owned : OwnedState) (requests : List Request) → AtMostOne requests
     → (objects_after_steps owned (map Requested requests)).queue
@@ -65,7 +76,7 @@ step-queue device (Requested request) =
     ap (λ (o : OwnedState). o.queue) (step-reached device (Requested request))
     ∙ few-queue device.router (reached objects_after objects_answer owned_standing device (request ∷ []))
     (few-fate (fate owned_standing device.ledger device.router request.0 request.1) request)
-step-queue device (WrittenBy write) = written-queue write device.router
+step-queue device (WrittenBy write) = written-queue write device
 
 pub steps-queue : (steps : List DeviceStep) (device : Device)
     → (device_after device steps).router.queue ≡ run (queue_steps_by_steps device steps) device.router.queue

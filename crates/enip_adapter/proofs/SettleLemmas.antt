@@ -1,6 +1,7 @@
 -- Settling a command and finishing a queued one let the same requests through as before, and keep numbers settled.
 use Rattle.std.proofs.Common.{◌≡◌, ℕ, ◌==◌, nat_lt, not, Bool, true, false, if◌then◌else◌, Option, Some, None, unwrap_or, List, [], ◌∷◌, length, suc, refl, ap, sym, ◌∙◌}
 use Rattle.std.specs.Prelude.{◌&&◌, option_map}
+use Rattle.std.specs.Option.{option_and_then}
 use Rattle.std.proofs.lemmas.Bool.{and_parts}
 use Rattle.cip_bytes.specs.Numbers.{number_at}
 use Rattle.cip_ledger.specs.declared.service.TheConstants as services
@@ -12,6 +13,7 @@ use Rattle.cip_ledger.specs.Reaching.{listed, embedded_by}
 use Rattle.cip_ledger.specs.Requests.{LedgerRequest, Command, command_of, ledger_request}
 use Rattle.cip_ledger.specs.Runs.{Request, slot_in}
 use Rattle.cip_ledger.specs.Services.{Action, Frees, refuses, size_fault, unless, do_by_slot, do_command, forget, forget_in, action_of}
+use Rattle.cip_ledger.specs.Withdrawing.{withdrawal_of, withdrawn_from, found_by}
 use Rattle.cip_ledger.proofs.Doubts.{settled-numbers, settled-stays}
 use Rattle.cip_ledger.proofs.OnePending.{waits, settled-waits, completed-none}
 use Rattle.cip_ledger.proofs.Pendings.{completed-stays}
@@ -21,7 +23,8 @@ use Rattle.cip_owner.specs.Owned.{OwnedState}
 use Rattle.cip_owner.specs.Queue.{QueueState, QueuedCommand, command_of as waiting_command, finished_by, finished}
 use Rattle.cip_owner.specs.Replies.{Reply}
 use Rattle.enip_adapter.specs.OwnerLaws.{EndsNone}
-use Rattle.enip_adapter.specs.OwnWrites.{OwnWrite, WritesData, WritesAttribute, SetsStatus, SetsState, Prepares, Settles, Finishes, Marks, objects_written, ledger_written, device_written}
+use Rattle.enip_adapter.proofs.WithdrawalLemmas.{found-ledger, withdrawn-stays}
+use Rattle.enip_adapter.specs.OwnWrites.{OwnWrite, WritesData, WritesAttribute, SetsStatus, SetsState, Prepares, Settles, Finishes, Marks, Withdraws, objects_written, router_written, ledger_written, device_written}
 
 -- ---- what the ledger alone lets through
 
@@ -114,7 +117,8 @@ module _ (new ledger : LedgerState) (same : HaveSameNumbers new ledger) (max_siz
       (forget-through new asked.data ∙ sym (forget-through ledger asked.data))
       (through_if (asked.service == 0x0e) _ _ _ _ refl
       (through_if (asked.service == 0x03) _ _ _ _ refl
-      (through_if (asked.service == services.GET_SLOTS) _ _ _ _ refl refl))))))
+      (through_if (asked.service == services.GET_SLOTS) _ _ _ _ refl
+      (through_if (asked.service == services.WITHDRAW) _ _ _ _ refl refl)))))))
       refl)
 
 -- The same of a request is let through.
@@ -228,6 +232,27 @@ finished_written ticket reply device =
 
 -- ---- the device's own writes
 
+-- a request that withdraws nothing leaves the device as it was
+pub ends-none : (text : List ℕ) (device : Device) → EndsNone device.ledger (Withdraws text) → found_by text device ≡ device
+ends-none text device none = go device.ledger refl none
+  where
+    go : (ledger : Option LedgerState) → device.ledger ≡ ledger → EndsNone ledger (Withdraws text)
+        → unwrap_or (option_and_then (withdrawn_from device) (withdrawal_of ledger text)) device ≡ device
+    go None is none = refl
+    go (Some ledger) is none = ap (λ o. unwrap_or (option_and_then (withdrawn_from device) o) device) none
+
+pub router-alike : (write : OwnWrite) (device : Device) → EndsNone device.ledger write
+    → router_written write device ≡ objects_written write device.router
+router-alike (WritesData instance offset bytes) device none = refl
+router-alike (WritesAttribute class instance attribute offset bytes) device none = refl
+router-alike (SetsStatus status) device none = refl
+router-alike (SetsState state) device none = refl
+router-alike (Prepares reply) device none = refl
+router-alike (Settles by given reply) device none = refl
+router-alike (Finishes ticket reply) device none = refl
+router-alike (Marks ticket) device none = refl
+router-alike (Withdraws text) device none = ap (λ (d : Device). d.router) (ends-none text device none)
+
 pub written-through : (write : OwnWrite) (device : Device) (request : Request) → EndsNone device.ledger write
     → LetsThrough request (ledger_written write device) device.ledger
 written-through (WritesData instance offset bytes) device request none = refl
@@ -242,6 +267,8 @@ written-through (Settles by given reply) device request none = by_ledger device.
     by_ledger None = refl
     by_ledger (Some ledger) = alike-through (settled ledger by given reply) ledger request (settled-same ledger by given reply)
 written-through (Marks ticket) device request none = refl
+written-through (Withdraws text) device request none =
+    ap (λ (d : Device). through d.ledger request) (ends-none text device none)
 written-through (Finishes ticket reply) device request none =
     go device.ledger _ (finished-ledger ticket reply device) none
   where
@@ -272,6 +299,10 @@ written-settled (Settles by given reply) device originator number kept is = by_l
     by_ledger None is = absurd is
     by_ledger (Some ledger) is = settled-stays ledger by given reply originator number kept is
 written-settled (Marks ticket) device originator number kept is = (kept, is)
+written-settled (Withdraws text) device originator number kept is =
+    found-ledger (StaysSettled originator number) device text
+    (λ ledger by own held. withdrawn-stays ledger by own originator number held.0 held.1)
+    (λ ledger ticket reply held. completed-stays ledger ticket reply originator number held.0 held.1) (kept, is)
 written-settled (Finishes ticket reply) device originator number kept is =
     go device.ledger _ (finished-ledger ticket reply device) is
   where

@@ -18,7 +18,7 @@ use Rattle.cip_objects.specs.OwnRequests.{own_object, own_service, if_checked, c
 use Rattle.cip_objects.specs.Tables.{Shape, AttributeShape, shape_at, object_at, attribute_at}
 use Rattle.cip_objects.proofs.ReadAfterSet.{value_at-with_value}
 use Rattle.cip_owner.specs.Owned.{OwnedState}
-use Rattle.enip_adapter.specs.OwnWrites.{OwnWrite, WritesData, WritesAttribute, SetsStatus, SetsState, Prepares, Settles, Finishes, Marks, objects_written}
+use Rattle.enip_adapter.specs.OwnWrites.{OwnWrite, WritesData, WritesAttribute, SetsStatus, SetsState, Prepares, Settles, Finishes, Marks, Withdraws, objects_written}
 use Rattle.enip_adapter.specs.OwnerLaws.{HadValue}
 
 -- ---- one value
@@ -181,3 +181,4 @@ own-alike (Prepares reply) owned text had = refl
 own-alike (Settles originator number reply) owned text had = refl
 own-alike (Finishes ticket reply) owned text had = refl
 own-alike (Marks ticket) owned text had = refl
+own-alike (Withdraws request) owned text had = refl

@@ -12,6 +12,7 @@ use Rattle.cip_ledger.specs.Device.{Device, owned_standing, exec_device, run}
 use Rattle.cip_ledger.specs.Laws.{HasNoDoubles, Rises}
 use Rattle.cip_ledger.specs.Runs.{Request, journal, reached}
 use Rattle.cip_ledger.specs.Runs.{Event as LedgerEvent}
+use Rattle.cip_ledger.specs.Withdrawing.{withdrawal_result}
 use Rattle.cip_manager.specs.declared.connection.Connection.{Connection}
 use Rattle.cip_manager.specs.Connection.{is_named}
 use Rattle.cip_owner.specs.Owned.{OwnedState, exec_owned}
@@ -23,7 +24,7 @@ use Rattle.enip_adapter.specs.declared.peer.Session.{Session}
 use Rattle.enip_adapter.specs.declared.shared.Shared.{Shared}
 use Rattle.enip_adapter.specs.Calls.{AdapterState, Call}
 use Rattle.enip_adapter.specs.Calls.Call.{Writes}
-use Rattle.enip_adapter.specs.OwnWrites.{OwnWrite, objects_written, device_written}
+use Rattle.enip_adapter.specs.OwnWrites.{OwnWrite, Finishes, Withdraws, objects_written, device_written, ticket_withdrawn}
 use Rattle.enip_adapter.specs.Replies.{is_registered_as}
 use Rattle.enip_adapter.specs.Rights.{is_refused}
 use Rattle.enip_adapter.specs.Runs.{after_calls, events_of_calls}
@@ -151,10 +152,19 @@ abbrev pub objects_after_steps : OwnedState → List DeviceStep → OwnedState
 objects_after_steps owned [] = owned
 objects_after_steps owned (step ∷ steps) = objects_after_steps (objects_after_step owned step) steps
 
+-- A command with a ticket that is withdrawn leaves the queue as if its owner had finished it with this result.
+abbrev pub reached_by_withdrawal : Option ℕ → List DeviceStep
+reached_by_withdrawal None = []
+reached_by_withdrawal (Some ticket) = WrittenBy (Finishes ticket withdrawal_result) ∷ []
+
+abbrev pub reached_by_write : OwnWrite → Device → List DeviceStep
+reached_by_write (Withdraws request) device = reached_by_withdrawal (ticket_withdrawn request device)
+reached_by_write other device = WrittenBy other ∷ []
+
 -- What reaches the objects: of each request what the ledger lets through, and each write.
 abbrev pub reached_by_step : Device → DeviceStep → List DeviceStep
 reached_by_step device (Requested request) = map Requested (reached objects_after objects_answer owned_standing device (request ∷ []))
-reached_by_step device (WrittenBy write) = WrittenBy write ∷ []
+reached_by_step device (WrittenBy write) = reached_by_write write device
 
 abbrev pub reached_by_steps : Device → List DeviceStep → List DeviceStep
 reached_by_steps device [] = []

@@ -28,9 +28,11 @@ pub mod EndCauses
 pub mod DeviceRuns
 pub mod Asks
 pub mod Executing
+pub mod Withdrawing
 pub mod OwnerLaws
 pub mod QueueLaws
 pub mod LedgerSteps
+pub mod WithdrawLaws
 pub mod RightsLaws
 pub mod ShareLaws
 pub mod RightsRows

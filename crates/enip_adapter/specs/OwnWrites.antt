@@ -1,10 +1,14 @@
 -- What the device itself writes, apart from the frames of its peers: values of its objects, the next reply of its owner,
--- the reply to a command in doubt, and the reply to a queued command.
-use Rattle.std.specs.Prelude.{ℕ, ◌==◌, ◌&&◌, Bool, false, if◌then◌else◌, List, Option, Some, None, option_map, unwrap_or}
+-- the reply to a command in doubt, and the reply to a queued command. What a request withdraws, before it is served, is one
+-- of them.
+use Rattle.std.specs.Prelude.{ℕ, ◌==◌, ◌&&◌, Bool, false, if◌then◌else◌, List, Option, Some, None, option_map, is_some, unwrap_or}
+use Rattle.std.specs.Option.{option_and_then}
 use Rattle.cip_bytes.specs.declared.protocol.TheConstants.{ASSEMBLY}
+use Rattle.cip_ledger.specs.declared.withdrawal.Withdrawal.{Withdrawal}
 use Rattle.cip_ledger.specs.Device.{Device, finished_in}
 use Rattle.cip_ledger.specs.Doubt.{can_settle, settled}
 use Rattle.cip_ledger.specs.Ledger.{LedgerState}
+use Rattle.cip_ledger.specs.Withdrawing.{withdrawal_of, left_device, found_by}
 use Rattle.cip_objects.specs.Contents.{Contents}
 use Rattle.cip_objects.specs.DeviceWrites.{device_write, object_write, with_device_status, with_device_state}
 use Rattle.cip_owner.specs.Owned.{OwnedState}
@@ -14,8 +18,8 @@ use Rattle.cip_owner.specs.Replies.{Reply}
 
 -- Bytes of an assembly's data or of an attribute, from an offset on; the device's status, or its state; the reply that
 -- the next request to the owner takes; the reply with which an originator's command in doubt is settled; the owner's
--- reply with which the queued command of a ticket is finished; or the mark that the command of a ticket, and each before
--- it, was handed over.
+-- reply with which the queued command of a ticket is finished; the mark that the command of a ticket, and each before
+-- it, was handed over; or what a request withdraws.
 pub data OwnWrite : Type 0 where
   WritesData : (instance offset : ℕ) → (bytes : List ℕ) → OwnWrite
   WritesAttribute : (class instance attribute offset : ℕ) → (bytes : List ℕ) → OwnWrite
@@ -25,6 +29,7 @@ pub data OwnWrite : Type 0 where
   Settles : (originator number : ℕ) → (reply : List ℕ) → OwnWrite
   Finishes : (ticket : ℕ) → (reply : Reply) → OwnWrite
   Marks : (ticket : ℕ) → OwnWrite
+  Withdraws : (request : List ℕ) → OwnWrite
 
 -- The objects after the device wrote bytes into an attribute, from an offset on. The attribute is the data of an
 -- assembly or an attribute of an application object. None if it is neither, or if its value cannot hold the bytes.
@@ -37,8 +42,9 @@ attribute_write objects class instance attribute offset bytes =
 abbrev pub with_contents : OwnedState → Contents → OwnedState
 with_contents owned objects = record owned { objects = objects }
 
--- The objects, the prepared reply and the queue after it. Bytes that are refused change nothing, and neither does a reply
--- to a command that does not wait, or that cannot be given to it.
+-- The objects, the prepared reply and the queue after it, without the ledger. Bytes that are refused change nothing, and
+-- neither does a reply to a command that does not wait, or that cannot be given to it. What a request withdraws is known to
+-- the ledger alone.
 abbrev pub objects_written : OwnWrite → OwnedState → OwnedState
 objects_written (WritesData instance offset bytes) owned =
     with_contents owned (unwrap_or (device_write owned.objects instance offset bytes) owned.objects)
@@ -53,8 +59,15 @@ objects_written (Finishes ticket reply) owned =
     record owned { queue = option_map (λ queue. after_step queue (queue_runs.Finishes ticket reply)) owned.queue }
 objects_written (Marks ticket) owned =
     record owned { queue = option_map (λ queue. after_step queue (queue_runs.Marks ticket)) owned.queue }
+objects_written (Withdraws request) owned = owned
 
--- The ledger after it, if there is one. Only settling a command changes it, and finishing a queued one that it executed.
+-- The same with the ledger: a command that is withdrawn leaves the queue.
+abbrev pub router_written : OwnWrite → Device → OwnedState
+router_written (Withdraws request) device = (found_by request device).router
+router_written other device = objects_written other device.router
+
+-- The ledger after it, if there is one. Settling a command changes it, finishing a queued one that it executed, and
+-- withdrawing one.
 abbrev pub ledger_written : OwnWrite → Device → Option LedgerState
 ledger_written (WritesData instance offset bytes) device = device.ledger
 ledger_written (WritesAttribute class instance attribute offset bytes) device = device.ledger
@@ -65,6 +78,7 @@ ledger_written (Settles originator number reply) device =
     option_map (λ ledger. settled ledger originator number reply) device.ledger
 ledger_written (Finishes ticket reply) device = (unwrap_or (finished_in ticket reply device) device).ledger
 ledger_written (Marks ticket) device = device.ledger
+ledger_written (Withdraws request) device = (found_by request device).ledger
 
 -- Whether a command of the ledger, if there is one, can be settled with this reply.
 abbrev pub can_settle_in : Option LedgerState → ℕ → ℕ → List ℕ → Bool
@@ -75,5 +89,15 @@ can_settle_in (Some ledger) originator number reply = can_settle ledger originat
 abbrev pub device_written : OwnWrite → Device → Device
 device_written write device = record {
   ledger = ledger_written write device;
-  router = objects_written write device.router;
+  router = router_written write device;
 }
+
+-- ---- what a request withdraws
+
+-- The ticket of a command that leaves the queue.
+abbrev pub ticket_left : Device → Withdrawal → Option ℕ
+ticket_left device w = if is_some (left_device w.ticket device) then w.ticket else None
+
+-- The ticket of the pending command, if any, that a request withdraws: no owner was handed it.
+abbrev pub ticket_withdrawn : List ℕ → Device → Option ℕ
+ticket_withdrawn request device = option_and_then (ticket_left device) (withdrawal_of device.ledger request)

@@ -12,6 +12,7 @@ use Rattle.cip_ledger.specs.Pending.{any_pending}
 use Rattle.cip_ledger.specs.Runs.{Request, Event, Executed, Freed}
 use Rattle.cip_ledger.specs.Services.{Executes, reply_to, success, DONE}
 use Rattle.cip_ledger.specs.Turn.{Fate, Passed, Served, fate}
+use Rattle.cip_ledger.specs.Withdrawing.{withdrawal_of}
 use Rattle.cip_manager.specs.declared.connection.Connection.{Connection}
 use Rattle.cip_manager.specs.Connection.{is_named}
 use Rattle.cip_objects.specs.Contents.{Contents, value_at}
@@ -28,7 +29,7 @@ use Rattle.enip_adapter.specs.Asks.{asks_by_step, asks_of_call, asks_of_calls, w
 use Rattle.enip_adapter.specs.Calls.{AdapterState, Call, after_call, call_answer, bytes_held}
 use Rattle.enip_adapter.specs.Calls.Call.{Feeds, Writes}
 use Rattle.enip_adapter.specs.DeviceRuns.{DeviceStep, Requested, device_after_step, journal_by_step, steps_of_calls}
-use Rattle.enip_adapter.specs.OwnWrites.{OwnWrite, WritesAttribute, Prepares, Finishes, attribute_write, device_written}
+use Rattle.enip_adapter.specs.OwnWrites.{OwnWrite, WritesAttribute, Prepares, Finishes, Withdraws, attribute_write, device_written}
 use Rattle.enip_adapter.specs.Turn.{at_moment, session_of}
 
 -- ---- what is asked
@@ -49,10 +50,11 @@ HadValue m (WritesAttribute class instance attribute offset bytes) =
 HadValue m other = ⊤
 
 -- A queued command that the device finishes did not come by Do_Once: until one that did has ended, the next command of
--- its originator is refused.
+-- its originator is refused. And no command is withdrawn.
 abbrev pub EndsNone : Option LedgerState → OwnWrite → Type 0
 EndsNone None write = ⊤
 EndsNone (Some ledger) (Finishes ticket reply) = any_pending ticket ledger.taken ≡ false
+EndsNone (Some ledger) (Withdraws request) = withdrawal_of (Some ledger) request ≡ None
 EndsNone (Some ledger) other = ⊤
 
 -- What is prepared, and what the device itself writes, does not change what is asked.

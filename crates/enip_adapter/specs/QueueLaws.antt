@@ -11,6 +11,7 @@ use Rattle.cip_ledger.specs.PendingLaws.{IsPending}
 use Rattle.cip_ledger.specs.Requests.{Command}
 use Rattle.cip_ledger.specs.Runs.{Request, slot_in, reached}
 use Rattle.cip_ledger.specs.Services.{reply_to, success, DONE, HEAD_SIZE}
+use Rattle.cip_ledger.specs.Withdrawing.{withdrawal_result}
 use Rattle.cip_objects.specs.Contents.{Contents}
 use Rattle.cip_owner.specs.Queue.{QueueState, QueuedCommand, command_ticket, command_of, can_be_reply}
 use Rattle.cip_owner.specs.QueueLaws.{HasTickets, AreApart, IsResultOfSome, unfinished, last_results}
@@ -20,17 +21,23 @@ use Rattle.cip_owner.specs.Replies.{Reply}
 use Rattle.enip_adapter.specs.Calls.{AdapterState, Call}
 use Rattle.enip_adapter.specs.DeviceRuns.{DeviceStep, Requested, WrittenBy, device_after_step, objects_after, objects_answer}
 use Rattle.enip_adapter.specs.DeviceRuns.{steps_of_calls}
-use Rattle.enip_adapter.specs.OwnWrites.{OwnWrite, Finishes, Marks, device_written}
+use Rattle.enip_adapter.specs.OwnWrites.{OwnWrite, Finishes, Marks, Withdraws, ticket_withdrawn, device_written}
 use Rattle.enip_adapter.specs.OwnerLaws.{owned_in}
 use Rattle.enip_adapter.specs.Runs.{after_calls}
 
 -- ---- the steps of the queue
 
--- Of the device's own writes, only a finish and a mark are.
-abbrev pub queue_steps_by_write : OwnWrite → List QueueStep
-queue_steps_by_write (Finishes ticket reply) = queue_runs.Finishes ticket reply ∷ []
-queue_steps_by_write (Marks ticket) = queue_runs.Marks ticket ∷ []
-queue_steps_by_write other = []
+-- A command that is withdrawn leaves the queue as if its owner had finished it with this result.
+abbrev pub queue_steps_by_withdrawal : Option ℕ → List QueueStep
+queue_steps_by_withdrawal None = []
+queue_steps_by_withdrawal (Some ticket) = queue_runs.Finishes ticket withdrawal_result ∷ []
+
+-- Of the device's own writes, a finish and a mark are, and what is withdrawn.
+abbrev pub queue_steps_by_write : OwnWrite → Device → List QueueStep
+queue_steps_by_write (Finishes ticket reply) device = queue_runs.Finishes ticket reply ∷ []
+queue_steps_by_write (Marks ticket) device = queue_runs.Marks ticket ∷ []
+queue_steps_by_write (Withdraws request) device = queue_steps_by_withdrawal (ticket_withdrawn request device)
+queue_steps_by_write other device = []
 
 -- A request that reaches the objects is a push if its service is queued.
 abbrev pub queue_steps_by_reached : Contents → List Request → List QueueStep
@@ -41,7 +48,7 @@ abbrev pub queue_steps_by_step : Device → DeviceStep → List QueueStep
 queue_steps_by_step device (Requested request) =
     queue_steps_by_reached device.router.objects
     (reached objects_after objects_answer owned_standing device (request ∷ []))
-queue_steps_by_step device (WrittenBy write) = queue_steps_by_write write
+queue_steps_by_step device (WrittenBy write) = queue_steps_by_write write device
 
 -- By steps, one after the other.
 abbrev pub queue_steps_by_steps : Device → List DeviceStep → List QueueStep
@@ -101,18 +108,17 @@ pending_law = ((objects : Contents) (queue : Option QueueState) (slots life : �
     × ((a : AdapterState) (calls : List Call) → PendingWait a.state.shared.objects →
     PendingWait (after_calls a calls).state.shared.objects)
 
--- No step finishes the command with this ticket.
-abbrev pub IsNoFinish : ℕ → DeviceStep → Type 0
-IsNoFinish ticket (Requested request) = ⊤
-IsNoFinish ticket (WrittenBy (Finishes other reply)) = ticket ≢ other
-IsNoFinish ticket (WrittenBy other) = ⊤
+-- A step of the queue does not finish the command with this ticket.
+abbrev pub IsNoFinish : ℕ → QueueStep → Type 0
+IsNoFinish ticket (queue_runs.Finishes other reply) = ticket ≢ other
+IsNoFinish ticket other = ⊤
 
--- A command of the ledger that is pending keeps its slot until the device finishes it, whatever calls are made: until
--- then no other command of its originator is taken, and no Forget frees the slot.
+-- A command of the ledger that is pending keeps its slot until it leaves the queue, whatever calls are made: until the
+-- device finishes it, or it is withdrawn, no other command of its originator is taken, and no Forget frees the slot.
 abbrev pub keeps_slot_law : Type 0
 keeps_slot_law = (a : AdapterState) (calls : List Call) (originator ticket : ℕ) (slot : SlotState) →
     slot_in originator a.state.shared.objects.ledger ≡ Some slot → slot.reply ≡ None → slot.ticket ≡ Some ticket →
-    AllByRecursion (IsNoFinish ticket) (steps_of_calls a calls) →
+    AllByRecursion (IsNoFinish ticket) (queue_steps_of_calls a calls) →
     slot_in originator (after_calls a calls).state.shared.objects.ledger ≡ Some slot
 
 -- The device has finished a command that waits, with a reply that its service allows. A repeat of the ledger's command

@@ -18,7 +18,7 @@ use crate::no_reply_reason::NoReplyReason;
 use crate::peer::Session;
 use crate::reply::{AnswerFrame, Reaction, Reply, refuse};
 use crate::shared::Shared;
-pub(crate) use asking::{asked, executing};
+pub(crate) use asking::{asked, executing, withdraw};
 use cip_bytes::protocol::{Command, EncapsulationStatus};
 use cip_objects::ReplyBuf;
 pub use discovery::DiscoveryBuffer;

@@ -18,6 +18,7 @@ ghost use Rattle.enip_adapter.specs.Discovery.{discovered};
 ghost use Rattle.enip_adapter.specs.LedgerSteps.{ledger_steps_law};
 ghost use Rattle.enip_adapter.specs.OwnerLaws.{one_asked_law, asked_alike_law, repeat_law, given_law, unasked_law};
 ghost use Rattle.enip_adapter.specs.OwnerLaws.{answered_law, nobody_law, calls_law, asked_once_law};
+ghost use Rattle.enip_adapter.specs.WithdrawLaws.{never_handed_law, slot_says_law, never_executed_law, no_earlier_waits_law};
 ghost use Rattle.enip_adapter.specs.QueueLaws.{queue_steps_law, handed_over_law, pending_law, finished_answer_law};
 ghost use Rattle.enip_adapter.specs.QueueLaws.{keeps_slot_law};
 ghost use Rattle.enip_adapter.specs.RightsLaws.{unchanged_law, unasked_by_reading_law, readers_law, readers_ask_nothing_law};
@@ -247,7 +248,7 @@ pub fn owner_is_asked()
 /// these steps, in order. So tickets are numbers in a row. The commands that wait are those that were put into the queue
 /// and not finished, in the order of their tickets: none is lost or made up, and none waits again once it is finished.
 /// Each command has one result at most, and the last 256 results are kept. A command of the ledger that is pending is one
-/// that waits. It keeps its slot until the device finishes it: until then no later one of its originator is taken. Once
+/// that waits. It keeps its slot until it leaves the queue: until then no later one of its originator is taken. Once
 /// the device has finished it, a repeat is answered by the owner's reply, and is not executed again.
 pub fn queued_commands_are_handed_over()
     ensures steps { queue_steps_law }
@@ -255,6 +256,18 @@ pub fn queued_commands_are_handed_over()
     ensures pending { pending_law }
     ensures kept { keeps_slot_law }
     ensures answered { finished_answer_law }
+{}
+
+/// A request withdraws a command that waits in the queue only if no owner was handed it. The command is the pending one of
+/// an originator, whose slot then says that it was withdrawn. Whatever calls are made afterwards, it does not wait again, so
+/// no owner is handed it, and until the slot is freed neither its number nor a smaller one of its originator is executed.
+/// A command that is pending keeps its slot as long as it waits. So once a later number of its originator is accepted, no
+/// owner is handed it.
+pub fn withdrawn_commands_are_never_handed_over()
+    ensures handed { never_handed_law }
+    ensures slot { slot_says_law }
+    ensures executed { never_executed_law }
+    ensures later { no_earlier_waits_law }
 {}
 
 /// A request that is not a change, by its service and class alone, leaves the device as it was: the objects, the command

@@ -9,6 +9,7 @@ ghost use Rattle.enip_wire.specs.Stream.{bytes_taken, held_and_taken, parsed, cl
 ghost use Rattle.enip_adapter.specs.Adapter.{IsWaiting};
 ghost use Rattle.enip_adapter.specs.Asks.{asks_by_parsed, asks_by_seen};
 ghost use Rattle.enip_adapter.specs.Executing.{executing_parsed, executing_seen};
+ghost use Rattle.enip_adapter.specs.Withdrawing.{requests_by_seen, requests_by_parsed};
 ghost use Rattle.enip_adapter.specs.Turn.{shared_after, session_after};
 ghost use Rattle.enip_adapter.specs.Commands.{parsed_served};
 ghost use Rattle.enip_adapter.specs.Replies.{written};
@@ -102,6 +103,8 @@ impl PeerSlot {
             ≡ asks_by_parsed shared self.old.session (parsed (held_and_taken self.old.reader piece.now)) }
         ensures executing { (shared : Shared) → executing_seen shared result
             ≡ executing_parsed shared self.old.session (parsed (held_and_taken self.old.reader piece.now)) }
+        ensures requests { (shared : Shared) → requests_by_seen shared result
+            ≡ requests_by_parsed shared self.old.session (parsed (held_and_taken self.old.reader piece.now)) }
     {
         let session = self.session;
         match self.reader.peek(piece) {

@@ -8,6 +8,7 @@ ghost use Rattle.std.specs.List.{position};
 ghost use Rattle.enip_adapter.specs.Adapter.{session_in, IsWaiting};
 ghost use Rattle.enip_adapter.specs.Asks.{asks_at, asks_by_seen};
 ghost use Rattle.enip_adapter.specs.Executing.{executing_at, executing_seen};
+ghost use Rattle.enip_adapter.specs.Withdrawing.{requests_by_seen, requests_at};
 ghost use Rattle.enip_adapter.specs.Groups.{has_share, peers_of_group};
 ghost use Rattle.enip_adapter.specs.Lookup.{first_with, without_first};
 ghost use Rattle.enip_adapter.specs.PeerSlots.{IsFed, piece_at, handle_of, no_slot_taken, with_slot};
@@ -141,6 +142,8 @@ impl PeerSlots {
             ≡ asks_at self.old.limit next_handle shared self.old.taken handle piece.now }
         ensures executing { (next_handle : ℕ) (shared : Shared) → executing_seen shared result
             ≡ executing_at self.old.limit next_handle shared self.old.taken handle piece.now }
+        ensures requests { (next_handle : ℕ) (shared : Shared) → requests_by_seen shared result
+            ≡ requests_at self.old.limit next_handle shared self.old.taken handle piece.now }
     {
         let Some(index) = index_of(&self.taken, handle) else {
             return None;

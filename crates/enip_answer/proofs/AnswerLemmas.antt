@@ -4,7 +4,7 @@ use Rattle.std.proofs.KnownBytes.{Appends-nil, Appends-trans}
 use Rattle.std.specs.Io.KnownBytes.{Appends}
 use Rattle.enip_adapter.specs.Calls.{AdapterState, call_meaning, call_answer, after_call}
 use Rattle.enip_adapter.specs.Calls.Call.{Feeds}
-use Rattle.enip_answer.specs.Answering.{IsFed, IsFedTo, IsRefusedPiece, Desk, desk_of, new_desk, with_peer, entry_after, IsAnswered, IsAnsweredBy}
+use Rattle.enip_answer.specs.Answering.{after_piece, piece_answer, piece_taken, IsFed, IsFedTo, IsRefusedPiece, Desk, desk_of, new_desk, with_peer, entry_after, IsAnswered, IsAnsweredBy}
 use Rattle.enip_answer.specs.Answering.{output_line, closed_line}
 use Rattle.enip_lines.specs.InputLines.{lines_of, AreRun, AreAllRun, IsLineRefused, StopsAtLine, IsTakenToEnd}
 use Rattle.enip_answer.specs.Lines.{Says, IsRefusedLine}
@@ -36,32 +36,32 @@ none_fed number now peer adapter piece out = record {
 
 -- One more feed, which does not close.
 pub more_fed : (number : PeerNumber) (now peer : ℕ) (old mid new : AdapterState) (piece rest behind : List ℕ) (before between after : Option (List ℕ))
-    (taken : ℕ) → Feeding number now peer old piece before mid rest between → 0 < length rest → (call_answer mid (Feeds now peer rest)).close ≡ false
-    → new ≡ after_call mid (Feeds now peer rest) → taken ≡ (call_meaning mid (Feeds now peer rest)).taken → behind ≡ drop taken rest
-    → Appends between after (output_line number (call_answer mid (Feeds now peer rest)).output)
+    (taken : ℕ) → Feeding number now peer old piece before mid rest between → 0 < length rest → (piece_answer now peer mid rest).close ≡ false
+    → new ≡ after_piece now peer mid rest → taken ≡ piece_taken now peer mid rest → behind ≡ drop taken rest
+    → Appends between after (output_line number (piece_answer now peer mid rest).output)
     → Feeding number now peer old piece before new behind after
 more_fed number now peer old mid new piece rest behind before between after taken f some open_still new_is taken_is behind_is written =
     rw (behind_is, taken_is, new_is) (record {
-      printed = f.printed ++ output_line number (call_answer mid (Feeds now peer rest)).output;
-      written = Appends-trans before between after f.printed (output_line number (call_answer mid (Feeds now peer rest)).output) f.written written;
+      printed = f.printed ++ output_line number (piece_answer now peer mid rest).output;
+      written = Appends-trans before between after f.printed (output_line number (piece_answer now peer mid rest).output) f.written written;
       goes_on = λ last more closed fed.
           subst (λ (l : List ℕ). IsFed number now peer old piece last l closed)
-          (sym (append_assoc f.printed (output_line number (call_answer mid (Feeds now peer rest)).output) more))
-          (f.goes_on last (output_line number (call_answer mid (Feeds now peer rest)).output ++ more) closed
+          (sym (append_assoc f.printed (output_line number (piece_answer now peer mid rest).output) more))
+          (f.goes_on last (output_line number (piece_answer now peer mid rest).output ++ more) closed
           (Goes_on mid rest last more closed some open_still fed));
     })
 
 -- A feed that closes.
 pub fed_to_close : (number : PeerNumber) (now peer : ℕ) (old mid new : AdapterState) (piece rest : List ℕ) (before between after last : Option (List ℕ))
-    → Feeding number now peer old piece before mid rest between → 0 < length rest → (call_answer mid (Feeds now peer rest)).close ≡ true
-    → new ≡ after_call mid (Feeds now peer rest) → Appends between after (output_line number (call_answer mid (Feeds now peer rest)).output)
+    → Feeding number now peer old piece before mid rest between → 0 < length rest → (piece_answer now peer mid rest).close ≡ true
+    → new ≡ after_piece now peer mid rest → Appends between after (output_line number (piece_answer now peer mid rest).output)
     → Appends after last (closed_line number)
     → (printed : List ℕ) × IsFed number now peer old piece new printed true × Appends before last printed
 fed_to_close number now peer old mid new piece rest before between after last f some closes new_is written closed =
-    let line = output_line number (call_answer mid (Feeds now peer rest)).output in
+    let line = output_line number (piece_answer now peer mid rest).output in
     rw new_is (
       f.printed ++ (line ++ closed_line number),
-      f.goes_on (after_call mid (Feeds now peer rest)) (line ++ closed_line number) true (Closes mid rest some closes),
+      f.goes_on (after_piece now peer mid rest) (line ++ closed_line number) true (Closes mid rest some closes),
       Appends-trans before between last f.printed (line ++ closed_line number) f.written
           (Appends-trans between after last line (closed_line number) written closed),
     )

@@ -8,9 +8,10 @@ use Rattle.enip_adapter.specs.Adapter.{full_number}
 use Rattle.enip_adapter.specs.declared.adapter.Full.{Full}
 use Rattle.enip_adapter.specs.declared.peer.Rights.TheVariants.{Write}
 use Rattle.enip_adapter.specs.Calls.{AdapterState, call_meaning, call_answer, after_call}
-use Rattle.enip_adapter.specs.Calls.Call.{Begins_peer, Feeds, Ends_peer}
-use Rattle.enip_adapter.specs.Turn.{Output}
+use Rattle.enip_adapter.specs.Calls.Call.{Begins_peer, Feeds, Ends_peer, Ticks}
+use Rattle.enip_adapter.specs.Turn.{Answer, Output}
 use Rattle.enip_adapter.specs.Turn.Output.{Sends, Begins, Refuses}
+use Rattle.enip_adapter.specs.Withdrawing.{found_by_piece}
 use Rattle.enip_lines.specs.Digits.{bytes_spelled}
 use Rattle.enip_lines.specs.Lines.{with_newline}
 use Rattle.enip_answer.specs.Lines.{index_of, digit, Says, spells_bytes}
@@ -69,20 +70,34 @@ with_peer desk adapter number entry =
 
 -- ---- a piece
 
+-- The adapter to which a piece is fed: the time is set, and what the frame withdraws is withdrawn.
+abbrev pub ready : ℕ → ℕ → AdapterState → List ℕ → AdapterState
+ready now peer adapter piece = found_by_piece (after_call adapter (Ticks now)) peer piece
+
+-- The answer to a piece, the adapter after it, and how many bytes of it are taken.
+abbrev pub piece_answer : ℕ → ℕ → AdapterState → List ℕ → Answer
+piece_answer now peer adapter piece = call_answer (ready now peer adapter piece) (Feeds now peer piece)
+
+abbrev pub after_piece : ℕ → ℕ → AdapterState → List ℕ → AdapterState
+after_piece now peer adapter piece = after_call (ready now peer adapter piece) (Feeds now peer piece)
+
+abbrev pub piece_taken : ℕ → ℕ → AdapterState → List ℕ → ℕ
+piece_taken now peer adapter piece = (call_meaning (ready now peer adapter piece) (Feeds now peer piece)).taken
+
 -- A piece is fed to a peer at a time, and each answer is printed, until the piece is used up or a feed closes the peer:
 -- the adapter before it, the piece, the adapter after it, what is printed, and whether the peer is closed.
 pub data IsFed (number : PeerNumber) (now peer : ℕ) : AdapterState → List ℕ → AdapterState → List ℕ → Bool → Type 0 where
   Used_up : (adapter : AdapterState) → IsFed number now peer adapter [] adapter [] false
   Closes : (adapter : AdapterState) (piece : List ℕ) → 0 < length piece
-      → (call_answer adapter (Feeds now peer piece)).close ≡ true
-      → IsFed number now peer adapter piece (after_call adapter (Feeds now peer piece))
-      (output_line number (call_answer adapter (Feeds now peer piece)).output ++ closed_line number) true
+      → (piece_answer now peer adapter piece).close ≡ true
+      → IsFed number now peer adapter piece (after_piece now peer adapter piece)
+      (output_line number (piece_answer now peer adapter piece).output ++ closed_line number) true
   Goes_on : (adapter : AdapterState) (piece : List ℕ) (new : AdapterState) (printed : List ℕ) (closed : Bool)
-      → 0 < length piece → (call_answer adapter (Feeds now peer piece)).close ≡ false
-      → IsFed number now peer (after_call adapter (Feeds now peer piece))
-      (drop (call_meaning adapter (Feeds now peer piece)).taken piece) new printed closed
+      → 0 < length piece → (piece_answer now peer adapter piece).close ≡ false
+      → IsFed number now peer (after_piece now peer adapter piece)
+      (drop (piece_taken now peer adapter piece) piece) new printed closed
       → IsFed number now peer adapter piece new
-      (output_line number (call_answer adapter (Feeds now peer piece)).output ++ printed) closed
+      (output_line number (piece_answer now peer adapter piece).output ++ printed) closed
 
 abbrev pub entry_after : ℕ → Bool → PeerEntry
 entry_after peer true = Closed peer

@@ -5,7 +5,7 @@ ghost use Rattle.std.specs.Prelude.{◌≡◌, ◌≤◌, ◌<◌, ◌++◌, len
 ghost use Rattle.std.specs.Io.KnownBytes.{Appends, Keeps};
 ghost use Rattle.enip_adapter.specs.declared.peer.Rights.TheVariants as rights;
 ghost use Rattle.enip_adapter.specs.Calls.{Call, call_meaning, call_answer, after_call};
-ghost use Rattle.enip_answer.specs.Answering.{Desk, desk_of, new_desk, peer_at, ended, IsFed, IsFedTo, IsPieceRun};
+ghost use Rattle.enip_answer.specs.Answering.{after_piece, piece_answer, piece_taken, Desk, desk_of, new_desk, peer_at, ended, IsFed, IsFedTo, IsPieceRun};
 ghost use Rattle.enip_answer.specs.Answering.{IsBegunWith, IsLinePrinted, IsAnswered, IsAnsweredBy, IsRefusedPiece};
 ghost use Rattle.enip_answer.specs.Answering.{answer_line, closed_line, full_line, output_line, entry_after};
 ghost use Rattle.enip_lines.specs.Digits.{bytes_spelled};
@@ -287,7 +287,8 @@ fn feed_all<W: Write>(
     Ok(false)
 }
 
-/// Feeds a piece once, and prints the answer. Returns how many bytes were taken, and whether the peer is closed.
+/// Withdraws what a piece withdraws, feeds it once, and prints the answer. Returns how many bytes were taken, and
+/// whether the peer is closed.
 fn feed_once<W: Write>(
     adapter: &mut Adapter,
     now: u64,
@@ -297,17 +298,19 @@ fn feed_once<W: Write>(
     text: &mut [u8; LONGEST_TEXT],
     output: &mut W,
 ) -> Result<(usize, bool), ProgramFault>
-    ensures state { adapter.new ≡ after_call adapter.old (Call.Feeds now peer.now piece.now) }
+    ensures state { adapter.new ≡ after_piece now peer.now adapter.old piece.now }
     ensures taken { IfOk result (λ step. step.0
-        ≡ (call_meaning adapter.old (Call.Feeds now peer.now piece.now)).taken) }
+        ≡ piece_taken now peer.now adapter.old piece.now) }
     ensures close { IfOk result (λ step. step.1
-        ≡ (call_answer adapter.old (Call.Feeds now peer.now piece.now)).close) }
+        ≡ (piece_answer now peer.now adapter.old piece.now).close) }
     ensures within { IfOk result (λ step. step.0 ≤ length piece.now) }
     ensures progress { IfOk result (λ step. 0 < length piece.now → step.1 ≡ false → 0 < step.0) }
     ensures printed { OnOk result (Appends (W.contents output.old) (W.contents output.new)
-        (output_line number (call_answer adapter.old (Call.Feeds now peer.now piece.now)).output)) }
+        (output_line number (piece_answer now peer.now adapter.old piece.now).output)) }
     ensures failed { IfErr result IsOfDevices }
 {
+    adapter.tick(now);
+    adapter.withdraw_asked(peer, piece);
     let fed = adapter.feed(now, peer, piece);
     if let Some(frame) = fed.answer {
         print_answer(output, text, number, frame)?;

@@ -23,9 +23,10 @@ use Rattle.cip_ledger.proofs.Devices.{other_class}
 use Rattle.cip_ledger.proofs.ReachingLemmas.{reached_other}
 use Rattle.enip_adapter.specs.Asks.{asks_by_reached, asks_by_step, asks_by_steps}
 use Rattle.enip_adapter.specs.declared.peer.Rights.TheVariants.{Write}
-use Rattle.enip_adapter.specs.DeviceRuns.{DeviceStep, Requested, requests_by_route, requests_by_target, objects_after, objects_answer}
-use Rattle.enip_adapter.specs.OwnWrites.{OwnWrite, device_written}
+use Rattle.enip_adapter.specs.DeviceRuns.{DeviceStep, Requested, WrittenBy, requests_by_route, requests_by_target, objects_after, objects_answer}
+use Rattle.enip_adapter.specs.OwnWrites.{OwnWrite, WritesData, WritesAttribute, SetsStatus, SetsState, Prepares, Settles, Finishes, Marks, Withdraws, device_written}
 use Rattle.enip_adapter.specs.SendRRData.{Route, Opens, Closes, Executes, route_of, route_by_request, route_by_path, manager_service, is_manager}
+use Rattle.enip_adapter.proofs.AskedLemmas.{withdraw-asks}
 use Rattle.enip_bench.specs.ObjectsRun.{after_exec, exec_answer, steps_of_log}
 use Rattle.enip_bench.specs.NumberedWorld.{Entry, OwnRequest, OtherRequest, DeviceWrite, router_after, request_of as request_numbered}
 use Rattle.enip_bench.proofs.CountLemmas.{count_of, count_of-below}
@@ -127,6 +128,22 @@ answer_asking asking max_size text = exec_answer asking.0 max_size text
 abbrev pub written_asking : OwnWrite → Asking → Asking
 written_asking write asking = (device_written write asking.0, asking.1)
 
+-- what the device writes asks nothing
+pub write-asks : (write : OwnWrite) (device : Device) → asks_by_step device (WrittenBy write) ≡ []
+write-asks (WritesData instance offset bytes) device = refl
+write-asks (WritesAttribute class instance attribute offset bytes) device = refl
+write-asks (SetsStatus status) device = refl
+write-asks (SetsState state) device = refl
+write-asks (Prepares reply) device = refl
+write-asks (Settles originator number reply) device = refl
+write-asks (Finishes ticket reply) device = refl
+write-asks (Marks ticket) device = refl
+write-asks (Withdraws request) device = withdraw-asks device request
+
+-- and neither does it alone
+pub alone-asks : (write : OwnWrite) (device : Device) → asks_by_step device (WrittenBy write) ++ [] ≡ []
+alone-asks write device = append-nil (asks_by_step device (WrittenBy write)) ∙ write-asks write device
+
 -- after a log of the numbered world
 pub asking-log : (t_to_o_size : ℕ) (submits : List (List ℕ)) (device : Device) (before : List Asked) (log : List Entry) →
     (router_after after_asking answer_asking written_asking t_to_o_size submits (device, before) log).1
@@ -142,6 +159,8 @@ asking-log t_to_o_size submits device before (OtherRequest request ∷ log) =
     ∙ append_assoc before _ _
 asking-log t_to_o_size submits device before (DeviceWrite write ∷ log) =
     asking-log t_to_o_size submits (device_written write device) before log
+    ∙ ap (λ asked. before ++ (asked ++ asks_by_steps (device_written write device) (steps_of_log t_to_o_size submits log)))
+    (sym (write-asks write device))
 
 module _ (first o_to_t_size t_to_o_size : ℕ) (start : Device) where
   -- after a log of the tracked world

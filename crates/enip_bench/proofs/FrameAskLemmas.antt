@@ -30,7 +30,7 @@ use Rattle.enip_bench.specs.Reached.{IsReached}
 use Rattle.enip_bench.proofs.AdapterShows.{AdapterShows, frame_out}
 use Rattle.enip_bench.proofs.AgreementLemmas.{items_after-image}
 use Rattle.enip_bench.proofs.ArrivalLemmas.{arrival}
-use Rattle.enip_bench.proofs.AskLemmas.{after_asking, answer_asking, written_asking, asking-log, asked_by, device_by, target-requests, arrival-asks, other-asks, routed-asks, one-ask}
+use Rattle.enip_bench.proofs.AskLemmas.{after_asking, answer_asking, written_asking, alone-asks, asking-log, asked_by, device_by, target-requests, arrival-asks, other-asks, routed-asks, one-ask}
 use Rattle.enip_bench.proofs.FrameOnceLemmas.{begins, within, items_of, opened_of, shows_of, tracked, not_stood}
 use Rattle.enip_bench.proofs.HeldLemmas.{has_form, held-logged}
 use Rattle.enip_bench.proofs.Image.{item_of, image}
@@ -260,7 +260,9 @@ module _ {world : CountingWorld} (by : IsReached world) where
       adds-nothing (tracked_step by.wants.o_to_t_size (tracked by) (Back position)).log
       (back-log (delivery (tracked by).last_back (tracked by).back position) position)
   event-adds (Other request) = other-adds request (is_unconnected_request request) refl
-  event-adds (Write write) = sym (append-nil (asked (tracked by).log))
+  event-adds (Write write) =
+      sym (append-nil (asked (tracked by).log))
+      ∙ ap (λ asks. asked (tracked by).log ++ asks) (sym (alone-asks write device_of))
   event-adds Shut = adds-nothing (tracked by).log refl
   event-adds GiveUp = adds-nothing (tracked by).log refl
 
@@ -492,7 +494,8 @@ one_ask_framed world by (Reach position) =
     subst (λ asks. length asks ≤ 1) (sym (asks-by by position found refl)) (one-reach by found)
 one_ask_framed world by (Back position) = omega arith
 one_ask_framed world by (Other request) = one-other by request (is_unconnected_request request) refl
-one_ask_framed world by (Write write) = omega arith
+one_ask_framed world by (Write write) =
+    subst (λ asks. length asks ≤ 1) (sym (alone-asks write (objects_in world))) (omega arith)
 one_ask_framed world by Shut = omega arith
 one_ask_framed world by GiveUp = omega arith
 
@@ -514,6 +517,6 @@ unasked_framed world by (Reach position) never alone =
     unasked-by by position (delivery (tracked by).last_reached (tracked by).sent position) refl never
 unasked_framed world by (Back position) never alone = refl
 unasked_framed world by (Other request) never alone = absurd (alone request refl)
-unasked_framed world by (Write write) never alone = refl
+unasked_framed world by (Write write) never alone = alone-asks write (objects_in world)
 unasked_framed world by Shut never alone = refl
 unasked_framed world by GiveUp never alone = refl

@@ -6,7 +6,7 @@ use Rattle.cip_objects.specs.Contents.{Contents}
 use Rattle.cip_objects.specs.DeviceWrites.{device_write}
 use Rattle.enip_adapter.specs.Calls.{call_answer}
 use Rattle.enip_adapter.specs.Calls.Call.{Feeds}
-use Rattle.enip_adapter.specs.OwnWrites.{OwnWrite, WritesData, WritesAttribute, SetsStatus, SetsState, Prepares, Settles, Finishes, Marks}
+use Rattle.enip_adapter.specs.OwnWrites.{OwnWrite, WritesData, WritesAttribute, SetsStatus, SetsState, Prepares, Settles, Finishes, Marks, Withdraws}
 use Rattle.enip_adapter.specs.OwnWrites.{attribute_write}
 use Rattle.enip_client.specs.Calls.{resends}
 use Rattle.enip_client.specs.Client.{fed}
@@ -60,6 +60,7 @@ is_possible_write (Prepares reply) objects = true
 is_possible_write (Settles originator number reply) objects = true
 is_possible_write (Finishes ticket reply) objects = true
 is_possible_write (Marks ticket) objects = true
+is_possible_write (Withdraws request) objects = true
 
 -- the outcome of an event in this world
 abbrev pub event_result : CountingWorld → Event → EventResult

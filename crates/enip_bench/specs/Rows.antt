@@ -2,7 +2,7 @@
 use Rattle.std.specs.Prelude.{◌≡◌, ℕ, ◌+◌, List, [], ◌∷◌, replicate, slice_index, refl}
 use Rattle.cip_bytes.specs.Numbers.{le}
 use Rattle.cip_class3.specs.declared.originator.Stage.TheVariants as stages
-use Rattle.enip_adapter.specs.OwnWrites.{OwnWrite, WritesData, WritesAttribute, SetsStatus, SetsState, Prepares, Settles, Finishes, Marks}
+use Rattle.enip_adapter.specs.OwnWrites.{OwnWrite, WritesData, WritesAttribute, SetsStatus, SetsState, Prepares, Settles, Finishes, Marks, Withdraws}
 use Rattle.enip_bench.specs.Events.{Event, Submit, Resend, Reach, Back, Other, Write, Shut, GiveUp}
 use Rattle.enip_bench.specs.Executions.{executions_of}
 use Rattle.enip_bench.specs.ItemWorld.{items_seen}
@@ -35,6 +35,7 @@ sum_written (Prepares reply) sum = sum
 sum_written (Settles originator number reply) sum = sum
 sum_written (Finishes ticket reply) sum = sum
 sum_written (Marks ticket) sum = sum
+sum_written (Withdraws request) sum = sum
 
 -- what each world shows, with sizes of 500 bytes, from sum 0
 abbrev pub by_items : ℕ → List Event → Seen ℕ

@@ -3,7 +3,10 @@ use Rattle.std.specs.Prelude.{ℕ, List, ◌≡◌, ◌≤◌, ⊤, if◌then◌
 use Rattle.cip_commander.specs.Worlds.{after_command}
 use Rattle.cip_commander.specs.CommanderRule.{CommanderState, command_refusal, with_command, message_of}
 use Rattle.cip_commander.specs.CommanderRule.{pending_message, outcome_of, after_reply, abandoned}
-use Rattle.cip_commander.specs.Outcome.{Outcome, Done, StillPending, InDoubt, Refused, Malformed, NotPending}
+use Rattle.cip_commander.specs.CommanderRule.{pending_withdrawal, withdrawing_of, after_withdrawal}
+use Rattle.cip_commander.specs.Outcome.{Outcome, Done, StillPending, InDoubt, Withdrawn, Refused, Malformed, NotPending}
+use Rattle.cip_commander.specs.Withdrawing as withdrawing
+use Rattle.cip_commander.specs.Withdrawing.{Withdrawing}
 use Rattle.cip_commander.specs.declared.refusal.CommandRefused.{CommandRefused}
 use Rattle.cip_commander.specs.declared.refusal.CommandRefused.TheVariants as refusals
 use Rattle.enip_c.specs.declared.commander.CCommandOutcome.{CCommandOutcome}
@@ -83,6 +86,7 @@ returned_outcome StillPending buffer = outcome_without_reply 2 0 buffer
 returned_outcome (Refused general) buffer = outcome_without_reply 3 general buffer
 returned_outcome Malformed buffer = outcome_without_reply 4 0 buffer
 returned_outcome InDoubt buffer = outcome_without_reply 5 0 buffer
+returned_outcome Withdrawn buffer = outcome_without_reply 6 0 buffer
 
 -- The reply to the embedded request, if any, has at most this size.
 abbrev pub IsWithin : ℕ → Outcome → Type 0
@@ -101,6 +105,45 @@ abbrev pub IsReceivedKept : Option CommanderState → Option CommanderState → 
 IsReceivedKept (Some old) (Some new) reply outcome buffer_old buffer_new =
     IsReceived old new reply outcome buffer_old buffer_new
 IsReceivedKept old new reply outcome buffer_old buffer_new = ⊥
+
+-- Withdraw of the pending command, if one is pending.
+abbrev pub withdrawal_kept : Option CommanderState → Option (List ℕ)
+withdrawal_kept None = None
+withdrawal_kept (Some c) = pending_withdrawal c
+
+-- What a reply to Withdraw says about the pending command, and the buffer. If the command is done, the reply to its
+-- embedded request is at the front of the buffer.
+abbrev pub returned_withdrawing : Withdrawing → List ℕ → ReturnedOutcome
+returned_withdrawing withdrawing.NotPending buffer = outcome_without_reply 0 0 buffer
+returned_withdrawing (withdrawing.Done reply) buffer = record {
+  outcome = record { reply = length reply; kind = 1; general = general_in reply };
+  buffer = in_buffer reply buffer;
+}
+returned_withdrawing withdrawing.HandedOver buffer = outcome_without_reply 2 0 buffer
+returned_withdrawing (withdrawing.Refused general) buffer = outcome_without_reply 3 general buffer
+returned_withdrawing withdrawing.Malformed buffer = outcome_without_reply 4 0 buffer
+returned_withdrawing withdrawing.InDoubt buffer = outcome_without_reply 5 0 buffer
+returned_withdrawing withdrawing.Withdrawn buffer = outcome_without_reply 6 0 buffer
+returned_withdrawing withdrawing.Smaller buffer = outcome_without_reply 7 0x0c buffer
+returned_withdrawing withdrawing.OtherLife buffer = outcome_without_reply 8 0x10 buffer
+
+-- The reply to the embedded request, if any, has at most this size.
+abbrev pub IsWithdrawingWithin : ℕ → Withdrawing → Type 0
+IsWithdrawingWithin size (withdrawing.Done reply) = length reply ≤ size
+IsWithdrawingWithin size other = ⊤
+
+-- A reply to Withdraw was passed to a commander, and `outcome` is the result.
+pub record IsWithdrawalReceived (old new : CommanderState) (reply : List ℕ) (outcome : CCommandOutcome)
+    (buffer_old buffer_new : List ℕ) : Type 0 where
+  pub commander : new ≡ after_withdrawal old reply
+  pub returned : ◌≡◌ {A = ReturnedOutcome} (record { outcome = outcome; buffer = buffer_new })
+      (returned_withdrawing (withdrawing_of old reply) buffer_old)
+
+abbrev pub IsWithdrawalReceivedKept : Option CommanderState → Option CommanderState → List ℕ → CCommandOutcome
+    → List ℕ → List ℕ → Type 0
+IsWithdrawalReceivedKept (Some old) (Some new) reply outcome buffer_old buffer_new =
+    IsWithdrawalReceived old new reply outcome buffer_old buffer_new
+IsWithdrawalReceivedKept old new reply outcome buffer_old buffer_new = ⊥
 
 -- The pending command was given up, or none was pending.
 abbrev pub abandoned_status : Bool → Status

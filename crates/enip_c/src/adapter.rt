@@ -6,6 +6,7 @@ ghost use Rattle.enip_adapter.specs.Adapter.{feed_output};
 ghost use Rattle.enip_adapter.specs.declared.peer.Rights.TheVariants.{Write};
 ghost use Rattle.enip_adapter.specs.Calls.{Call, after_call, call_answer};
 ghost use Rattle.enip_adapter.specs.Discovery.{discovered};
+ghost use Rattle.enip_adapter.specs.Withdrawing.{found_by_piece};
 ghost use Rattle.configured_adapter.specs.Configured.{IsAdapterOf};
 ghost use Rattle.enip_c.specs.AdapterCalls.{IsFed, IsFedKept, IsBegun, IsBegunKept, IsRefusedBy, no_reply_reason_number, fed_of, answer_bytes};
 ghost use Rattle.enip_c.specs.AdapterCalls.{bool_number, full_status, AreFreeKept, deadline_kept, attribute_kept, discovered_kept};
@@ -279,6 +280,26 @@ pub extern "C" fn enip_core_adapter_tick(alloc: Global, kept: &mut KeptAdapter, 
     let mut adapter = kept.take(alloc);
     adapter.tick(now);
     *kept = KeptAdapter::of(adapter);
+}
+
+/// Sets the time, and withdraws what a piece of a peer's stream withdraws: that of the frame which it completes. To be
+/// called before the piece is fed.
+#[unsafe(no_mangle)]
+pub extern "C" fn enip_core_adapter_withdraw(
+    alloc: Global,
+    kept: &mut KeptAdapter,
+    now: u64,
+    peer: u32,
+    piece: &[u8],
+)
+    requires { IsLive kept.old.value }
+    ensures { kept.new.value
+        ≡ option_map (λ a. found_by_piece (after_call a (Call.Ticks now)) peer piece.now) kept.old.value }
+{
+    let mut taken = kept.take(alloc);
+    taken.tick(now);
+    taken.withdraw_asked(&Peer::of(peer), piece);
+    *kept = KeptAdapter::of(taken);
 }
 
 /// Removes a peer.

@@ -130,6 +130,7 @@ pub(crate) static SET: CommandRow = CommandRow {
         Argument::Tries,
         Argument::Pending,
         Argument::Abandon,
+        Argument::Force,
     ],
 };
 
@@ -165,6 +166,7 @@ pub(crate) static CALL: CommandRow = CommandRow {
         Argument::Tries,
         Argument::Pending,
         Argument::Abandon,
+        Argument::Force,
     ],
 };
 

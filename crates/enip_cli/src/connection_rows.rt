@@ -3,9 +3,10 @@
 use crate::argument_row::{ArgumentRow, FLAG, PLAIN};
 use crate::option_texts::{
     ABANDON_DETAILS, COMMAND_ID_DETAILS, CONNECTION_SERIAL_DETAILS, DEADLINE_DETAILS,
-    FORGET_DETAILS, IDS_DETAILS, MULTIPLIER_DETAILS, ONCE_DETAILS, ORIGINATOR_SERIAL_DETAILS,
-    PENDING_DETAILS, READ_MULTIPLIER_DETAILS, READ_TRIES_DETAILS, ROUTE_DETAILS, RPI_DETAILS,
-    SESSION_MULTIPLIER_DETAILS, SIZE_DETAILS, TRIES_DETAILS, WAIT_DETAILS,
+    FORCE_DETAILS, FORGET_DETAILS, IDS_DETAILS, MULTIPLIER_DETAILS, ONCE_DETAILS,
+    ORIGINATOR_SERIAL_DETAILS, PENDING_DETAILS, READ_MULTIPLIER_DETAILS, READ_TRIES_DETAILS,
+    ROUTE_DETAILS, RPI_DETAILS, SESSION_MULTIPLIER_DETAILS, SIZE_DETAILS, TRIES_DETAILS,
+    WAIT_DETAILS,
 };
 use enip_shell::Takes;
 
@@ -158,7 +159,7 @@ pub(crate) static COMMAND_ID: ArgumentRow = ArgumentRow {
     value_name: Some("TEXT"),
     help: COMMAND_ID_DETAILS,
     needs: &["once"],
-    conflicts: &["pending", "abandon"],
+    conflicts: &["pending", "abandon", "force"],
     is_rare: true,
     ..PLAIN
 };
@@ -214,6 +215,15 @@ pub(crate) static ABANDON: ArgumentRow = ArgumentRow {
     option: Some("abandon"),
     help: ABANDON_DETAILS,
     needs: &["once"],
+    is_rare: true,
+    ..FLAG
+};
+
+pub(crate) static FORCE: ArgumentRow = ArgumentRow {
+    id: "force",
+    option: Some("force"),
+    help: FORCE_DETAILS,
+    needs: &["abandon"],
     is_rare: true,
     ..FLAG
 };

@@ -37,14 +37,15 @@ pub(crate) const DETAILS_LEDGER: &str = "\
 Each originator of commands, such as a FILE of --once, takes a slot of the
 command ledger and keeps it until it is freed. Without --forget, this prints a
 line for each slot that is taken: the originator as FILE has it, the number of
-its last command, and whether that is done, pending or in doubt.
+its last command, and whether that is done, pending, in doubt or withdrawn.
 
   4d1f0a5be2a90c37 12 done
 
 With --forget, it frees a slot, and prints `freed` and that line, or `no slot`
 if the originator has none. Free a slot only if its originator will not repeat
 its last command: once the slot is free, the device executes that again. A
-slot whose command is pending is not freed.
+pending command is withdrawn first. If the owner of the device has it, the slot
+is not freed.
 
 If the device refuses, the output is `refused 0xGG`, as of `enip get`. With
 --json, it is an object on one line.

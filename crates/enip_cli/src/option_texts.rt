@@ -84,7 +84,8 @@ each as one argument:
 
 BOOL                     0, 1, false or true
 SINT INT DINT LINT       signed numbers of 1, 2, 4 and 8 bytes
-USINT UINT UDINT ULINT   unsigned numbers of 1, 2, 4 and 8 bytes
+USINT UINT UDINT ULINT   unsigned numbers of 1, 2, 4 and 8 bytes;
+                         ULINT also as 0x and hexadecimal digits
 BYTE WORD DWORD LWORD    bit strings, as 0x and hexadecimal digits, or
                          as decimal numbers
 REAL LREAL               a decimal number, with or without exponent,
@@ -127,8 +128,8 @@ file of `enip serve --keep`. FILE is not changed";
 
 pub(crate) const ACCEPT_OLDER_DETAILS: &str = "\
 With --keep, start even if FILE is damaged, or older than FILE.round
-says. The command ledger then begins a new life, so that no pending
-command is executed twice";
+says. The command ledger and the queue then start empty, in a new
+life, so that no pending command is executed twice";
 
 pub(crate) const OWNER_DETAILS: &str = "\
 Also listen here for the owner of the device: a program that executes
@@ -189,10 +190,16 @@ With --once, send the pending command of FILE and not the one in the
 arguments, which can be left out";
 
 pub(crate) const ABANDON_DETAILS: &str = "\
-With --once, give up the pending command of FILE, which is executed
-once or not at all, and send the one in the arguments as a new
-command. If it is left out, send nothing. If there is no answer, do
-not repeat this line: leave out --abandon";
+With --once, have the device withdraw the pending command of FILE, so
+that it is never executed, and send the one in the arguments as a new
+command. If it is left out, send no other. A command that was executed
+is settled with its reply. After any other answer, or none, nothing is
+given up and nothing else is sent. If the new command has no answer,
+do not repeat this line: leave out --abandon";
+
+pub(crate) const FORCE_DETAILS: &str = "\
+With --abandon, do not ask the device, and give up the pending command
+of FILE: it is executed once or not at all, now or later";
 
 pub(crate) const FORGET_DETAILS: &str = "\
 Free the slot of the originator of FILE, a file of --once without a

@@ -33,6 +33,8 @@ before it starts with `enip: ` and gives the reason.
   6                     the device refused the request
   6  setup              replay: no capacity for two sessions and a connection
   7  fault N            no valid reply
+  7  withdrawn          --once: the pending command was withdrawn before, and is
+                        never executed
   8  unsettled          --id: the command is pending in FILE
   9  blocked            --id: the command was not sent, because another one is
                         pending in FILE

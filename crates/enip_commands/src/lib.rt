@@ -6,8 +6,8 @@
 //!   for repeated reads.
 //! - [`exchange_over`] and [`show_reply`] are the two halves of `ask_over`, for commands that are executed once:
 //!   [`read_commander`] and [`write_commander`] keep a commander in a file, [`read_life`] and [`begin_once`] say what is
-//!   sent, and a [`LedgerRefusal`] what a refusal means. With ids it is a [`CommandRecord`], which [`read_record`] and
-//!   [`record_text`] keep in the file, and [`plan_id`] says what is sent.
+//!   sent, a [`LedgerRefusal`] what a refusal means, and a [`WithdrawalRefusal`] what one of Withdraw means. With ids it is
+//!   a [`CommandRecord`], which [`read_record`] and [`record_text`] keep in the file, and [`plan_id`] says what is sent.
 //! - [`list_over`] and [`objects_over`] ask a device for its identity or its services. [`print_devices`] and
 //!   [`print_device_objects`] print the answers to a broadcast, [`print_answer`] and [`print_answer_object`] with the
 //!   address that each came from. A [`DiscoveryAnswer`] is compared with others.
@@ -53,7 +53,7 @@ pub use command_record::{
 pub use discovering::{DiscoveryAnswer, Remarks, print_answer, print_answer_object};
 pub use enip_faults::{
     CommandFileFault, Digits, LedgerRefusal, LineFault, OnceRefusal, ProgramFault, RecordFault,
-    RequestFailure,
+    RequestFailure, WithdrawalRefusal,
 };
 pub use interface::{InterfaceConfiguration, interface_object};
 pub use list_objects::{objects_over, print_device_objects};

@@ -10,7 +10,9 @@ use cip_bytes::StatusText;
 use cip_route::RouteFailure;
 use cip_values::{ValueFault, ValueType};
 use enip_client::ClientFault;
-use enip_faults::{Digits, LedgerRefusal, LineFault, ProgramFault, RecordFault, RequestFailure};
+use enip_faults::{
+    Digits, LedgerRefusal, LineFault, ProgramFault, RecordFault, RequestFailure, WithdrawalRefusal,
+};
 use std::alloc::{AllocError, Global};
 use std::fmt;
 use std::io::{self, ErrorKind};
@@ -93,7 +95,7 @@ pub enum Reason<'a> {
     #[error("{0}: another command is pending: {1}, not {2} (see --pending and --abandon)")]
     OtherPending(&'a str, OwnedDigits, OwnedDigits),
     /// The pending command of the command file was for another life of the device.
-    #[error("{0}: the device has restarted, and may have executed the pending command {1} before (see --abandon)")]
+    #[error("{0}: the device has restarted, and may have executed the pending command {1} before (see --abandon and --force)")]
     OtherLife(&'a str, OwnedDigits),
     /// The command of the command file with this id has another request than the arguments.
     #[error("{0}: the id {1} is that of a command with another request")]
@@ -107,12 +109,18 @@ pub enum Reason<'a> {
     /// The pending command of the command file was given up.
     #[error("{0}: gave up the command {1}, which is executed at most once")]
     GivenUp(&'a str, OwnedDigits),
+    /// The command with this number, which was pending in the command file, was withdrawn.
+    #[error("{0}: the command {1} was withdrawn, and is never executed")]
+    Withdrawn(&'a str, u32),
     /// The device has no command ledger: it refused with this general status.
     #[error("{0}: the device has no command ledger ({1})")]
     NoLedger(&'a str, StatusText),
     /// The ledger of the device refused the command.
     #[error("{0}: {1}")]
     Ledger(&'a str, LedgerRefusal),
+    /// The device refused to withdraw the command.
+    #[error("{0}: {1}")]
+    NotWithdrawn(&'a str, WithdrawalRefusal),
     /// The state lacks so many of the rounds that `FILE.round` counts.
     #[error("{0}: older than {0}.round says, by {1} rounds (see --accept-older)")]
     Older(&'a str, u64),
@@ -160,6 +168,9 @@ pub enum NamedReason {
     /// The device does not know whether it executed the command.
     #[error("the device does not know whether it executed the command, and its owner has to settle that")]
     InDoubt,
+    /// The device cannot withdraw the command, because its owner has it.
+    #[error("the owner of the device has the command, and may be executing it")]
+    HandedOver,
     /// The name of the file is no text.
     #[error("the name is not UTF-8")]
     NotText,
@@ -275,6 +286,18 @@ pub enum Note {
     /// The ledger refused the command, and it may have executed it before.
     #[error("the command may have been executed, and is still pending")]
     StillPending,
+    /// The device was asked to withdraw the command, and its owner has it.
+    #[error("the command was not given up, and `--pending` waits for its reply")]
+    HandedOver,
+    /// The device was asked to withdraw the command, and did not say that it is withdrawn or done.
+    #[error("the command may have been executed, and was not given up (see --force)")]
+    NotGivenUp,
+    /// The same of a command that the device has not executed.
+    #[error("the command was not executed, and was not given up (see --force)")]
+    KeptUnexecuted,
+    /// The device has withdrawn the command, and that could not be kept.
+    #[error("the command was withdrawn, and the same line settles it")]
+    Withdrawn,
     /// The request was sent once or more, and no reply came.
     #[error("the request may have been executed (see --once)")]
     NoReply,

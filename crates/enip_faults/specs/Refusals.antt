@@ -7,6 +7,8 @@ use Rattle.enip_faults.specs.declared.command_file_fault.RecordFault.{RecordFaul
 use Rattle.enip_faults.specs.declared.command_file_fault.RecordFault.TheVariants as records
 use Rattle.enip_faults.specs.declared.ledger_refusal.LedgerRefusal.{LedgerRefusal}
 use Rattle.enip_faults.specs.declared.ledger_refusal.LedgerRefusal.TheVariants as answers
+use Rattle.enip_faults.specs.declared.withdrawal_refusal.WithdrawalRefusal.{WithdrawalRefusal}
+use Rattle.enip_faults.specs.declared.withdrawal_refusal.WithdrawalRefusal.TheVariants as withdrawals
 
 -- what the general status of a refusal says
 abbrev pub ledger_refusal : ℕ → LedgerRefusal
@@ -30,6 +32,25 @@ may_be_executed answers.OtherLife = true
 may_be_executed answers.ReplyTooLarge = true
 may_be_executed answers.LastPending = false
 may_be_executed (answers.Other status) = true
+
+-- what the general status says with which a command is not withdrawn
+abbrev pub withdrawal_refusal : ℕ → WithdrawalRefusal
+withdrawal_refusal status =
+    if status == 0x02 then withdrawals.SlotsTaken
+    else if status == 0x05 then withdrawals.NoLedger
+    else if status == 0x08 then withdrawals.NotSupported
+    else if status == 0x0c then withdrawals.NumberPassed
+    else if status == 0xd0 then withdrawals.OtherPending
+    else withdrawals.Other status
+
+-- a ledger without a slot for an originator has executed none of its commands, and none after one that is pending
+abbrev pub withdrawal_may_be_executed : WithdrawalRefusal → Bool
+withdrawal_may_be_executed withdrawals.SlotsTaken = false
+withdrawal_may_be_executed withdrawals.NoLedger = true
+withdrawal_may_be_executed withdrawals.NotSupported = true
+withdrawal_may_be_executed withdrawals.NumberPassed = true
+withdrawal_may_be_executed withdrawals.OtherPending = false
+withdrawal_may_be_executed (withdrawals.Other status) = true
 
 -- the line of a command file that is refused
 abbrev pub fault_line : CommandFileFault → ℕ

@@ -32,6 +32,7 @@ once_refusal_status refusals.Differs = 2
 once_refusal_status refusals.NonePending = 2
 once_refusal_status refusals.OtherLife = 2
 once_refusal_status refusals.OtherRequest = 2
+once_refusal_status refusals.Withdrawn = 7
 once_refusal_status (refusals.Command why) = 7
 
 -- The exit status of a replay that ends early.

@@ -5,7 +5,8 @@
 //!   the line.
 //! - A [`RequestFailure`] is about a request to a device, and a [`ReplayFailure`] about a replay.
 //! - A [`OnceRefusal`] says why a command that is executed once is not sent, a [`CommandFileFault`] or a [`RecordFault`]
-//!   what is wrong with its file, and a [`LedgerRefusal`] what it means that a ledger refuses it.
+//!   what is wrong with its file, a [`LedgerRefusal`] what it means that a ledger refuses it, and a
+//!   [`WithdrawalRefusal`] what it means that a ledger refuses to withdraw it.
 //! - [`Digits`] prints bytes in hexadecimal.
 #![tactic(auto)]
 
@@ -17,6 +18,7 @@ mod line_fault;
 mod once_refusal;
 mod replay_failure;
 mod request_failure;
+mod withdrawal_refusal;
 
 pub use command_file_fault::{CommandFileFault, RecordFault};
 pub use digits::Digits;
@@ -26,3 +28,4 @@ pub use line_fault::LineFault;
 pub use once_refusal::OnceRefusal;
 pub use replay_failure::ReplayFailure;
 pub use request_failure::RequestFailure;
+pub use withdrawal_refusal::WithdrawalRefusal;

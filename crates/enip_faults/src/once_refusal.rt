@@ -23,6 +23,9 @@ pub enum OnceRefusal {
     /// The command with this id has another request.
     #[error("id")]
     OtherRequest,
+    /// The pending command was withdrawn: it is never executed, and not pending any more.
+    #[error("withdrawn")]
+    Withdrawn,
     /// The request cannot be a command.
     #[error("fault {}", client_fault(*.0).number())]
     Command(CommandRefused),
@@ -38,7 +41,7 @@ impl OnceRefusal {
             | OnceRefusal::NonePending
             | OnceRefusal::OtherLife
             | OnceRefusal::OtherRequest => 2,
-            OnceRefusal::Command(_) => 7,
+            OnceRefusal::Withdrawn | OnceRefusal::Command(_) => 7,
         }
     }
 }

@@ -7,7 +7,7 @@ use Rattle.cip_class3.specs.declared.originator.Stage.{Stage}
 use Rattle.cip_class3.specs.declared.originator.Stage.TheVariants as stages
 use Rattle.cip_bytes.specs.declared.protocol.TheConstants.{COUNTER}
 use Rattle.cip_objects.specs.Contents.{Contents, bytes_at, udint_at}
-use Rattle.enip_adapter.specs.OwnWrites.{OwnWrite, WritesData, WritesAttribute, SetsStatus, SetsState, Prepares, Settles, Finishes, Marks}
+use Rattle.enip_adapter.specs.OwnWrites.{OwnWrite, WritesData, WritesAttribute, SetsStatus, SetsState, Prepares, Settles, Finishes, Marks, Withdraws}
 use Rattle.enip_bench.specs.Events.{Event, Submit, Resend, Reach, Back, Other, Write, Shut, GiveUp}
 use Rattle.enip_bench.specs.CountingWorld.{CountingWorld, counting_step}
 use Rattle.enip_bench.specs.EventResults.{event_result, EventResult, Sends, Refuses, Resends, Reaches, Accepts, Ignores}
@@ -23,6 +23,7 @@ write_words (SetsState state) = codes "write"
 write_words (Settles originator number reply) = codes "write"
 write_words (Finishes ticket reply) = codes "write"
 write_words (Marks ticket) = codes "write"
+write_words (Withdraws request) = codes "write"
 write_words (Prepares None) = codes "write"
 write_words (Prepares (Some reply)) = codes "owner " ++ decimal reply.status
 

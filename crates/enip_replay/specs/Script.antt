@@ -4,7 +4,7 @@ use Rattle.std.specs.Prelude.{codes, ◌==◌, Option, take, drop}
 use Rattle.std.specs.List.{position}
 use Rattle.std.specs.Str.Parse.{IsNumeral, digits_value}
 use Rattle.cip_owner.specs.Replies.{Reply}
-use Rattle.enip_adapter.specs.OwnWrites.{OwnWrite, WritesData, WritesAttribute, SetsStatus, SetsState, Prepares, Settles, Finishes, Marks}
+use Rattle.enip_adapter.specs.OwnWrites.{OwnWrite, WritesData, WritesAttribute, SetsStatus, SetsState, Prepares, Settles, Finishes, Marks, Withdraws}
 use Rattle.enip_bench.specs.Events.{Event, Submit, Resend, Reach, Back, Other, Write, Shut, GiveUp}
 use Rattle.enip_lines.specs.Digits.{bytes_spelled}
 
@@ -66,6 +66,7 @@ MeansWrite text (SetsState state) = ⊥
 MeansWrite text (Settles originator number reply) = ⊥
 MeansWrite text (Finishes ticket reply) = ⊥
 MeansWrite text (Marks ticket) = ⊥
+MeansWrite text (Withdraws request) = ⊥
 MeansWrite text (Prepares None) = ⊥
 MeansWrite text (Prepares (Some reply)) = (rest : List ℕ) × (text ≡ codes "owner " ++ rest) × IsReplySpelled reply rest
 

@@ -25,6 +25,7 @@ mod pauses;
 mod polling;
 mod request;
 mod slot_texts;
+mod withdrawing;
 
 pub use client::{Query, run_call, run_get, run_query, run_set, run_slots};
 pub use objects_help::{is_help_of_objects, run_help_of_objects};

@@ -2,7 +2,8 @@
 //!
 //! FILE has the commander: the originator, the device's life, the last number, and the command while it is pending. A
 //! command is written to FILE before it is sent, and settled there once its reply is printed. If the device has put the
-//! command into its queue, it is sent again until it is executed. Commands with an id are in `identified`.
+//! command into its queue, it is sent again until it is executed. Commands with an id are in `identified`, and `--abandon`
+//! is in `withdrawing`.
 
 use crate::command_record::record_in;
 use crate::once_options::OnceOptions;
@@ -56,8 +57,8 @@ pub(crate) struct OnceRun<'a, 'r> {
     pub(crate) name: &'r [u8],
 }
 
-/// Sends a command until the device replies that it is executed, and prints the reply. Without a request, sends or gives
-/// up the pending command. Returns the exit status.
+/// Sends a command until the device replies that it is executed, and prints the reply. Without a request, sends or
+/// withdraws the pending command. Returns the exit status.
 pub(crate) fn run_once<'a>(
     rt: &HostRuntime,
     args: &[OsArg],
@@ -77,7 +78,7 @@ pub(crate) fn run_once<'a>(
             run.send_identified(id, request.bytes(rt.alloc())?.as_slice())
         }
         (Some(request), _, None) => run.send(request.bytes(rt.alloc())?.as_slice()),
-        (None, PendingChoice::Abandon, _) => run.give_up(),
+        (None, PendingChoice::Abandon, _) => run.withdraw_alone(),
         (None, _, _) => run.send(&[]),
     }
 }
@@ -118,27 +119,6 @@ pub(crate) fn slot_of_file<'a>(
 }
 
 impl<'a> OnceRun<'a, '_> {
-    /// Gives up the pending command, if there is one, and sends nothing.
-    fn give_up(&self) -> Result<u8, CommandError<'a>> {
-        self.require_file()?;
-        let file = self.lock()?;
-        let text = self.read(&file)?;
-        let Some(text) = text else {
-            return Err(self.no_file());
-        };
-        let mut record = match record_in(self.rt.alloc(), self.options.file, text.as_slice()) {
-            Ok(record) => record,
-            Err(error) => return Err(error),
-        };
-        let given_up = self.digits_of_pending(&record.commander)?;
-        if record.commander.abandon() {
-            record.pending_id = None;
-            self.write(&file, &record)?;
-            print_reason(self.rt, &Reason::GivenUp(self.options.file, given_up));
-        }
-        Ok(0)
-    }
-
     /// Sends a command as the options say.
     fn send(&self, request: &[u8]) -> Result<u8, CommandError<'a>> {
         if let PendingChoice::Send = self.options.choice {
@@ -146,6 +126,9 @@ impl<'a> OnceRun<'a, '_> {
         }
         let life = self.life_without_file()?;
         let file = self.lock()?;
+        if let PendingChoice::Abandon = self.options.choice {
+            self.withdraw_first(&file, request)?;
+        }
         let text = self.read(&file)?;
         match self.record_of(&text) {
             Ok(record) => self.send_in(&file, record, request, life),
@@ -197,6 +180,7 @@ impl<'a> OnceRun<'a, '_> {
             why,
         ))?;
         let note = self.note_before(&record.commander);
+        let given_up = self.forced_request(&record.commander)?;
         let life = match life {
             Some(life) => life,
             None => self.life(note)?,
@@ -209,6 +193,9 @@ impl<'a> OnceRun<'a, '_> {
         )?;
         self.check_size(&record.commander)?;
         with_note(self.write(file, &record), note)?;
+        if let Some(request) = given_up {
+            print_reason(self.rt, &Reason::GivenUp(self.options.file, request));
+        }
         Ok(record)
     }
 
@@ -255,13 +242,11 @@ impl<'a> OnceRun<'a, '_> {
             match record.commander.receive(reply.as_slice()) {
                 CommandOutcome::StillPending => {}
                 CommandOutcome::Done(answer) => {
-                    // printed first: if that fails, the command stays pending, and its reply can be asked for again
-                    let status = self.print_settled(answer, settled)?;
-                    with_note(
-                        self.keep(file, &record, request.as_str(), answer),
-                        Note::Executed,
-                    )?;
-                    return Ok(status);
+                    return self.settle(file, &record, request.as_str(), answer, settled);
+                }
+                CommandOutcome::Withdrawn => {
+                    self.keep_withdrawn(file, &mut record)?;
+                    return self.report_withdrawn(record.commander.last_number(), settled);
                 }
                 outcome => return Err(self.error_of_outcome(originator, outcome)),
             }
@@ -270,6 +255,21 @@ impl<'a> OnceRun<'a, '_> {
             pause = Some(next);
         }
         Err(CommandError::of_reason(Reason::Named(self.device.address, NamedReason::Failed)))
+    }
+
+    /// Prints the reply to the command that was pending, and settles it in the file. Returns the exit status.
+    pub(crate) fn settle(
+        &self,
+        file: &LockedFile,
+        record: &CommandRecord<'_>,
+        request: &str,
+        reply: &[u8],
+        settled: Settled,
+    ) -> Result<u8, CommandError<'a>> {
+        // printed first: if that fails, the command stays pending, and its reply can be asked for again
+        let status = self.print_settled(reply, settled)?;
+        with_note(self.keep(file, record, request, reply), Note::Executed)?;
+        Ok(status)
     }
 
     /// Writes the file once its command was executed: with its id and its reply, if it has an id.
@@ -404,7 +404,7 @@ impl<'a> OnceRun<'a, '_> {
     }
 
     /// Sends a request, and again on a new connection if there is no reply, up to the number of tries.
-    fn exchange(
+    pub(crate) fn exchange(
         &self,
         request: &[u8],
         connected: bool,
@@ -482,7 +482,7 @@ impl<'a> OnceRun<'a, '_> {
 }
 
 /// The same outcome, with what became of the command in its error.
-fn with_note<'a, T>(
+pub(crate) fn with_note<'a, T>(
     outcome: Result<T, CommandError<'a>>,
     note: Note,
 ) -> Result<T, CommandError<'a>> {

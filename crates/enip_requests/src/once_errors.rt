@@ -131,6 +131,7 @@ impl<'a> OnceRun<'a, '_> {
             OnceRefusal::OtherLife => {
                 Ok(Reason::OtherLife(file, self.digits_of_pending(commander)?))
             }
+            OnceRefusal::Withdrawn => Ok(Reason::Withdrawn(file, commander.last_number())),
             OnceRefusal::NonePending => Ok(Reason::Named(file, NamedReason::NonePending)),
             OnceRefusal::OtherRequest => {
                 Ok(Reason::OtherRequest(file, self.options.id.unwrap_or("")))

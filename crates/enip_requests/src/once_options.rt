@@ -19,6 +19,8 @@ pub(crate) struct OnceOptions<'a> {
     pub(crate) tries: u64,
     /// What becomes of a pending command.
     pub(crate) choice: PendingChoice,
+    /// Whether the pending command is given up without asking the device.
+    pub(crate) is_forced: bool,
     /// The id of the command.
     pub(crate) id: Option<&'a str>,
     /// How many commands with an id the file keeps.
@@ -32,6 +34,7 @@ impl<'a> OnceOptions<'a> {
             file,
             tries: 1,
             choice: PendingChoice::Same,
+            is_forced: false,
             id: None,
             most_ids: DEFAULT_IDS,
         }
@@ -57,6 +60,7 @@ impl<'a> OnceOptions<'a> {
                 .value(matches)?
                 .unwrap_or(DEFAULT_TRIES),
             choice,
+            is_forced: matches.get_flag("force"),
             id: id_of(matches)?,
             most_ids: NumberArgument::IDS.value(matches)?.unwrap_or(DEFAULT_IDS),
         }))

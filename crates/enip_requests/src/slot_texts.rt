@@ -74,5 +74,6 @@ fn state_text(state: CommandState) -> &'static str {
         CommandState::Done => "done",
         CommandState::Pending => "pending",
         CommandState::InDoubt => "in doubt",
+        CommandState::Withdrawn => "withdrawn",
     }
 }

@@ -3,8 +3,7 @@ use Rattle.std.proofs.Common.{◌≡◌, ◌||◌, ◌∙◌, ℕ, List, [], ◌
 use Rattle.std.specs.Io.KnownBytes.{Keeps}
 use Rattle.cip_objects.specs.OwnRequests.{Asked}
 use Rattle.cip_owner.specs.Replies.{Reply}
-use Rattle.enip_adapter.specs.Calls.{AdapterState, after_call}
-use Rattle.enip_adapter.specs.Calls.Call.{Ticks}
+use Rattle.enip_adapter.specs.Calls.{AdapterState}
 use Rattle.enip_server.specs.declared.peer_io.PeerIo.{PeerIo}
 use Rattle.enip_server.specs.declared.wire_counts.WireCounts.{WireCounts}
 use Rattle.enip_server.specs.Admissions.{IsPieceShown, IsSlotShown, AreSlotsShown, AreShown, frame_of_peer, if_admitted}

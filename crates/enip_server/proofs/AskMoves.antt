@@ -2,15 +2,18 @@
 use Rattle.std.proofs.Common.{◌≡◌, ℕ, List, [], ◌∷◌, ◌++◌}
 use Rattle.std.proofs.Common.{Option, Some, None, append_assoc, append-nil, refl, sym, ap, ◌∙◌}
 use Rattle.cip_ledger.specs.Ledger.{LedgerState}
+use Rattle.cip_ledger.specs.Runs.{Request}
 use Rattle.cip_objects.specs.OwnRequests.{Asked}
 use Rattle.cip_owner.specs.Replies.{Reply}
-use Rattle.enip_adapter.proofs.AskedLemmas.{asked-alike, calls-ask}
-use Rattle.enip_adapter.specs.Asks.{asks_of_call, asks_of_calls, calls_asking, owner_after, prepared_feed, with_reply}
+use Rattle.enip_adapter.proofs.AskedLemmas.{asked-alike, calls-ask, withdraw-asks}
+use Rattle.enip_adapter.specs.Asks.{asks_by_step, asks_of_call, asks_of_calls, calls_asking, owner_after, prepared_feed, with_reply}
 use Rattle.enip_adapter.specs.Calls.{AdapterState, Call, after_call}
 use Rattle.enip_adapter.specs.Calls.Call.{Feeds}
 use Rattle.enip_adapter.specs.OwnerLaws.{EndsNone, asks_call_by_call}
-use Rattle.enip_adapter.specs.OwnWrites.{Prepares}
+use Rattle.enip_adapter.specs.DeviceRuns.{WrittenBy}
+use Rattle.enip_adapter.specs.OwnWrites.{Prepares, Withdraws}
 use Rattle.enip_adapter.specs.Runs.{after_calls}
+use Rattle.enip_adapter.specs.Withdrawing.{requests_of_piece, writes_of}
 
 asks_two : (a : AdapterState) (calls more : List Call)
     → asks_call_by_call a (calls ++ more) ≡ asks_call_by_call a calls ++ asks_call_by_call (after_calls a calls) more
@@ -60,3 +63,14 @@ module _ {O : Type 0} (answer : O → Asked → Option Reply) (next : O → Aske
       ∙ append-nil (asks_of_call (with_reply a (answer owner one)) (Feeds now peer piece))
       ∙ asked-alike a (Prepares (answer owner one)) now peer piece tt
       (prepares_ends_none a.state.shared.objects.ledger (answer owner one)) ∙ is
+
+-- what a request withdraws asks nothing
+withdrawing_asks : (a : AdapterState) (requests : List Request) → asks_of_calls a (writes_of requests) ≡ []
+withdrawing_asks a [] = refl
+withdrawing_asks a (request ∷ more) =
+    append-nil (asks_by_step a.state.shared.objects (WrittenBy (Withdraws request.1)))
+    ∙ withdraw-asks a.state.shared.objects request.1
+
+pub found_asks : (a : AdapterState) (peer : ℕ) (piece : List ℕ)
+    → asks_of_calls a (writes_of (requests_of_piece a peer piece)) ≡ []
+found_asks a peer piece = withdrawing_asks a (requests_of_piece a peer piece)

@@ -4,14 +4,17 @@ use Rattle.std.proofs.Common.{append_assoc, append-nil, take, drop, take-append-
 use Rattle.std.proofs.lemmas.Bool.{eq-eqb, ne_eqb}
 use Rattle.std.proofs.KnownBytes.{Appends-nil, Appends-trans, Consumes-nil, Consumes-trans}
 use Rattle.std.specs.List.{AllByRecursion}
+use Rattle.cip_ledger.specs.Runs.{Request}
 use Rattle.cip_objects.specs.OwnRequests.{Asked}
 use Rattle.cip_owner.specs.Replies.{Reply}
 use Rattle.enip_adapter.specs.Asks.{asks_of_call, asked_adapter, calls_asking, prepared_feed, with_reply}
 use Rattle.enip_adapter.specs.Calls.{AdapterState, Call, after_call, call_meaning, call_answer}
 use Rattle.enip_adapter.specs.Calls.Call.{Begins_peer, Feeds, Ends_peer, Ticks, Writes}
+use Rattle.enip_adapter.specs.OwnWrites.{Withdraws}
 use Rattle.enip_adapter.specs.Runs.{after_calls, taken_by_call, taken_by_calls, IsForOther}
 use Rattle.enip_adapter.specs.Serving.{output_bytes}
-use Rattle.enip_server.specs.PeerStates.{PeerState, closed_at, fed_once}
+use Rattle.enip_adapter.specs.Withdrawing.{requests_of_piece, writes_of}
+use Rattle.enip_server.specs.PeerStates.{PeerState, closed_at, found_with, fed_asking}
 use Rattle.enip_server.specs.Transfers.{Transfers, IsTurnCall, sent_by_call, sent_by_calls}
 
 -- what holds of each of these and of each of those
@@ -212,7 +215,7 @@ module _ {O : Type 0} (answer : O → Asked → Option Reply) (after : O → Ask
 
   -- one feed
   unfoldable pub moves_fed : d.outbox ≡ [] → d.closed ≡ None
-      → MovesBy peer (IsTurnCall now peer) d (fed_once answer after now peer owner d)
+      → MovesBy peer (IsTurnCall now peer) d (fed_asking answer after now peer owner d)
   moves_fed out served = record {
     calls = calls_by (asks_of_call d.adapter (Feeds now peer d.inbox));
     received = [];
@@ -239,14 +242,14 @@ taken_other peer a (Ends_peer other) is = refl
 taken_other peer a (Ticks now) is = refl
 taken_other peer a (Writes write) is = refl
 
-sent_others : (peer : ℕ) (a : AdapterState) (calls : List Call) → AllByRecursion (IsForOther peer) calls
+pub sent_others : (peer : ℕ) (a : AdapterState) (calls : List Call) → AllByRecursion (IsForOther peer) calls
     → sent_by_calls peer a calls ≡ []
 sent_others peer a [] each = refl
 sent_others peer a (call ∷ calls) each =
     ap (λ xs. xs ++ sent_by_calls peer (after_call a call) calls) (sent_other peer a call each.0)
     ∙ sent_others peer (after_call a call) calls each.1
 
-taken_others : (peer : ℕ) (a : AdapterState) (calls : List Call) → AllByRecursion (IsForOther peer) calls
+pub taken_others : (peer : ℕ) (a : AdapterState) (calls : List Call) → AllByRecursion (IsForOther peer) calls
     → taken_by_calls peer a calls ≡ []
 taken_others peer a [] each = refl
 taken_others peer a (call ∷ calls) each =
@@ -277,3 +280,31 @@ moves_other peer d adapter calls each after = record {
     closed = λ shut. (shut, taken_others peer d.adapter calls each);
   };
 }
+
+-- what a peer's request withdraws, before it is fed
+pub withdrawing_each : (P : Call → Type 0) (requests : List Request) → ((text : List ℕ) → P (Writes (Withdraws text)))
+    → AllByRecursion P (writes_of requests)
+withdrawing_each P [] is = tt
+withdrawing_each P (request ∷ more) is = (is request.1, tt)
+
+unfoldable pub moves_found : (now peer : ℕ) (d : PeerState) → MovesBy peer (IsTurnCall now peer) d (found_with peer d)
+moves_found now peer d =
+    let requests = requests_of_piece d.adapter peer d.inbox in
+    let calls = writes_of requests in
+    let other : AllByRecursion (IsForOther peer) calls = withdrawing_each (IsForOther peer) requests (λ text. tt) in
+    record {
+      calls = calls;
+      received = [];
+      gone = [];
+      each = withdrawing_each (IsTurnCall now peer) requests (λ text. tt);
+      moves = record {
+        adapter = refl;
+        read = Consumes-nil d.left;
+        written = Appends-nil d.written;
+        sent = ap (λ xs. d.outbox ++ xs) (sent_others peer d.adapter calls other) ∙ append-nil d.outbox;
+        rest = d.inbox;
+        taken = append-nil d.inbox ∙ ap (λ xs. xs ++ d.inbox) (sym (taken_others peer d.adapter calls other));
+        waits = λ _. refl;
+        closed = λ shut. (shut, taken_others peer d.adapter calls other);
+      };
+    }

@@ -8,11 +8,11 @@ use Rattle.cip_owner.specs.Replies.{Reply}
 use Rattle.enip_adapter.specs.Asks.{asks_of_call, asks_of_calls, owner_after}
 use Rattle.enip_adapter.specs.Calls.{Call}
 use Rattle.enip_adapter.specs.Calls.Call.{Feeds}
-use Rattle.enip_server.specs.PeerStates.{PeerState, IsFlushed, AreFed, IsFetched, IsServed, IsDiscarded, IsTurn, fed_once, owner_fed}
+use Rattle.enip_server.specs.PeerStates.{PeerState, IsFlushed, AreFed, IsFetched, IsServed, IsDiscarded, IsTurn, found_with, fed_asking, owner_asked, fed_once, owner_fed}
 use Rattle.enip_server.specs.PeerStates.AreFed.{None_fed, One_more_fed}
 use Rattle.enip_server.specs.Transfers.{Transfers, IsTurnCall}
-use Rattle.enip_server.proofs.AskMoves.{owner_then, feed_asks}
-use Rattle.enip_server.proofs.TransferLemmas.{MovesBy, moves_by_then, moves_not, moves_fed}
+use Rattle.enip_server.proofs.AskMoves.{owner_then, feed_asks, found_asks}
+use Rattle.enip_server.proofs.TransferLemmas.{MovesBy, moves_by_then, moves_not, moves_fed, moves_found}
 
 flushed_moves : (peer : ℕ) (P : Call → Type 0) (old new : PeerState) → IsFlushed old new → MovesBy peer P old new
 flushed_moves peer P old new f = record {
@@ -96,14 +96,27 @@ module _ {O : Type 0} (answer : O → Asked → Option Reply) (after : O → Ask
     owner = sym (ap (λ calls. owner_after answer after owner (asks_of_calls old.adapter calls)) none);
   }
 
-  one_fed : (owner : O) (d : PeerState) → d.outbox ≡ [] → d.closed ≡ None
-      → TurnBy owner d (owner_fed answer after now peer owner d) (fed_once answer after now peer owner d)
+  asked_fed : (owner : O) (d : PeerState) → d.outbox ≡ [] → d.closed ≡ None
+      → TurnBy owner d (owner_asked answer after now peer owner d) (fed_asking answer after now peer owner d)
   unfolding moves_fed
-  one_fed owner d out served = record {
+  asked_fed owner d out served = record {
     moves = moves_fed answer after now peer owner d out served;
     owner = ap (owner_after answer after owner)
         (sym (feed_asks answer after d.adapter owner now peer d.inbox (asks_of_call d.adapter (Feeds now peer d.inbox)) refl));
   }
+
+  found_first : (owner : O) (d : PeerState) → TurnBy owner d owner (found_with peer d)
+  unfolding moves_found
+  found_first owner d = record {
+    moves = moves_found now peer d;
+    owner = sym (ap (owner_after answer after owner) (found_asks d.adapter peer d.inbox));
+  }
+
+  one_fed : (owner : O) (d : PeerState) → d.outbox ≡ [] → d.closed ≡ None
+      → TurnBy owner d (owner_fed answer after now peer owner d) (fed_once answer after now peer owner d)
+  one_fed owner d out served =
+      turn_then owner owner (owner_fed answer after now peer owner d) d (found_with peer d)
+      (fed_once answer after now peer owner d) (found_first owner d) (asked_fed owner (found_with peer d) out served)
 
   fed_moves : (first : O) (old : PeerState) (last : O) (new : PeerState) → AreFed answer after now peer first old last new
       → TurnBy first old last new

@@ -8,6 +8,7 @@ use Rattle.enip_adapter.specs.Asks.{asks_of_call, calls_asking, after_asking}
 use Rattle.enip_adapter.specs.Calls.{AdapterState, after_call}
 use Rattle.enip_adapter.specs.Calls.Call.{Ends_peer, Feeds, Ticks}
 use Rattle.enip_adapter.specs.Runs.{after_calls}
+use Rattle.enip_adapter.specs.Withdrawing.{found_by_piece}
 use Rattle.enip_adapter.specs.Turn.Event.{At, End}
 use Rattle.enip_server.specs.Watching.{IsAfterFrame}
 
@@ -15,7 +16,7 @@ module _ {O : Type 0} (answer : O → Asked → Option Reply) (after : O → Ask
   -- by what a feed asks
   asks_frame : (a : AdapterState) (owner : O) (now peer : ℕ) (piece : List ℕ) (asked : List Asked)
       → IsAfterFrame a.state.shared.objects
-      (after_calls a (calls_asking answer after owner now peer piece asked)).state.shared.objects
+      (after_calls (found_by_piece a peer piece) (calls_asking answer after owner now peer piece asked)).state.shared.objects
   asks_frame a owner now peer piece [] = record {
     adapter = a;
     moment = now;
@@ -37,11 +38,11 @@ module _ {O : Type 0} (answer : O → Asked → Option Reply) (after : O → Ask
 
   -- a feed that asks the owner is one frame
   pub fed_frame : (a b : AdapterState) (owner : O) (now peer : ℕ) (piece : List ℕ)
-      → b ≡ after_asking answer after a owner now peer piece
+      → b ≡ after_asking answer after (found_by_piece a peer piece) owner now peer piece
       → IsAfterFrame a.state.shared.objects b.state.shared.objects
   fed_frame a b owner now peer piece is =
       subst (λ (x : AdapterState). IsAfterFrame a.state.shared.objects x.state.shared.objects) (sym is)
-      (asks_frame a owner now peer piece (asks_of_call a (Feeds now peer piece)))
+      (asks_frame a owner now peer piece (asks_of_call (found_by_piece a peer piece) (Feeds now peer piece)))
 
 module _ {T : Type 0} (has_seen : T → Device → Type 0) (watcher : T) where
   -- a time that the adapter is given leaves the device as it is

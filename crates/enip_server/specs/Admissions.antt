@@ -1,5 +1,5 @@
 -- How the frames that wait are admitted.
-use Rattle.std.specs.Prelude.{ℕ, ◌≡◌, ◌==◌, ◌&&◌, ◌||◌, not, if◌then◌else◌, List, [], ◌∷◌, length, Bool, true, false, Option, Some, None, is_some}
+use Rattle.std.specs.Prelude.{ℕ, ◌≡◌, ◌==◌, ◌||◌, not, if◌then◌else◌, List, [], ◌∷◌, length, Bool, true, false, Option, Some, None, is_some}
 use Rattle.cip_objects.specs.OwnRequests.{Asked}
 use Rattle.enip_adapter.specs.Asks.{asks_of_call}
 use Rattle.enip_adapter.specs.Calls.{AdapterState, after_call}

@@ -9,6 +9,7 @@ use Rattle.enip_adapter.specs.Asks.{asks_of_call, after_asking, asking_adapter, 
 use Rattle.enip_adapter.specs.Calls.{AdapterState, call_meaning, call_answer}
 use Rattle.enip_adapter.specs.Calls.Call.{Feeds}
 use Rattle.enip_adapter.specs.Serving.{output_bytes}
+use Rattle.enip_adapter.specs.Withdrawing.{found_by_piece}
 use Rattle.enip_server.specs.declared.peer_io.PeerIo.{PeerIo}
 use Rattle.enip_server.specs.declared.peer_io.Turn.{Turn}
 use Rattle.enip_server.specs.declared.peer_io.Turn.TheVariants.{More, UntilReadable, UntilWritable, Finished}
@@ -69,11 +70,15 @@ abbrev pub closed_at : ℕ → Bool → Option ℕ
 closed_at now false = None
 closed_at now true = Some (moment_after now 1_000_000)
 
+-- What the inbox withdraws is withdrawn: what the request of the frame that it completes withdraws.
+abbrev pub found_with : ℕ → PeerState → PeerState
+found_with peer d = record d { adapter = found_by_piece d.adapter peer d.inbox }
+
 -- The inbox is fed to its peer at a time, up to the end of one frame, and the owner of the device is asked if the frame
 -- is a request to it. The owner is two functions: what it answers, and the owner afterwards. The answer to the frame
 -- goes to the outbox.
-abbrev pub fed_once : {O : Type 0} → (O → Asked → Option Reply) → (O → Asked → O) → ℕ → ℕ → O → PeerState → PeerState
-fed_once answer after now peer owner d = record d {
+abbrev pub fed_asking : {O : Type 0} → (O → Asked → Option Reply) → (O → Asked → O) → ℕ → ℕ → O → PeerState → PeerState
+fed_asking answer after now peer owner d = record d {
   adapter = after_asking answer after d.adapter owner now peer d.inbox;
   inbox = drop (call_meaning (asking_adapter answer after d.adapter owner now peer d.inbox)
       (Feeds now peer d.inbox)).taken d.inbox;
@@ -84,9 +89,16 @@ fed_once answer after now peer owner d = record d {
 }
 
 -- The owner after that.
-abbrev pub owner_fed : {O : Type 0} → (O → Asked → Option Reply) → (O → Asked → O) → ℕ → ℕ → O → PeerState → O
-owner_fed answer after now peer owner d =
+abbrev pub owner_asked : {O : Type 0} → (O → Asked → Option Reply) → (O → Asked → O) → ℕ → ℕ → O → PeerState → O
+owner_asked answer after now peer owner d =
     owner_after answer after owner (asks_of_call d.adapter (Feeds now peer d.inbox))
+
+-- What the frame withdraws is withdrawn first.
+abbrev pub fed_once : {O : Type 0} → (O → Asked → Option Reply) → (O → Asked → O) → ℕ → ℕ → O → PeerState → PeerState
+fed_once answer after now peer owner d = fed_asking answer after now peer owner (found_with peer d)
+
+abbrev pub owner_fed : {O : Type 0} → (O → Asked → Option Reply) → (O → Asked → O) → ℕ → ℕ → O → PeerState → O
+owner_fed answer after now peer owner d = owner_asked answer after now peer owner (found_with peer d)
 
 -- Feeds of a peer at a time. At each of them all answers before it are written, and the adapter has not closed the
 -- peer.

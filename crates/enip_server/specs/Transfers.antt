@@ -7,7 +7,7 @@ use Rattle.enip_adapter.specs.AdapterActions.{IsFeedOf}
 use Rattle.enip_adapter.specs.Asks.{asks_of_calls, owner_after}
 use Rattle.enip_adapter.specs.Calls.{AdapterState, Call, call_answer, after_call}
 use Rattle.enip_adapter.specs.Calls.Call.{Begins_peer, Feeds, Ends_peer, Ticks, Writes}
-use Rattle.enip_adapter.specs.OwnWrites.{Prepares}
+use Rattle.enip_adapter.specs.OwnWrites.{Prepares, Withdraws}
 use Rattle.enip_adapter.specs.Runs.{after_calls, taken_by_calls}
 use Rattle.enip_adapter.specs.Serving.{output_bytes}
 use Rattle.enip_server.specs.PeerStates.{PeerState}
@@ -48,9 +48,11 @@ GoesOnWith peer (Ends_peer other) = other ≢ peer
 GoesOnWith peer (Ticks now) = ⊤
 GoesOnWith peer (Writes write) = ⊤
 
--- A call of a turn: a feed of this peer at this time, or the owner's reply that is prepared for it or withdrawn.
+-- A call of a turn: a feed of this peer at this time, the owner's reply that is prepared for it or dropped, or what its
+-- request withdraws.
 abbrev pub IsTurnCall : ℕ → ℕ → Call → Type 0
 IsTurnCall now peer (Writes (Prepares reply)) = ⊤
+IsTurnCall now peer (Writes (Withdraws request)) = ⊤
 IsTurnCall now peer call = IsFeedOf now peer call
 
 -- Calls lead from one adapter to another. The owner of the device was asked what they ask, in this order, and nothing

@@ -7,11 +7,16 @@ use Rattle.enip_adapter.specs.Calls.{AdapterState, Call}
 use Rattle.enip_adapter.specs.Calls.Call.{Feeds}
 use Rattle.enip_adapter.specs.OwnWrites.{OwnWrite, device_written}
 use Rattle.enip_adapter.specs.Runs.{after_calls}
+use Rattle.enip_adapter.specs.Withdrawing.{found_by_piece}
 
 -- The calls of a feed: the feed alone if it asks nothing, or with what the owner answered prepared for it.
 abbrev pub feed_calls : ℕ → ℕ → List ℕ → Option (Option Reply) → List Call
 feed_calls now peer piece None = Feeds now peer piece ∷ []
 feed_calls now peer piece (Some reply) = prepared_feed now peer piece reply
+
+-- The adapter after a feed, once what its request withdraws is withdrawn.
+abbrev pub after_feed : AdapterState → ℕ → ℕ → List ℕ → Option (Option Reply) → AdapterState
+after_feed a now peer piece answered = after_calls (found_by_piece a peer piece) (feed_calls now peer piece answered)
 
 -- The new device is what one feed of a peer leaves of the old one. A feed takes bytes up to the end of one frame.
 pub record IsAfterFrame (old new : Device) : Type 0 where
@@ -21,7 +26,7 @@ pub record IsAfterFrame (old new : Device) : Type 0 where
   pub piece : List ℕ
   pub answered : Option (Option Reply)
   pub before : adapter.state.shared.objects ≡ old
-  pub after : (after_calls adapter (feed_calls moment peer piece answered)).state.shared.objects ≡ new
+  pub after : (after_feed adapter moment peer piece answered).state.shared.objects ≡ new
 
 -- Frames of peers, one after the other.
 pub data AreFrames : Device → Device → Type 0 where

@@ -281,8 +281,8 @@ impl<W: Wire> PeerIo<W> {
         unsent
     }
 
-    /// Feeds the inbox up to the end of one frame, and writes the answer. The owner is asked if the frame is a request to
-    /// it. Returns `None` if all of the answer is written.
+    /// Withdraws what the frame in the inbox withdraws, feeds the inbox up to the end of this frame, and writes the answer.
+    /// The owner is asked if the frame is a request to it. Returns `None` if all of the answer is written.
     fn feed_once<O: Owner>(
         &mut self,
         adapter: &mut Adapter,
@@ -306,6 +306,7 @@ impl<W: Wire> PeerIo<W> {
         ensures progress { 0 < length self.old.inbox → self.new.closed ≡ None →
             length self.new.inbox < length self.old.inbox }
     {
+        adapter.withdraw_asked(&self.peer, self.inbox.as_slice());
         let fed = adapter.feed_asking(now, &self.peer, self.inbox.as_slice(), owner);
         self.inbox.drop_front(fed.taken);
         self.closed = closed_at(now, fed.close);

@@ -11,6 +11,7 @@ use Rattle.enip_keep.specs.declared.entry.Entry.{Entry}
 use Rattle.enip_keep.specs.Kept.{Kept, pair_of, pairs_of}
 use Rattle.cip_objects.specs.Contents.{Contents}
 use Rattle.device_state.specs.QueueEntries.{PLACES, QUEUE_ENTRIES, bytes_of_command, bytes_of_result, queue_bytes}
+use Rattle.device_state.specs.Saved.{needs_version_2}
 use Rattle.kept_adapter.specs.Saved.{first_of, versioned_objects, saved_ledger, saved_queue, saved_device}
 use Rattle.kept_adapter.specs.Saved.{first_entries, first_queue_entries, is_free, ENTRIES}
 use Rattle.kept_adapter.proofs.SavingLemmas.{take_pairs}
@@ -191,26 +192,34 @@ too_few entries n first rest size less same =
 
 -- ---- the objects, then the ledger, then the queue
 
-module _ {m n : Contents} {l k : Option LedgerState} {q r : Option QueueState} (objects : m ≡ n) (ledger : l ≡ k)
-    (queue : q ≡ r) where
+module _ {m n : Contents} {l k : Option LedgerState} {q r : Option QueueState} {v : Bool} (objects : m ≡ n) (ledger : l ≡ k)
+    (queue : q ≡ r) (version : v ≡ needs_version_2 q l) where
   saved_alike : saved_device m l q ≡ saved_device n k r
   saved_alike =
       ap (λ x. saved_device x l q) objects ∙ ap (λ x. saved_device n x q) ledger ∙ ap (λ x. saved_device n k x) queue
 
-  pub compared : {all behind rest : Kept} (t : Bool) → all ≡ versioned_objects m q ++ behind → behind ≡ saved_ledger l ++ rest
+  with_values : (all behind : Kept) → all ≡ versioned_objects m v ++ behind
+      → all ≡ versioned_objects m (needs_version_2 q l) ++ behind
+  with_values all behind first = first ∙ ap (λ t. versioned_objects m t ++ behind) version
+
+  pub compared : {all behind rest : Kept} (t : Bool) → all ≡ versioned_objects m v ++ behind → behind ≡ saved_ledger l ++ rest
       → (t ≡ true → rest ≡ saved_queue q) × (rest ≡ saved_queue q → t ≡ true)
       → (t ≡ true → all ≡ saved_device n k r) × (all ≡ saved_device n k r → t ≡ true)
   compared {all} {behind} {rest} t first second both = (
-    λ is. first ∙ ap (λ es. versioned_objects m q ++ es) (second ∙ ap (λ es. saved_ledger l ++ es) (both.0 is)) ∙ saved_alike,
+    λ is. with_values all behind first
+        ∙ ap (λ es. versioned_objects m (needs_version_2 q l) ++ es) (second ∙ ap (λ es. saved_ledger l ++ es) (both.0 is))
+        ∙ saved_alike,
     λ same. both.1 (same_rest (saved_ledger l) rest (saved_queue q) (sym second
-        ∙ same_rest (versioned_objects m q) behind (saved_ledger l ++ saved_queue q) (sym first ∙ same ∙ sym saved_alike))),
+        ∙ same_rest (versioned_objects m (needs_version_2 q l)) behind (saved_ledger l ++ saved_queue q)
+        (sym (with_values all behind first) ∙ same ∙ sym saved_alike))),
   )
 
-  pub other_ledger : {all behind : Kept} → all ≡ versioned_objects m q ++ behind
+  pub other_ledger : {all behind : Kept} → all ≡ versioned_objects m v ++ behind
       → ((rest : Kept) → behind ≡ saved_ledger l ++ rest → ⊥) → all ≡ saved_device n k r → ⊥
   other_ledger {all} {behind} first other same =
       other (saved_queue q)
-      (same_rest (versioned_objects m q) behind (saved_ledger l ++ saved_queue q) (sym first ∙ same ∙ sym saved_alike))
+      (same_rest (versioned_objects m (needs_version_2 q l)) behind (saved_ledger l ++ saved_queue q)
+      (sym (with_values all behind first) ∙ same ∙ sym saved_alike))
 
 -- ---- a ledger or a queue that is there
 

@@ -13,7 +13,7 @@ use Rattle.cip_objects.specs.OwnRequests.{Asked, own_request}
 use Rattle.cip_ledger.specs.Device.{Device, owned_standing, standing_by_ticket, standing_of_kind, standing_of_own}
 use Rattle.cip_ledger.specs.Device.{standing_in}
 use Rattle.cip_ledger.specs.Doubt.{can_settle, settled, with_last}
-use Rattle.cip_ledger.specs.Ledger.{LedgerState, SlotState, slot_of, with_slot, without_slot}
+use Rattle.cip_ledger.specs.Ledger.{LedgerState, SlotState, slot_of, with_slot, without_slot, slot_withdrawn}
 use Rattle.cip_ledger.specs.Pending.{is_pending_at, completed_slot, completed, with_completed}
 use Rattle.cip_ledger.specs.Doubt.{is_kept_reply}
 use Rattle.cip_ledger.specs.Requests.{LedgerRequest, Command, ledger_request, is_barred}
@@ -22,6 +22,7 @@ use Rattle.cip_ledger.specs.Services.{Action, Replies, Executes, Queues, Frees, 
 use Rattle.cip_ledger.specs.Standings.{by_standing, at_router}
 use Rattle.cip_ledger.specs.Turn.{Fate, Passed, Served, fate, fate_of, turn_by, after_embedded, embedded_reply}
 use Rattle.cip_ledger.specs.Turn.{with_executed, with_queued, with_freed}
+use Rattle.cip_ledger.specs.Withdrawing.{withdrawn}
 use Rattle.cip_owner.specs.Owned.{OwnedState, exec_owned}
 use Rattle.cip_owner.specs.Queue.{QueueState, IsQueue, takes, has_room, has_widths}
 use Rattle.cip_owner.specs.QueueRuns.{QueueStep, Pushes, after_step, after_steps, steps_of, steps_of_kind, steps_of_own}
@@ -29,11 +30,13 @@ use Rattle.cip_owner.proofs.OwnedLemmas.{queue as exec_queue}
 use Rattle.cip_owner.proofs.QueueLemmas.{queue_stays, next_rises, push_passes}
 use Rattle.enip_adapter.specs.DeviceRuns.{DeviceStep, Requested, WrittenBy, device_after_step, objects_after, objects_answer}
 use Rattle.enip_adapter.specs.OwnWrites.{OwnWrite, WritesData, WritesAttribute, SetsStatus, SetsState, Prepares}
-use Rattle.enip_adapter.specs.OwnWrites.{Settles, Finishes, Marks, ledger_written, objects_written}
+use Rattle.enip_adapter.specs.OwnWrites.{Settles, Finishes, Marks, Withdraws, ledger_written, router_written}
 use Rattle.enip_adapter.specs.QueueLaws.{queue_steps_by_step}
 use Rattle.enip_adapter.proofs.QueueLemmas.{step-queue}
 use Rattle.enip_adapter.proofs.SettleLemmas.{IsFinished, Unchanged, Completed, finished-ledger}
-use Rattle.kept_adapter.specs.Started.{has_given, has_given_each, has_given_all}
+use Rattle.enip_adapter.proofs.WithdrawalLemmas.{found-ledger}
+use Rattle.kept_adapter.specs.Started.{has_given, has_given_each, has_given_all, pending_ticket}
+use Rattle.kept_adapter.proofs.WithdrawnLedgers.{by-withdrawn}
 
 -- ---- a later queue has given what an earlier one has
 
@@ -57,75 +60,75 @@ pub each_later : (old new : Option QueueState) (slots : List SlotState) → IsLa
     → has_given_each slots old ≡ true → has_given_each slots new ≡ true
 each_later old new [] later e = refl
 each_later old new (slot ∷ slots) later e =
-    let both = and_parts (has_given slot.ticket old) (has_given_each slots old) e in
-    both_true (has_given slot.ticket new) (has_given_each slots new) (later slot.ticket both.0)
+    let both = and_parts (has_given (pending_ticket slot) old) (has_given_each slots old) e in
+    both_true (has_given (pending_ticket slot) new) (has_given_each slots new) (later (pending_ticket slot) both.0)
     (each_later old new slots later both.1)
 
 -- ---- the ticket of a slot
 
 found_given : (queue : Option QueueState) (taken : List SlotState) (originator : ℕ) (slot : SlotState)
-    → has_given_each taken queue ≡ true → slot_of originator taken ≡ Some slot → has_given slot.ticket queue ≡ true
+    → has_given_each taken queue ≡ true → slot_of originator taken ≡ Some slot → has_given (pending_ticket slot) queue ≡ true
 found_given queue [] originator slot all found = absurd (cc)
 found_given queue (first ∷ taken) originator slot all found =
-    let both = and_parts (has_given first.ticket queue) (has_given_each taken queue) all in
+    let both = and_parts (has_given (pending_ticket first) queue) (has_given_each taken queue) all in
     by (first.originator == originator) both.0 (found_given queue taken originator slot both.1) found
   where
     same_some : (x y : SlotState) → ◌≡◌ {A = Option SlotState} (Some x) (Some y) → x ≡ y
     same_some x y e = cc
 
-    by : (own : Bool) → has_given first.ticket queue ≡ true
-        → (slot_of originator taken ≡ Some slot → has_given slot.ticket queue ≡ true)
-        → (if own then Some first else slot_of originator taken) ≡ Some slot → has_given slot.ticket queue ≡ true
-    by true own later is = subst (λ (s : SlotState). has_given s.ticket queue ≡ true) (same_some first slot is) own
+    by : (own : Bool) → has_given (pending_ticket first) queue ≡ true
+        → (slot_of originator taken ≡ Some slot → has_given (pending_ticket slot) queue ≡ true)
+        → (if own then Some first else slot_of originator taken) ≡ Some slot → has_given (pending_ticket slot) queue ≡ true
+    by true own later is = subst (λ (s : SlotState). has_given (pending_ticket s) queue ≡ true) (same_some first slot is) own
     by false own later is = later is
 
 pub slot_given : (ledger : Option LedgerState) (queue : Option QueueState) (originator : ℕ) (slot : SlotState)
-    → has_given_all ledger queue ≡ true → slot_in originator ledger ≡ Some slot → has_given slot.ticket queue ≡ true
+    → has_given_all ledger queue ≡ true → slot_in originator ledger ≡ Some slot → has_given (pending_ticket slot) queue ≡ true
 slot_given None queue originator slot all found = absurd (cc)
 slot_given (Some l) queue originator slot all found = found_given queue l.taken originator slot all found
 
 -- ---- what changes a ledger
 
 pub given_with : (queue : Option QueueState) (slot : SlotState) (taken : List SlotState)
-    → has_given slot.ticket queue ≡ true → has_given_each taken queue ≡ true
+    → has_given (pending_ticket slot) queue ≡ true → has_given_each taken queue ≡ true
     → has_given_each (with_slot slot taken) queue ≡ true
-given_with queue slot [] own all = both_true (has_given slot.ticket queue) true own refl
+given_with queue slot [] own all = both_true (has_given (pending_ticket slot) queue) true own refl
 given_with queue slot (first ∷ taken) own all =
-    let both = and_parts (has_given first.ticket queue) (has_given_each taken queue) all in
+    let both = and_parts (has_given (pending_ticket first) queue) (has_given_each taken queue) all in
     by (first.originator == slot.originator) both.0 both.1 (given_with queue slot taken own both.1)
   where
-    by : (same : Bool) → has_given first.ticket queue ≡ true → has_given_each taken queue ≡ true
+    by : (same : Bool) → has_given (pending_ticket first) queue ≡ true → has_given_each taken queue ≡ true
         → has_given_each (with_slot slot taken) queue ≡ true
         → has_given_each (if same then slot ∷ taken else first ∷ with_slot slot taken) queue ≡ true
-    by true other rest later = both_true (has_given slot.ticket queue) (has_given_each taken queue) own rest
+    by true other rest later = both_true (has_given (pending_ticket slot) queue) (has_given_each taken queue) own rest
     by false other rest later =
-        both_true (has_given first.ticket queue) (has_given_each (with_slot slot taken) queue) other later
+        both_true (has_given (pending_ticket first) queue) (has_given_each (with_slot slot taken) queue) other later
 
 pub given_without : (queue : Option QueueState) (freed : ℕ) (taken : List SlotState)
     → has_given_each taken queue ≡ true → has_given_each (without_slot freed taken) queue ≡ true
 given_without queue freed [] all = refl
 given_without queue freed (first ∷ taken) all =
-    let both = and_parts (has_given first.ticket queue) (has_given_each taken queue) all in
+    let both = and_parts (has_given (pending_ticket first) queue) (has_given_each taken queue) all in
     by (first.originator == freed) both.0 (given_without queue freed taken both.1)
   where
-    by : (same : Bool) → has_given first.ticket queue ≡ true
+    by : (same : Bool) → has_given (pending_ticket first) queue ≡ true
         → has_given_each (without_slot freed taken) queue ≡ true
         → has_given_each (if not same then first ∷ without_slot freed taken else without_slot freed taken) queue ≡ true
     by true other later = later
     by false other later =
-        both_true (has_given first.ticket queue) (has_given_each (without_slot freed taken) queue) other later
+        both_true (has_given (pending_ticket first) queue) (has_given_each (without_slot freed taken) queue) other later
 
 given_completed : (queue : Option QueueState) (ticket : ℕ) (reply : List ℕ) (taken : List SlotState)
     → has_given_each taken queue ≡ true → has_given_each (map (completed_slot ticket reply) taken) queue ≡ true
 given_completed queue ticket reply [] all = refl
 given_completed queue ticket reply (first ∷ taken) all =
-    let both = and_parts (has_given first.ticket queue) (has_given_each taken queue) all in
-    both_true (has_given (completed_slot ticket reply first).ticket queue)
+    let both = and_parts (has_given (pending_ticket first) queue) (has_given_each taken queue) all in
+    both_true (has_given (pending_ticket (completed_slot ticket reply first)) queue)
     (has_given_each (map (completed_slot ticket reply) taken) queue) (by (is_pending_at ticket first) both.0)
     (given_completed queue ticket reply taken both.1)
   where
-    by : (t : Bool) → has_given first.ticket queue ≡ true
-        → has_given (if t then record first { reply = Some reply; ticket = None } else first).ticket queue ≡ true
+    by : (t : Bool) → has_given (pending_ticket first) queue ≡ true
+        → has_given (pending_ticket (if t then record first { reply = Some reply; ticket = None } else first)) queue ≡ true
     by true own = refl
     by false own = own
 
@@ -136,6 +139,12 @@ completed_given queue l ticket reply all = by (is_kept_reply reply)
     by : (t : Bool) → has_given_each (if t then with_completed ticket reply l else l).taken queue ≡ true
     by true = given_completed queue ticket reply l.taken all
     by false = all
+
+withdrawn_given : (queue : Option QueueState) (l : LedgerState) (originator number : ℕ)
+    → has_given_each l.taken queue ≡ true → has_given_each (withdrawn originator number l).taken queue ≡ true
+withdrawn_given queue l originator number all =
+    by-withdrawn (λ x. has_given_each x.taken queue ≡ true) l originator number all
+    (given_with queue (slot_withdrawn originator number) l.taken refl all)
 
 settled_given : (queue : Option QueueState) (l : LedgerState) (originator number : ℕ) (reply : List ℕ)
     → has_given_each l.taken queue ≡ true → has_given_each (settled l originator number reply).taken queue ≡ true
@@ -335,6 +344,10 @@ written_given (Finishes ticket reply) device all =
     finished_given ticket device.ledger (ledger_written (Finishes ticket reply) device) device.router.queue
     (finished-ledger ticket reply device) all
 written_given (Marks ticket) device all = all
+written_given (Withdraws request) device all =
+    found-ledger (λ l. has_given_all l device.router.queue ≡ true) device request
+    (λ l originator number own. withdrawn_given device.router.queue l originator number own)
+    (λ l ticket reply own. completed_given device.router.queue l ticket reply own) all
 
 pub step_given : (device : Device) (step : DeviceStep) → has_given_all device.ledger device.router.queue ≡ true
     → has_given_all (device_after_step device step).ledger (device_after_step device step).router.queue ≡ true
@@ -342,7 +355,7 @@ step_given device (Requested request) all =
     turn_given (fate owned_standing device.ledger device.router request.0 request.1) device request
     (stands_queued device.router device.ledger request) (step_later device (Requested request)) all
 step_given device (WrittenBy write) all =
-    all_later device.router.queue (objects_written write device.router).queue (ledger_written write device)
+    all_later device.router.queue (router_written write device).queue (ledger_written write device)
     (step_later device (WrittenBy write)) (written_given write device all)
 
 -- ---- what holds of every queue

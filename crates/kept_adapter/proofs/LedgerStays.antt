@@ -2,7 +2,8 @@
 use Rattle.std.proofs.Common.{◌≡◌, ℕ, zero, suc, ◌+◌, ◌*◌, ◌<◌, ◌≤◌, ◌^◌, ◌==◌, ◌&&◌, nat_lt, not, Bool, true, false, cond}
 use Rattle.std.proofs.Common.{if◌then◌else◌, Option, Some, None, List, [], ◌∷◌, length, take, drop, refl, ap, sym, ◌∙◌}
 use Rattle.std.proofs.Common.{subst, arith, Result, Ok, Err}
-use Rattle.std.specs.Prelude.{⊤, option_map, IfSome}
+use Rattle.std.specs.Prelude.{⊤, ◌||◌, option_map, is_some, unwrap_or, IfSome}
+use Rattle.std.specs.Option.{option_and_then}
 use Rattle.std.proofs.lemmas.Bool.{eqb-true, ltb-true, and_parts}
 use Rattle.std.proofs.lemmas.Bool.Decides.{nat_tests}
 use Rattle.std.proofs.lemmas.List.{get_or-drop, length-map}
@@ -16,19 +17,23 @@ use Rattle.cip_message.specs.PathReading.{path_of}
 use Rattle.cip_message.specs.Request.{Request as RouterRequest, request_of}
 use Rattle.cip_ledger.specs.declared.request.TheConstants.{LEDGER}
 use Rattle.cip_ledger.specs.declared.service.TheConstants as services
-use Rattle.cip_ledger.specs.Device.{Device}
+use Rattle.cip_ledger.specs.declared.withdrawal.Withdrawal.{Withdrawal}
+use Rattle.cip_ledger.specs.Device.{Device, finished_in}
 use Rattle.cip_ledger.specs.Doubt.{is_doubtful, is_in_doubt_at, is_in_doubt, is_kept_reply, can_settle, with_last}
 use Rattle.cip_ledger.specs.Doubt.{settled}
 use Rattle.cip_ledger.specs.Kept.{IsLedger}
 use Rattle.cip_ledger.specs.Ledger.{LedgerState, SlotState, slot_of, with_slot, without_slot, AreSlots, IsSlot}
-use Rattle.cip_ledger.specs.Ledger.{is_pending}
+use Rattle.cip_ledger.specs.Ledger.{is_pending, slot_withdrawn}
 use Rattle.cip_ledger.specs.Requests.{LedgerRequest, Command, command_of, ledger_request, request_by_parts}
 use Rattle.cip_ledger.specs.Requests.{request_by_path, is_barred}
 use Rattle.cip_ledger.specs.Runs.{Request, command_given}
 use Rattle.cip_ledger.specs.Services.{Action, Replies, Executes, Queues, Frees, refuses, size_fault, unless, do_new, do_by_slot}
 use Rattle.cip_ledger.specs.Services.{forget, forget_in, action_of, KEPT_LIMIT, HEAD_SIZE}
 use Rattle.cip_ledger.specs.Turn.{Fate, Passed, Served, fate, fate_of, turn_by, with_executed, with_queued, with_freed}
-use Rattle.cip_ledger.specs.Turn.{embedded_reply}
+use Rattle.cip_ledger.specs.Turn.{embedded_reply, with_taken}
+use Rattle.cip_ledger.specs.Withdrawing.{by_withdraw, by_forget, withdrawal_by, withdrawal_of, withdrawal_result}
+use Rattle.cip_ledger.specs.Withdrawing.{has_place, with_withdrawn, was_handed, left_device, with_withdrawal}
+use Rattle.cip_ledger.specs.Withdrawing.{withdrawn_from, found_by}
 use Rattle.cip_ledger.specs.declared.target.Standing.{Standing}
 use Rattle.cip_ledger.specs.declared.target.Standing.TheVariants as standings
 use Rattle.cip_ledger.specs.Device.{owned_standing}
@@ -39,13 +44,14 @@ use Rattle.cip_ledger.proofs.Fates.{Means, fate-means}
 use Rattle.cip_ledger.proofs.KeptLemmas.{apart-with_slot, apart-without_slot, slots-with_slot, slots-without_slot}
 use Rattle.cip_ledger.proofs.CompletedSlots.{apart-completed, slots-completed}
 use Rattle.cip_ledger.proofs.SlotLemmas.{slot_of-originator}
+use Rattle.cip_ledger.proofs.Withdrawals.{IsNamed, none-some, same-some, slot-named, forget-named}
 use Rattle.cip_owner.specs.Owned.{OwnedState}
 use Rattle.cip_owner.specs.OwnedLaws.{exec_owned_within}
 use Rattle.enip_adapter.specs.DeviceRuns.{DeviceStep, Requested, WrittenBy, device_after_step, objects_after}
 use Rattle.enip_adapter.specs.DeviceRuns.{objects_answer}
-use Rattle.kept_adapter.specs.Restarts.{IsOfBytes}
+use Rattle.kept_adapter.specs.Restarts.{IsWriteOfBytes, IsOfBytes}
 use Rattle.enip_adapter.specs.OwnWrites.{OwnWrite, WritesData, WritesAttribute, SetsStatus, SetsState, Prepares}
-use Rattle.enip_adapter.specs.OwnWrites.{Settles, Finishes, Marks, ledger_written}
+use Rattle.enip_adapter.specs.OwnWrites.{Settles, Finishes, Marks, Withdraws, ledger_written}
 use Rattle.enip_adapter.proofs.SettleLemmas.{IsFinished, Unchanged, Completed, finished-ledger}
 use Rattle.kept_adapter.proofs.GivenTickets.{StandsQueued, stands_queued, pending_narrow}
 
@@ -171,7 +177,8 @@ room_action ledger max_size asked =
     (room_if ledger (asked.service == services.FORGET) _ _ (room_forget ledger asked.data)
     (room_if ledger (asked.service == 0x0e) _ _ tt
     (room_if ledger (asked.service == 0x03) _ _ tt
-    (room_if ledger (asked.service == services.GET_SLOTS) _ _ tt tt))))))
+    (room_if ledger (asked.service == services.GET_SLOTS) _ _ tt
+    (room_if ledger (asked.service == services.WITHDRAW) _ _ tt tt)))))))
     tt)
 
 -- The router decides what becomes of a command, and not whether there is room for it.
@@ -372,20 +379,124 @@ finished_stays ticket old new Unchanged is = is
 finished_stays ticket old new (Completed reply) is =
     mapped_stays old (λ l. completed l ticket reply) (λ l own holds. completed_stays l ticket reply holds) is
 
-written_stays : (write : OwnWrite) (device : Device) → IfSome device.ledger IsLedger
+-- ---- a number that is withdrawn
+
+abbrev AreNarrow : Withdrawal → Type 0
+AreNarrow w = (w.originator < 2 ^ 64) × (w.number < 2 ^ 32)
+
+narrow_named : (originator number : ℕ) (w : Withdrawal) → originator < 2 ^ 64 → number < 2 ^ 32
+    → IsNamed originator number w → AreNarrow w
+narrow_named originator number w wide narrow same =
+    (subst (λ n. n < 2 ^ 64) (sym same.0) wide, subst (λ n. n < 2 ^ 32) (sym same.1) narrow)
+
+narrow_if : (b : Bool) (o : Option Withdrawal) (w : Withdrawal) → (o ≡ Some w → AreNarrow w)
+    → (if b then o else None) ≡ Some w → AreNarrow w
+narrow_if true o w more e = more e
+narrow_if false o w more e = absurd (none-some w e)
+
+narrow_asked : (ledger : LedgerState) (asked : LedgerRequest) (w : Withdrawal) → AreBytes asked.data
+    → withdrawal_by ledger asked ≡ Some w → AreNarrow w
+narrow_asked ledger asked w fits e =
+    narrow_if (asked.instance == 1) _ w (by (asked.service == services.WITHDRAW) (asked.service == services.FORGET)) e
+  where
+    by : (withdraws forgets : Bool)
+        → (if withdraws then by_withdraw ledger asked.data
+        else (if forgets then by_forget ledger asked.data else None)) ≡ Some w → AreNarrow w
+    by true forgets f =
+        let o = number_at 8 8 asked.data in
+        let n = number_at 16 4 asked.data in
+        narrow_if ((length asked.data == 20) && (number_at 0 8 asked.data == ledger.life)) _ w
+        (λ g. narrow_named o n w (number8 8 asked.data fits) (number4 16 asked.data fits)
+        (slot-named ledger o n (slot_of o ledger.taken) w g)) f
+    by false true f =
+        let o = number_at 0 8 asked.data in
+        let n = number_at 8 4 asked.data in
+        narrow_if (length asked.data == 12) _ w
+        (λ g. narrow_named o n w (number8 0 asked.data fits) (number4 8 asked.data fits)
+        (forget-named o n (slot_of o ledger.taken) w g)) f
+    by false false f = absurd (none-some w f)
+
+-- what a request withdraws that consists of bytes
+narrow_withdrawal : (ledger : LedgerState) (text : List ℕ) (w : Withdrawal) → AreBytes text
+    → withdrawal_of (Some ledger) text ≡ Some w → AreNarrow w
+narrow_withdrawal ledger text w fits = by (ledger_request text) refl
+  where
+    by : (asked : Option LedgerRequest) → ledger_request text ≡ asked
+        → option_and_then (withdrawal_by ledger) asked ≡ Some w → AreNarrow w
+    by None is e = absurd (none-some w e)
+    by (Some asked) is e = narrow_asked ledger asked w (asked_data text asked fits is) e
+
+with_withdrawn_stays : (ledger : LedgerState) (originator number : ℕ) → originator < 2 ^ 64 → number < 2 ^ 32
+    → IsLedger ledger → IsLedger (with_withdrawn originator number ledger)
+with_withdrawn_stays ledger originator number wide narrow is = by (has_place ledger originator) refl
+  where
+    by : (place : Bool) → has_place ledger originator ≡ place
+        → IsLedger (if place then with_taken (slot_withdrawn originator number) ledger else ledger)
+    by false e = is
+    by true e =
+        last_stays ledger (slot_withdrawn originator number) is (record {
+          originator = wide;
+          number = narrow;
+          short = omega arith;
+          ticket = omega arith;
+          one = refl;
+        })
+        (λ none. ltb-true (length ledger.taken) ledger.slots
+        (sym (ap (λ o. is_some o || nat_lt (length ledger.taken) ledger.slots) none) ∙ e))
+
+-- the ledger once a command has left the queue
+left_stays : (ticket : Option ℕ) (device left : Device) → left_device ticket device ≡ Some left
+    → IfSome device.ledger IsLedger → IfSome left.ledger IsLedger
+left_stays None device left e is = subst (λ (d : Device). IfSome d.ledger IsLedger) (same-some device left e) is
+left_stays (Some ticket) device left e is = by (was_handed ticket device.router.queue) e
+  where
+    by : (handed : Bool) → (if handed then None else finished_in ticket withdrawal_result device) ≡ Some left
+        → IfSome left.ledger IsLedger
+    by true f = absurd (none-some left f)
+    by false f =
+        subst (λ (d : Device). IfSome d.ledger IsLedger) (ap (λ o. unwrap_or o device) f)
+        (finished_stays ticket device.ledger (unwrap_or (finished_in ticket withdrawal_result device) device).ledger
+        (finished-ledger ticket withdrawal_result device) is)
+
+found_stays : (text : List ℕ) (device : Device) → AreBytes text → IfSome device.ledger IsLedger
+    → IfSome (found_by text device).ledger IsLedger
+found_stays text device fits is = by device.ledger
+  where
+    of_left : (w : Withdrawal) (left : Option Device) → left_device w.ticket device ≡ left → AreNarrow w
+        → IfSome (unwrap_or (option_map (with_withdrawal w) left) device).ledger IsLedger
+    of_left w None e narrow = is
+    of_left w (Some left) e narrow =
+        mapped_stays left.ledger (with_withdrawn w.originator w.number)
+        (λ l own holds. with_withdrawn_stays l w.originator w.number narrow.0 narrow.1 holds)
+        (left_stays w.ticket device left e is)
+
+    of_found : (ledger : LedgerState) (found : Option Withdrawal) → withdrawal_of (Some ledger) text ≡ found
+        → IfSome (unwrap_or (option_and_then (withdrawn_from device) found) device).ledger IsLedger
+    of_found ledger None e = is
+    of_found ledger (Some w) e = of_left w (left_device w.ticket device) refl (narrow_withdrawal ledger text w fits e)
+
+    by : (ledger : Option LedgerState)
+        → IfSome (unwrap_or (option_and_then (withdrawn_from device) (withdrawal_of ledger text)) device).ledger IsLedger
+    by None = is
+    by (Some ledger) = of_found ledger (withdrawal_of (Some ledger) text) refl
+
+-- ---- the device's own writes
+
+written_stays : (write : OwnWrite) (device : Device) → IsWriteOfBytes write → IfSome device.ledger IsLedger
     → IfSome (ledger_written write device) IsLedger
-written_stays (WritesData instance offset bytes) device is = is
-written_stays (WritesAttribute class instance attribute offset bytes) device is = is
-written_stays (SetsStatus status) device is = is
-written_stays (SetsState state) device is = is
-written_stays (Prepares reply) device is = is
-written_stays (Settles originator number reply) device is =
+written_stays (WritesData instance offset bytes) device fits is = is
+written_stays (WritesAttribute class instance attribute offset bytes) device fits is = is
+written_stays (SetsStatus status) device fits is = is
+written_stays (SetsState state) device fits is = is
+written_stays (Prepares reply) device fits is = is
+written_stays (Settles originator number reply) device fits is =
     mapped_stays device.ledger (λ l. settled l originator number reply)
     (λ l own holds. settled_stays l originator number reply holds) is
-written_stays (Finishes ticket reply) device is =
+written_stays (Finishes ticket reply) device fits is =
     finished_stays ticket device.ledger (ledger_written (Finishes ticket reply) device)
     (finished-ledger ticket reply device) is
-written_stays (Marks ticket) device is = is
+written_stays (Marks ticket) device fits is = is
+written_stays (Withdraws request) device fits is = found_stays request device fits is
 
 pub step_stays : (device : Device) (step : DeviceStep) → IsOfBytes step → IfSome device.ledger IsLedger
     → IfSome (device_after_step device step).ledger IsLedger
@@ -393,4 +504,4 @@ step_stays device (Requested request) fits is =
     turn_stays (fate owned_standing device.ledger device.router request.0 request.1) device request fits
     (fate-means owned_standing device.ledger device.router request)
     (stands_queued device.router device.ledger request) (fate_room device.ledger device.router request) is
-step_stays device (WrittenBy write) fits is = written_stays write device is
+step_stays device (WrittenBy write) fits is = written_stays write device fits is

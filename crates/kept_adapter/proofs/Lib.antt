@@ -1,6 +1,7 @@
 pub mod SavingLemmas
 pub mod QueueStays
 pub mod QueuePuts
+pub mod WithdrawnLedgers
 pub mod TicketSlots
 pub mod GivenTickets
 pub mod LedgerStays

@@ -11,7 +11,7 @@ use Rattle.cip_ledger.specs.Laws.{UntilFreed, Rises, IsNotFreed, Succeeds}
 use Rattle.cip_ledger.specs.Pending.{has_ticket, is_pending_at, done_with, completed_slot, with_completed, completed}
 use Rattle.cip_ledger.specs.PendingLaws.{completed_if}
 use Rattle.cip_ledger.specs.Runs.{Request, slot_in, Executed, Freed, Event, answer_to, journal, events_by}
-use Rattle.cip_ledger.specs.Services.{Replies, Executes, Queues, Frees, DONE, PENDING, IN_DOUBT, success, reply_to}
+use Rattle.cip_ledger.specs.Services.{Replies, Executes, Queues, Frees, DONE, PENDING, IN_DOUBT, WITHDRAWN, success, reply_to}
 use Rattle.cip_ledger.specs.Services.{last_content, state_content}
 use Rattle.cip_ledger.specs.Turn.{Fate, Passed, Served, fate, turn_by, with_executed, with_queued, with_freed}
 use Rattle.cip_ledger.specs.Turn.{embedded_reply}
@@ -26,20 +26,22 @@ use Rattle.cip_owner.specs.QueueRuns.{after_step, after_steps, QueueStep}
 use Rattle.enip_adapter.specs.DeviceRuns.{DeviceStep, Requested, WrittenBy, device_after_step, objects_after}
 use Rattle.enip_adapter.specs.DeviceRuns.{objects_answer}
 use Rattle.enip_adapter.specs.OwnWrites.{OwnWrite, WritesData, WritesAttribute, SetsStatus, SetsState, Prepares}
-use Rattle.enip_adapter.specs.OwnWrites.{Settles, Finishes, Marks, ledger_written, device_written}
+use Rattle.enip_adapter.specs.OwnWrites.{Settles, Finishes, Marks, Withdraws, ledger_written, device_written}
 use Rattle.enip_adapter.specs.QueueLaws.{queue_steps_by_step}
 use Rattle.enip_adapter.proofs.DeviceLemmas.{above-append}
 use Rattle.enip_adapter.proofs.QueueLemmas.{step-queue}
 use Rattle.enip_adapter.proofs.SettleLemmas.{IsFinished, Unchanged, Completed, finished-ledger, written-settled}
+use Rattle.enip_adapter.proofs.WithdrawalLemmas.{found-ledger}
 use Rattle.kept_adapter.specs.declared.adapter_start.AdapterStart.{AdapterStart}
 use Rattle.kept_adapter.specs.Restarts.{LifeStep, Does, Restarts, restarted, after_life_step, after_life_steps}
 use Rattle.kept_adapter.specs.Restarts.{journal_over_restarts, queue_steps_over_restarts}
 use Rattle.kept_adapter.specs.Restarts.{IsRestartable, IsStep, Sizes, sizes_of, slots_of, places_of, GoesOn, IsGoingOn}
 use Rattle.kept_adapter.specs.Restarts.{SettlesOthers, SettlesNothingOf}
 use Rattle.kept_adapter.specs.RestartLaws.{GoOn}
-use Rattle.kept_adapter.specs.Started.{has_given}
+use Rattle.kept_adapter.specs.Started.{has_given, ticket_by, pending_ticket}
 use Rattle.kept_adapter.proofs.GivenTickets.{slot_given}
 use Rattle.kept_adapter.proofs.QueueStays.{after_steps_limit}
+use Rattle.kept_adapter.proofs.WithdrawnLedgers.{withdrawn-slots, withdrawn-final}
 use Rattle.kept_adapter.proofs.Restarted.{goes_on, queue_goes_on, device_stays}
 
 -- ---- the number of slots stays, and that of places
@@ -96,6 +98,10 @@ written_slots (Finishes ticket reply) device =
     finished_slots ticket device.ledger (ledger_written (Finishes ticket reply) device)
     (finished-ledger ticket reply device)
 written_slots (Marks ticket) device = refl
+written_slots (Withdraws request) device =
+    found-ledger (λ l. slots_of l ≡ slots_of device.ledger) device request
+    (λ l originator number same. ap (λ n. Some n) (withdrawn-slots l originator number) ∙ same)
+    (λ l ticket reply same. ap (λ n. Some n) (completed_slots l ticket reply) ∙ same) refl
 
 step_slots : (device : Device) (step : DeviceStep)
     → slots_of (device_after_step device step).ledger ≡ slots_of device.ledger
@@ -330,6 +336,10 @@ written_final (Finishes ticket reply) device originator number content other fin
     finished_final ticket device.ledger (ledger_written (Finishes ticket reply) device) originator number content
     (finished-ledger ticket reply device) final is
 written_final (Marks ticket) device originator number content other final is = is
+written_final (Withdraws request) device originator number content other final is =
+    found-ledger (λ l. Settled number content (slot_in originator l)) device request
+    (λ l by given held. withdrawn-final l by given originator number content final held)
+    (λ l ticket reply held. completed_final (Some l) ticket reply originator number content final held) is
 
 pub stays_settled : (own : Sizes) (device : Device) (steps : List LifeStep) (originator number : ℕ) (content : List ℕ)
     → AreGoingOn own device steps → AllByRecursion (SettlesNothingOf originator) steps
@@ -365,8 +375,10 @@ other_state content state rest e other pending = other (first state PENDING rest
 
 pending_or_not : (slot : SlotState) (kept : Option (List ℕ)) (given : Option ℕ) → slot.reply ≡ kept
     → slot.ticket ≡ given → (last_content slot ≡ PENDING ∷ []) ⊎ NotPending (last_content slot)
-pending_or_not slot (Some r) given done t =
-    inr (other_state (last_content slot) DONE r (content_by slot (Some r) given done t) (λ e. omega (arith, e)))
+pending_or_not slot (Some r) None done t =
+    inr (other_state (last_content slot) DONE r (content_by slot (Some r) None done t) (λ e. omega (arith, e)))
+pending_or_not slot (Some r) (Some given) done t =
+    inr (other_state (last_content slot) WITHDRAWN [] (content_by slot (Some r) (Some given) done t) (λ e. omega (arith, e)))
 pending_or_not slot None (Some given) none t = inl (content_by slot None (Some given) none t)
 pending_or_not slot None None none t =
     inr (other_state (last_content slot) IN_DOUBT [] (content_by slot None None none t) (λ e. omega (arith, e)))
@@ -424,12 +436,15 @@ no_ticket : (ticket : Option ℕ) → has_given ticket None ≡ true → ticket 
 no_ticket None given = refl
 no_ticket (Some t) given = absurd (cc)
 
-final_content : (slot : SlotState) (kept : Option (List ℕ)) → slot.reply ≡ kept → slot.ticket ≡ None
-    → NotPending (last_content slot)
-final_content slot (Some r) done none =
-    other_state (last_content slot) DONE r (content_by slot (Some r) None done none) (λ e. omega (arith, e))
-final_content slot None doubt none =
-    other_state (last_content slot) IN_DOUBT [] (content_by slot None None doubt none) (λ e. omega (arith, e))
+final_content : (slot : SlotState) (kept : Option (List ℕ)) (given : Option ℕ) → slot.reply ≡ kept → slot.ticket ≡ given
+    → ticket_by kept given ≡ None → NotPending (last_content slot)
+final_content slot (Some r) None done t none =
+    other_state (last_content slot) DONE r (content_by slot (Some r) None done t) (λ e. omega (arith, e))
+final_content slot (Some r) (Some given) done t none =
+    other_state (last_content slot) WITHDRAWN [] (content_by slot (Some r) (Some given) done t) (λ e. omega (arith, e))
+final_content slot None None doubt t none =
+    other_state (last_content slot) IN_DOUBT [] (content_by slot None None doubt t) (λ e. omega (arith, e))
+final_content slot None (Some given) doubt t none = absurd (cc)
 
 pub same_final : (own : Sizes) (device : Device) (first again : Request) (between : List LifeStep)
     (originator number : ℕ) → device.router.queue ≡ None → AreGoingOn own device (Does (Requested first) ∷ between)
@@ -447,12 +462,12 @@ same_final own device first again between originator number none are others is a
     let next = device_after_step device step in
     let without : next.router.queue ≡ None
     = step-queue device step ∙ ap (option_map (λ q. after_steps q (queue_steps_by_step device step))) none in
-    let given : has_given s.slot.ticket next.router.queue ≡ true
+    let given : has_given (pending_ticket s.slot) next.router.queue ≡ true
     = slot_given next.ledger next.router.queue originator s.slot
     (later own device (Does step) between are).runs.is.given s.found in
     answers_again own device first again between originator number are others is again_is kept
-    (final_content s.slot s.slot.reply refl
-    (no_ticket s.slot.ticket (subst (λ q. has_given s.slot.ticket q ≡ true) without given)))
+    (final_content s.slot s.slot.reply s.slot.ticket refl refl
+    (no_ticket (pending_ticket s.slot) (subst (λ q. has_given (pending_ticket s.slot) q ≡ true) without given)))
 
 -- ---- the queue
 

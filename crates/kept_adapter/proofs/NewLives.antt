@@ -13,6 +13,7 @@ use Rattle.cip_ledger.specs.Runs.{Request, slot_in, Executed, Freed, Event, jour
 use Rattle.cip_ledger.specs.Services.{Replies, Executes, Queues, Frees, DONE, PENDING}
 use Rattle.cip_ledger.specs.Turn.{Fate, Passed, Served, fate, turn_by, with_executed, with_queued, with_freed}
 use Rattle.cip_ledger.specs.Turn.{embedded_reply}
+use Rattle.cip_ledger.specs.Withdrawing.{withdrawn}
 use Rattle.cip_ledger.proofs.Doubts.{settled-stays}
 use Rattle.cip_ledger.proofs.Fates.{Means, fate-means}
 use Rattle.cip_ledger.proofs.Pendings.{completed-stays}
@@ -20,9 +21,10 @@ use Rattle.cip_ledger.proofs.Settled.{Settled, next_by, settled-run, settled-com
 use Rattle.cip_ledger.proofs.Settled.{journal-life}
 use Rattle.enip_adapter.specs.DeviceRuns.{Requested, WrittenBy, objects_after, objects_answer}
 use Rattle.enip_adapter.specs.OwnWrites.{OwnWrite, WritesData, WritesAttribute, SetsStatus, SetsState, Prepares}
-use Rattle.enip_adapter.specs.OwnWrites.{Settles, Finishes, Marks, ledger_written, device_written}
+use Rattle.enip_adapter.specs.OwnWrites.{Settles, Finishes, Marks, Withdraws, ledger_written, device_written}
 use Rattle.enip_adapter.proofs.DeviceLemmas.{above-append}
 use Rattle.enip_adapter.proofs.SettleLemmas.{IsFinished, Unchanged, Completed, finished-ledger}
+use Rattle.enip_adapter.proofs.WithdrawalLemmas.{found-ledger, withdrawn-stays}
 use Rattle.kept_adapter.specs.declared.adapter_start.AdapterStart.{AdapterStart}
 use Rattle.kept_adapter.specs.declared.adapter_start.LedgerStart.{LedgerStart}
 use Rattle.kept_adapter.specs.Restarts.{LifeStep, Does, Restarts, restarted, after_life_step, journal_over_restarts}
@@ -30,6 +32,7 @@ use Rattle.kept_adapter.specs.Restarts.{IsRestartable, IsStep, IsLedgerAfter, li
 use Rattle.kept_adapter.specs.Restarts.{BeginsOther, BeginNewLives}
 use Rattle.kept_adapter.specs.Started.{new_ledger}
 use Rattle.kept_adapter.proofs.Restarted.{ledger_after, device_stays}
+use Rattle.kept_adapter.proofs.WithdrawnLedgers.{withdrawn-life}
 
 -- ---- the life stays
 
@@ -83,6 +86,10 @@ written_life (Finishes ticket reply) device =
     finished_life ticket device.ledger (ledger_written (Finishes ticket reply) device)
     (finished-ledger ticket reply device)
 written_life (Marks ticket) device = refl
+written_life (Withdraws request) device =
+    found-ledger (λ l. life_of l ≡ life_of device.ledger) device request
+    (λ l originator number same. ap (λ n. Some n) (withdrawn-life l originator number) ∙ same)
+    (λ l ticket reply same. ap (λ n. Some n) (completed_life l ticket reply) ∙ same) refl
 
 -- ---- a number that is never executed again
 
@@ -181,6 +188,13 @@ completed_blocked (Some l) ticket reply life originator number (inl other) =
 completed_blocked (Some l) ticket reply life originator number (inr (content, is)) =
     inr (completed-stays l ticket reply originator number content is)
 
+withdrawn_blocked : (l : LedgerState) (by own : ℕ) (life originator number : ℕ)
+    → Blocked life originator number (Some l) → Blocked life originator number (Some (withdrawn by own l))
+withdrawn_blocked l by own life originator number (inl other) =
+    inl (λ same. other (sym (withdrawn-life l by own) ∙ same))
+withdrawn_blocked l by own life originator number (inr (content, is)) =
+    inr (withdrawn-stays l by own originator number content is)
+
 finished_blocked : (ticket : ℕ) (old new : Option LedgerState) (life originator number : ℕ) → IsFinished ticket old new
     → Blocked life originator number old → Blocked life originator number new
 finished_blocked ticket old new life originator number Unchanged is = is
@@ -200,6 +214,10 @@ written_blocked (Finishes ticket reply) device life originator number is =
     finished_blocked ticket device.ledger (ledger_written (Finishes ticket reply) device) life originator number
     (finished-ledger ticket reply device) is
 written_blocked (Marks ticket) device life originator number is = is
+written_blocked (Withdraws request) device life originator number is =
+    found-ledger (Blocked life originator number) device request
+    (λ l by own held. withdrawn_blocked l by own life originator number held)
+    (λ l ticket reply held. completed_blocked (Some l) ticket reply life originator number held) is
 
 new_blocked : (ledger : Option LedgerStart) (life originator number : ℕ) → IfSome ledger (λ l. l.life ≢ life)
     → Blocked life originator number (new_ledger ledger)

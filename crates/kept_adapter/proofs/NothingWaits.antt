@@ -19,7 +19,7 @@ use Rattle.device_state.specs.QueueEntries.{QUEUE_ENTRIES, queue_bytes}
 use Rattle.device_state.specs.Keys.{key_of}
 use Rattle.device_state.specs.Laws.{IsKept}
 use Rattle.device_state.specs.Restored.{Done}
-use Rattle.device_state.specs.Saved.{State, state_of, value_entry, identity_bytes, with_version}
+use Rattle.device_state.specs.Saved.{State, state_of, value_entry, identity_bytes, needs_version_2, with_version}
 use Rattle.enip_adapter.specs.Calls.{AdapterState}
 use Rattle.enip_keep.specs.Kept.{Kept}
 use Rattle.kept_adapter.specs.declared.adapter_start.AdapterStart.{AdapterStart}
@@ -221,7 +221,8 @@ nothing_waits start a same are have =
     let p : Progress = beginning (configured start) in
     let rest : Kept
     = saved_ledger a.state.shared.objects.ledger ++ saved_queue a.state.shared.objects.router.queue in
-    let first : ℕ × List ℕ = (key_of IDENTITY 1 0, with_version a.state.shared.objects.router.queue (identity_bytes m)) in
+    let is_version_2 = needs_version_2 a.state.shared.objects.router.queue a.state.shared.objects.ledger in
+    let first : ℕ × List ℕ = (key_of IDENTITY 1 0, with_version is_version_2 (identity_bytes m)) in
     other_apart p first (map pair_of (map (value_entry m) (kept_names m.shapes)) ++ rest) refl
     ∙ values_apart (put_back p first) m (kept_names m.shapes) rest same are have
     (ledger_apart a.state.shared.objects.ledger a.state.shared.objects.router.queue)

@@ -170,7 +170,7 @@ values_narrow m (name ∷ names) h =
     let a = h.0.attribute in
     (omega (arith, c, i, a), values_narrow m names h.1)
 
-pub objects_leave : (p : Progress) (m : Contents) (queue : Option QueueState) → AllByRecursion IsNarrow (kept_names m.shapes)
-    → LeavesLedger p (put_all_back p (versioned_objects m queue))
-objects_leave p m queue h =
-    entries_leave p (versioned_objects m queue) (omega arith, values_narrow m (kept_names m.shapes) h)
+pub objects_leave : (p : Progress) (m : Contents) (is_version_2 : Bool) → AllByRecursion IsNarrow (kept_names m.shapes)
+    → LeavesLedger p (put_all_back p (versioned_objects m is_version_2))
+objects_leave p m is_version_2 h =
+    entries_leave p (versioned_objects m is_version_2) (omega arith, values_narrow m (kept_names m.shapes) h)

@@ -1,5 +1,5 @@
 -- The queue of a device that starts from what was kept of a device.
-use Rattle.std.proofs.Common.{◌≡◌, ◌⊎◌, inl, inr, ℕ, zero, suc, ◌<◌, ◌≤◌, ◌^◌, Bool, true, false, if◌then◌else◌, Option, Some}
+use Rattle.std.proofs.Common.{◌≡◌, ◌⊎◌, inl, inr, ℕ, zero, suc, ◌<◌, ◌≤◌, ◌^◌, ◌||◌, Bool, true, false, if◌then◌else◌, Option, Some}
 use Rattle.std.proofs.Common.{None, List, [], ◌∷◌, length, refl, ap, sym, ◌∙◌, subst, arith}
 use Rattle.std.specs.Prelude.{IfSome}
 use Rattle.std.specs.List.{AllByRecursion}
@@ -133,15 +133,32 @@ none_stays p (entry ∷ entries) none = none_stays (put_queue_back p entry) entr
 
 trusted_if_lost : (start : AdapterStart) (p : QueueProgress) → p.has_lost ≡ true
     → trusted_queue start p ≡ new_queue start.queue
-trusted_if_lost start p lost = ap (λ t. if t then new_queue start.queue else p.queue) lost
+trusted_if_lost start p lost = ap (λ t. if t || start.begins_life then new_queue start.queue else p.queue) lost
+
+trusted_if_wanted : (start : AdapterStart) (p : QueueProgress) → start.begins_life ≡ true
+    → trusted_queue start p ≡ new_queue start.queue
+trusted_if_wanted start p wanted = by p.has_lost
+  where
+    by : (t : Bool) → (if t || start.begins_life then new_queue start.queue else p.queue) ≡ new_queue start.queue
+    by true = refl
+    by false = ap (λ t. if t then new_queue start.queue else p.queue) wanted
 
 trusted_none : (start : AdapterStart) (p : QueueProgress) → start.queue ≡ None → p.queue ≡ None
     → trusted_queue start p ≡ new_queue start.queue
-trusted_none start p same none = by p.has_lost
+trusted_none start p same none = by (p.has_lost || start.begins_life)
   where
     by : (t : Bool) → (if t then new_queue start.queue else p.queue) ≡ new_queue start.queue
     by true = refl
     by false = none ∙ sym (ap new_queue same)
+
+-- with nothing put back
+pub trusted_new : (start : AdapterStart)
+    → trusted_queue start (empty_progress (new_queue start.queue)) ≡ new_queue start.queue
+trusted_new start = by start.begins_life
+  where
+    by : (t : Bool) → (if t then new_queue start.queue else new_queue start.queue) ≡ new_queue start.queue
+    by true = refl
+    by false = refl
 
 after_own : (start : AdapterStart) (queue : Option QueueState) (own : Option ℕ) → start.queue ≡ own
     → IfSome queue IsQueue
@@ -151,7 +168,7 @@ after_own start queue None same is =
     let p = empty_progress (new_queue start.queue) in
     inl (trusted_none start (put_queue_all_back p (saved_queue queue)) same
     (none_stays p (saved_queue queue) (ap new_queue same)))
-after_own start None (Some places) same is = inl refl
+after_own start None (Some places) same is = inl (trusted_new start)
 after_own start (Some q) (Some places) same is = by QUEUE_ENTRIES 512 refl (omega arith) (omega arith)
   where
     at_end : (n : ℕ) → 512 ≤ n → IsAtOrLost q places (suc n)
@@ -161,14 +178,23 @@ after_own start (Some q) (Some places) same is = by QUEUE_ENTRIES 512 refl (omeg
     at_end n past (inl lost) =
         inl (trusted_if_lost start
         (put_queue_all_back (empty_progress (Some (empty_queue places))) (first_queue_entries q (suc n))) lost)
-    at_end n past (inr (at, fits)) = inr (
-      q,
-      places,
-      refl,
-      same,
-      subst (λ w. length w ≤ places) (all_commands q n is past) fits,
-      ap (trusted_queue start) at ∙ ap (λ x. Some x) (all_places q places n is past),
-    )
+    at_end n past (inr (at, fits)) = by_life start.begins_life refl
+      where
+        by_life : (wanted : Bool) → start.begins_life ≡ wanted → IsQueueAfter start (Some q) (trusted_queue start
+            (put_queue_all_back (empty_progress (Some (empty_queue places))) (first_queue_entries q (suc n))))
+        by_life true e =
+            inl (trusted_if_wanted start
+            (put_queue_all_back (empty_progress (Some (empty_queue places))) (first_queue_entries q (suc n))) e)
+        by_life false e = inr (
+          q,
+          places,
+          refl,
+          same,
+          subst (λ w. length w ≤ places) (all_commands q n is past) fits,
+          ap (trusted_queue start) at
+              ∙ (ap (λ t. if t then new_queue start.queue else Some (before q places (suc n))) e
+              ∙ ap (λ x. Some x) (all_places q places n is past)),
+        )
 
     by : (count n : ℕ) → count ≡ suc n → 512 ≤ n → count ≤ 2 ^ 16 → IsQueueAfter start (Some q) (trusted_queue start
         (put_queue_all_back (empty_progress (new_queue start.queue)) (first_queue_entries q count)))

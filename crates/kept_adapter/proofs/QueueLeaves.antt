@@ -12,7 +12,7 @@ use Rattle.cip_owner.specs.Queue.{QueueState}
 use Rattle.device_state.specs.declared.restoring.Outcome.TheVariants.{Used, Unknown}
 use Rattle.device_state.specs.QueueEntries.{QUEUE_ENTRIES, queue_bytes}
 use Rattle.device_state.specs.Restored.{done}
-use Rattle.device_state.specs.Saved.{State, state_of}
+use Rattle.device_state.specs.Saved.{State, state_of, needs_version_2}
 use Rattle.enip_keep.specs.Kept.{Kept}
 use Rattle.kept_adapter.specs.declared.progress.Progress.{Progress}
 use Rattle.kept_adapter.specs.declared.queue_progress.QueueProgress.{QueueProgress}
@@ -102,11 +102,13 @@ queue_leaves p (Some q) = counted p q QUEUE_ENTRIES refl (omega arith)
 
 -- The device after all entries is that after those of the objects and of the ledger.
 pub all_entries : (p : Progress) (m : Contents) (l : Option LedgerState) (queue : Option QueueState)
-    → put_all_back p (saved_device m l queue) ≡ put_all_back (put_all_back p (versioned_objects m queue)) (saved_ledger l)
+    → put_all_back p (saved_device m l queue)
+    ≡ put_all_back (put_all_back p (versioned_objects m (needs_version_2 queue l))) (saved_ledger l)
 all_entries p m l queue =
-    put_two p (versioned_objects m queue) (saved_ledger l ++ saved_queue queue)
-    ∙ put_two (put_all_back p (versioned_objects m queue)) (saved_ledger l) (saved_queue queue)
-    ∙ queue_leaves (put_all_back (put_all_back p (versioned_objects m queue)) (saved_ledger l)) queue
+    let values = versioned_objects m (needs_version_2 queue l) in
+    put_two p values (saved_ledger l ++ saved_queue queue)
+    ∙ put_two (put_all_back p values) (saved_ledger l) (saved_queue queue)
+    ∙ queue_leaves (put_all_back (put_all_back p values) (saved_ledger l)) queue
 
 -- ---- the other entries
 
@@ -130,11 +132,11 @@ narrow_others [] are = tt
 narrow_others (entry ∷ entries) are =
     let below = are.0 in (below_queue entry.0 (omega (arith, below)), narrow_others entries are.1)
 
-objects_apart : (p : QueueProgress) (m : Contents) (queue : Option QueueState) → AllByRecursion IsNarrow (kept_names m.shapes)
-    → put_queue_all_back p (versioned_objects m queue) ≡ p
-objects_apart p m queue names =
-    others_leave p (versioned_objects m queue)
-    (narrow_others (versioned_objects m queue) (omega arith, values_narrow m (kept_names m.shapes) names))
+objects_apart : (p : QueueProgress) (m : Contents) (is_version_2 : Bool) → AllByRecursion IsNarrow (kept_names m.shapes)
+    → put_queue_all_back p (versioned_objects m is_version_2) ≡ p
+objects_apart p m is_version_2 names =
+    others_leave p (versioned_objects m is_version_2)
+    (narrow_others (versioned_objects m is_version_2) (omega arith, values_narrow m (kept_names m.shapes) names))
 
 slots_apart : (p : QueueProgress) (l : LedgerState) (count : ℕ) → count ≤ 2 ^ 15
     → put_queue_all_back p (first_entries l count) ≡ p
@@ -158,7 +160,8 @@ pub all_queue_entries : (p : QueueProgress) (m : Contents) (l : Option LedgerSta
     → AllByRecursion IsNarrow (kept_names m.shapes)
     → put_queue_all_back p (saved_device m l queue) ≡ put_queue_all_back p (saved_queue queue)
 all_queue_entries p m l queue names =
-    put_queue_two p (versioned_objects m queue) (saved_ledger l ++ saved_queue queue)
-    ∙ ap (λ x. put_queue_all_back x (saved_ledger l ++ saved_queue queue)) (objects_apart p m queue names)
+    let is_version_2 = needs_version_2 queue l in
+    put_queue_two p (versioned_objects m is_version_2) (saved_ledger l ++ saved_queue queue)
+    ∙ ap (λ x. put_queue_all_back x (saved_ledger l ++ saved_queue queue)) (objects_apart p m is_version_2 names)
     ∙ put_queue_two p (saved_ledger l) (saved_queue queue)
     ∙ ap (λ x. put_queue_all_back x (saved_queue queue)) (ledger_apart p l)

@@ -44,7 +44,7 @@ use Rattle.enip_adapter.specs.Turn.{State, Event, Output, turn, session_of}
 use Rattle.enip_adapter.specs.Turn.Event.{Begin, End, At, Framed, Long, Written}
 use Rattle.enip_adapter.specs.Turn.Output.{NoReply, Sends, Begins, Refuses}
 use Rattle.enip_keep.specs.Lives.{Executed, Restarted}
-use Rattle.kept_adapter.specs.Restarts.{LifeStep, Does, AdapterStep, steps_over_restarts, IsOfBytes, IsStep}
+use Rattle.kept_adapter.specs.Restarts.{LifeStep, Does, AdapterStep, steps_over_restarts, IsWriteOfBytes, IsOfBytes, IsStep}
 use Rattle.kept_adapter.specs.Restarts.{FeedsBytes, HoldsBytes, IsHeldInBytes, IsAdapterStep}
 use Rattle.kept_adapter.specs.Restarts.{Sizes, sizes_of, configured_sizes, slots_of, places_of, IsGoingOn, RestartsGoOn}
 use Rattle.kept_adapter.specs.Restarts.{IsConfiguration}
@@ -53,6 +53,7 @@ use Rattle.kept_adapter.specs.Saved.{saved_adapter}
 use Rattle.kept_adapter.specs.Started.{started, new_ledger, new_queue}
 use Rattle.kept_adapter.specs.declared.adapter_start.AdapterStart.{AdapterStart}
 use Rattle.kept_adapter.specs.declared.adapter_start.LedgerStart.{LedgerStart}
+use Rattle.kept_adapter.proofs.QueueBack.{trusted_new}
 use Rattle.kept_adapter.proofs.Restarted.{first_device}
 
 -- ---- the data in a body
@@ -232,7 +233,7 @@ BringsBytes (End peer) = ⊤
 BringsBytes (At now) = ⊤
 BringsBytes (Framed peer f) = AreBytes f.body
 BringsBytes (Long peer header) = ⊤
-BringsBytes (Written write) = ⊤
+BringsBytes (Written write) = IsWriteOfBytes write
 
 requested_bytes : (requests : List Request) → AllOfBytes requests
     → AllByRecursion IsOfBytes (map Requested requests)
@@ -246,7 +247,7 @@ event_bytes s (At now) fits = tt
 event_bytes s (Framed peer f) fits =
     requested_bytes (requests_by_event s (Framed peer f)) (by_session s.shared f (session_of s peer) fits)
 event_bytes s (Long peer header) fits = tt
-event_bytes s (Written write) fits = (tt, tt)
+event_bytes s (Written write) fits = (fits, tt)
 
 all_both : {A : Type 0} (P : A → Type 0) (xs ys : List A) → AllByRecursion P xs → AllByRecursion P ys
     → AllByRecursion P (xs ++ ys)
@@ -357,7 +358,7 @@ call_bytes a (Feeds now peer piece) all fits =
     record { events = (tt, means.events); held = means.held }
 call_bytes a (Ends_peer peer) all fits = record { events = (tt, tt); held = without_bytes a.held peer all }
 call_bytes a (Ticks now) all fits = record { events = (tt, tt); held = all }
-call_bytes a (Writes write) all fits = record { events = (tt, tt); held = all }
+call_bytes a (Writes write) all fits = record { events = (fits, tt); held = all }
 
 calls_bytes : (a : AdapterState) (calls : List Call) → HoldsBytes a → AllByRecursion FeedsBytes calls
     → AllByRecursion BringsBytes (events_of_calls a calls)
@@ -419,7 +420,8 @@ sized slots places = record { slots = slots; places = places }
 
 first_sizes : (start : AdapterStart) → sizes_of (started start []).state.shared.objects ≡ configured_sizes start
 first_sizes start =
-    ap (λ n. sized n (places_of (new_queue start.queue))) (new_slots start.ledger)
+    ap (λ q. sized (slots_of (new_ledger start.ledger)) (places_of q)) (trusted_new start)
+    ∙ ap (λ n. sized n (places_of (new_queue start.queue))) (new_slots start.ledger)
     ∙ ap (sized (option_map (λ l. l.originators) start.ledger)) (new_places start.queue)
 
 -- An adapter that starts from nothing, over any calls and restarts.

@@ -1,5 +1,5 @@
 -- A device after a restart.
-use Rattle.std.proofs.Common.{◌≡◌, ℕ, suc, ◌<◌, ◌≤◌, ◌^◌, ◌==◌, ◌&&◌, not, Bool, true, false, if◌then◌else◌, Option}
+use Rattle.std.proofs.Common.{◌≡◌, ℕ, suc, ◌<◌, ◌≤◌, ◌^◌, ◌==◌, ◌&&◌, ◌||◌, not, Bool, true, false, if◌then◌else◌, Option}
 use Rattle.std.proofs.Common.{Some, None, List, [], ◌∷◌, length, refl, ap, sym, ◌∙◌, subst, arith, inl, inr}
 use Rattle.std.specs.Prelude.{option_map, IfSome}
 use Rattle.std.specs.List.{AllByRecursion}
@@ -12,10 +12,10 @@ use Rattle.cip_ledger.specs.Kept.{IsLedger}
 use Rattle.cip_ledger.specs.Ledger.{LedgerState}
 use Rattle.cip_objects.specs.Contents.{Contents}
 use Rattle.cip_objects.specs.Kept.{kept_names}
-use Rattle.cip_owner.specs.Queue.{QueueState}
+use Rattle.cip_owner.specs.Queue.{QueueState, IsQueue}
 use Rattle.device_state.specs.Keys.{name_in}
 use Rattle.device_state.specs.Restored.{Done, by_name}
-use Rattle.device_state.specs.Saved.{State, state_of}
+use Rattle.device_state.specs.Saved.{State, state_of, needs_version_2}
 use Rattle.enip_keep.specs.Kept.{Kept}
 use Rattle.kept_adapter.specs.declared.adapter_start.AdapterStart.{AdapterStart}
 use Rattle.kept_adapter.specs.declared.adapter_start.LedgerStart.{LedgerStart}
@@ -28,12 +28,12 @@ use Rattle.kept_adapter.specs.Restarts.{IsQueueAfter}
 use Rattle.kept_adapter.specs.SameKeys.{step_alike}
 use Rattle.kept_adapter.specs.Saved.{versioned_objects, saved_device, first_entries, ENTRIES}
 use Rattle.kept_adapter.specs.Started.{is_free_slot, by_device_key, after_entry, beginning, put_back, put_all_back}
-use Rattle.kept_adapter.specs.Started.{new_ledger, new_queue, configured, put_back_in, queue_back_in, has_given_all}
+use Rattle.kept_adapter.specs.Started.{new_ledger, new_queue, configured, put_back_in, queue_back_in, empty_progress, has_given_all}
 use Rattle.kept_adapter.specs.Started.{is_trusted, trusted_ledger, trusted_queue, started}
 use Rattle.kept_adapter.proofs.LedgerStays.{step_stays}
 use Rattle.kept_adapter.proofs.LedgerBack.{part, IsAt, IsAtOrLost, first_at, first_or_lost, take_all}
 use Rattle.kept_adapter.proofs.PutBack.{shapes_back, LeavesLedger, objects_leave}
-use Rattle.kept_adapter.proofs.QueueBack.{queue_kept, queue_after, after_is_queue, new_is_queue}
+use Rattle.kept_adapter.proofs.QueueBack.{queue_kept, queue_after, after_is_queue, new_is_queue, trusted_new}
 use Rattle.kept_adapter.proofs.QueueLeaves.{all_entries}
 use Rattle.kept_adapter.proofs.GivenTickets.{step_given, step_queue}
 
@@ -116,16 +116,19 @@ module _ (start : AdapterStart) (p : Progress) (q : QueueProgress) where
       none_pending None queue = refl
       none_pending (Some l) queue = refl
 
-      not_lost : q.has_lost ≡ false → trusted_queue start q ≡ q.queue
-      not_lost e = ap (λ t. if t then new_queue start.queue else q.queue) e
+      not_lost : q.has_lost ≡ false → start.begins_life ≡ false → trusted_queue start q ≡ q.queue
+      not_lost e f =
+          ap (λ t. if t || start.begins_life then new_queue start.queue else q.queue) e
+          ∙ ap (λ t. if t then new_queue start.queue else q.queue) f
 
-      parts : is_trusted start p q ≡ true → (q.has_lost ≡ false) × (has_given_all p.ledger q.queue ≡ true)
+      parts : is_trusted start p q ≡ true
+          → (q.has_lost ≡ false) × (has_given_all p.ledger q.queue ≡ true) × (start.begins_life ≡ false)
       parts e =
           let first = and_parts p.has_life _ e in
           let second = and_parts (not p.has_lost) _ first.1 in
           let third = and_parts (not q.has_lost) _ second.1 in
           let fourth = and_parts (has_given_all p.ledger q.queue) _ third.1 in
-          (not_true q.has_lost third.0, fourth.0)
+          (not_true q.has_lost third.0, fourth.0, not_true start.begins_life fourth.1)
         where
           not_true : (b : Bool) → not b ≡ true → b ≡ false
           not_true true e = absurd (cc)
@@ -134,7 +137,7 @@ module _ (start : AdapterStart) (p : Progress) (q : QueueProgress) where
       by : (t : Bool) → is_trusted start p q ≡ t
           → has_given_all (trusted_by start p.ledger t) (trusted_queue start q) ≡ true
       by true e =
-          let both = parts e in ap (has_given_all p.ledger) (not_lost both.0) ∙ both.1
+          let all = parts e in ap (has_given_all p.ledger) (not_lost all.0 all.2) ∙ all.1
       by false e = none_pending start.ledger (trusted_queue start q)
 
 -- ---- a device without a ledger
@@ -194,21 +197,25 @@ back_by start l p q count n more h few is slots same_life own lost queue given =
     ∙ back
 
 -- the device before the entries of the ledger
-abbrev behind_objects : AdapterStart → Contents → Option QueueState → Progress
-behind_objects start m queue = put_all_back (beginning (configured start)) (versioned_objects m queue)
+abbrev behind_objects : AdapterStart → Contents → Bool → Progress
+behind_objects start m is_version_2 = put_all_back (beginning (configured start)) (versioned_objects m is_version_2)
 
 goes_on_by : (start : AdapterStart) (m : Contents) (ledger : Option LedgerState) (queue : Option QueueState)
     (q : QueueProgress) → AllByRecursion IsNarrow (kept_names m.shapes) → IfSome ledger IsLedger
     → option_map (λ l. l.originators) start.ledger ≡ slots_of ledger → start.begins_life ≡ false → q.has_lost ≡ false
     → has_given_all ledger q.queue ≡ true → trusted_ledger start (put_back_in start (saved_device m ledger queue)) q ≡ ledger
 goes_on_by start m None queue q names is slots same_life lost given =
-    let p = behind_objects start m queue in
-    let left : LeavesLedger (beginning (configured start)) p = objects_leave (beginning (configured start)) m queue names in
+    let is_version_2 = needs_version_2 queue None in
+    let p = behind_objects start m is_version_2 in
+    let left : LeavesLedger (beginning (configured start)) p
+    = objects_leave (beginning (configured start)) m is_version_2 names in
     ap (λ x. trusted_ledger start x q) (all_entries (beginning (configured start)) m None queue)
     ∙ new_without_life start p q left.life ∙ none_by start.ledger slots
 goes_on_by start m (Some l) queue q names is slots same_life lost given =
-    let p = behind_objects start m queue in
-    let left : LeavesLedger (beginning (configured start)) p = objects_leave (beginning (configured start)) m queue names in
+    let is_version_2 = needs_version_2 queue (Some l) in
+    let p = behind_objects start m is_version_2 in
+    let left : LeavesLedger (beginning (configured start)) p
+    = objects_leave (beginning (configured start)) m is_version_2 names in
     ap (λ x. trusted_ledger start x q) (all_entries (beginning (configured start)) m (Some l) queue)
     ∙ back_by start l p q ENTRIES 64 refl (omega arith) (few_taken l is) is slots same_life left.ledger left.lost lost given
 
@@ -232,7 +239,9 @@ goes_on start device is on =
 
 pub queue_goes_on : (start : AdapterStart) (device : Device) → IsRestartable device → GoesOn (sizes_of device) start
     → (restarted start device).router.queue ≡ device.router.queue
-queue_goes_on start device is on = ap (trusted_queue start) (kept start device is on)
+queue_goes_on start device is on =
+    ap (trusted_queue start) (kept start device is on)
+    ∙ ap (λ t. if t then new_queue start.queue else device.router.queue) on.same_life
 
 -- with any number of slots, after so many entries
 after_by : (start : AdapterStart) (own : Option LedgerStart) (l : LedgerState) (p : Progress) (q : QueueProgress)
@@ -276,13 +285,17 @@ ledger_after_by : (start : AdapterStart) (m : Contents) (ledger : Option LedgerS
     → IsConfiguration start
     → IsLedgerAfter start ledger (trusted_ledger start (put_back_in start (saved_device m ledger queue)) q)
 ledger_after_by start m None queue q names is configuration =
-    let p = behind_objects start m queue in
-    let left : LeavesLedger (beginning (configured start)) p = objects_leave (beginning (configured start)) m queue names in
+    let is_version_2 = needs_version_2 queue None in
+    let p = behind_objects start m is_version_2 in
+    let left : LeavesLedger (beginning (configured start)) p
+    = objects_leave (beginning (configured start)) m is_version_2 names in
     inl (ap (λ x. trusted_ledger start x q) (all_entries (beginning (configured start)) m None queue)
     ∙ new_without_life start p q left.life)
 ledger_after_by start m (Some l) queue q names is configuration =
-    let p = behind_objects start m queue in
-    let left : LeavesLedger (beginning (configured start)) p = objects_leave (beginning (configured start)) m queue names in
+    let is_version_2 = needs_version_2 queue (Some l) in
+    let p = behind_objects start m is_version_2 in
+    let left : LeavesLedger (beginning (configured start)) p
+    = objects_leave (beginning (configured start)) m is_version_2 names in
     subst (λ x. IsLedgerAfter start (Some l) (trusted_ledger start x q))
     (sym (all_entries (beginning (configured start)) m (Some l) queue))
     (after_by start start.ledger l p q ENTRIES 64 refl configuration.few refl (omega arith)
@@ -353,6 +366,14 @@ pub first_device : (start : AdapterStart) → IsConfiguration start
 first_device start configuration = record {
   names = configuration.names;
   ledger = new_is_ledger start.ledger configuration.life configuration.few;
-  queue = new_is_queue start.queue configuration.places;
-  given = none_pending start.ledger (new_queue start.queue);
+  queue = subst (λ q. IfSome q IsQueue) (sym (trusted_new start)) (new_is_queue start.queue configuration.places);
+  given = by (is_trusted start (beginning (configured start)) (empty_progress (new_queue start.queue)));
 }
+  where
+    queue : Option QueueState
+    queue = (started start []).state.shared.objects.router.queue
+
+    by : (t : Bool)
+        → has_given_all (if t then new_ledger start.ledger else new_ledger start.ledger) queue ≡ true
+    by true = none_pending start.ledger queue
+    by false = none_pending start.ledger queue

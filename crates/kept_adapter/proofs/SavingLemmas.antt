@@ -7,7 +7,7 @@ use Rattle.enip_keep.specs.Kept.{Kept, pair_of, pairs_of}
 use Rattle.cip_ledger.specs.Ledger.{SlotState, LedgerState}
 use Rattle.cip_owner.specs.Queue.{QueueState}
 use Rattle.cip_objects.specs.Contents.{Contents}
-use Rattle.device_state.specs.Saved.{Entry as StateEntry, entry_in, entry_of, saved, state_of, value_entries}
+use Rattle.device_state.specs.Saved.{Entry as StateEntry, entry_in, entry_of, needs_version_2, saved, state_of, value_entries}
 use Rattle.device_state.proofs.EntryLists.{in_ledger, slot_entry, slot_entry_at}
 use Rattle.kept_server.specs.Changes.{is_small, are_small}
 use Rattle.kept_adapter.specs.Saved.{pair_of as pair_of_entry, bytes_of_slot, ledger_bytes, first_of}
@@ -149,10 +149,10 @@ take_pairs (x ∷ xs) zero = refl
 take_pairs (x ∷ xs) (suc n) = ap (λ ps. pair_of x ∷ ps) (take_pairs xs n)
 
 -- the objects, then the ledger, then the queue
-pub saved_all : {m n : Contents} {l k : Option LedgerState} {q r : Option QueueState} {front behind all : Kept} → m ≡ n
-    → l ≡ k → q ≡ r → front ≡ versioned_objects m q → behind ≡ front ++ saved_ledger l → all ≡ behind ++ saved_queue q
+pub saved_all : {m n : Contents} {l k : Option LedgerState} {q r : Option QueueState} {v : Bool} {front behind all : Kept}
+    → m ≡ n → l ≡ k → q ≡ r → v ≡ needs_version_2 q l → front ≡ versioned_objects m v → behind ≡ front ++ saved_ledger l → all ≡ behind ++ saved_queue q
     → all ≡ saved_device n k r
-saved_all {m} {n} {l} {k} {q} {r} {front} {behind} {all} objects ledger queue first second third =
-    third ∙ ap (λ ps. ps ++ saved_queue q) (second ∙ ap (λ ps. ps ++ saved_ledger l) first)
-    ∙ append_assoc (versioned_objects m q) (saved_ledger l) (saved_queue q)
+saved_all {m} {n} {l} {k} {q} {r} {v} {front} {behind} {all} objects ledger queue version first second third =
+    third ∙ ap (λ ps. ps ++ saved_queue q) (second ∙ ap (λ ps. ps ++ saved_ledger l) (first ∙ ap (versioned_objects m) version))
+    ∙ append_assoc (versioned_objects m (needs_version_2 q l)) (saved_ledger l) (saved_queue q)
     ∙ ap (λ x. saved_device x l q) objects ∙ ap (λ x. saved_device n x q) ledger ∙ ap (λ x. saved_device n k x) queue

@@ -1,5 +1,5 @@
 -- The device of an adapter over restarts, and the adapter of a server that keeps its state.
-use Rattle.std.proofs.Common.{◌≡◌, ℕ, ◌<◌, ◌≤◌, ◌==◌, ◌&&◌, nat_lt, Bool, true, false, if◌then◌else◌, Option, Some}
+use Rattle.std.proofs.Common.{◌≡◌, ℕ, ◌<◌, ◌≤◌, ◌==◌, ◌&&◌, ◌||◌, nat_lt, Bool, true, false, if◌then◌else◌, Option, Some}
 use Rattle.std.proofs.Common.{None, List, [], ◌∷◌, ◌++◌, drop, map, refl, ap, sym, ◌∙◌, subst, arith, ◌⊎◌, inl, inr}
 use Rattle.std.specs.Prelude.{is_some, Result, Ok, Err, OnOk}
 use Rattle.std.specs.List.{AllByRecursion}
@@ -227,7 +227,7 @@ some_new_queue (Some n) = refl
 
 some_trusted_queue : (start : AdapterStart) (q : QueueProgress) → is_some q.queue ≡ is_some start.queue
     → is_some (trusted_queue start q) ≡ is_some start.queue
-some_trusted_queue start q own = by q.has_lost
+some_trusted_queue start q own = by (q.has_lost || start.begins_life)
   where
     by : (t : Bool) → is_some (if t then new_queue start.queue else q.queue) ≡ is_some start.queue
     by true = some_new_queue start.queue

@@ -5,7 +5,7 @@ use Rattle.std.specs.Prelude.{slice_get}
 use Rattle.std.proofs.lemmas.Option.{slice_get_past}
 use Rattle.cip_ledger.specs.Ledger.{SlotState}
 use Rattle.cip_owner.specs.Queue.{QueueState}
-use Rattle.kept_adapter.specs.Started.{has_given, has_given_each}
+use Rattle.kept_adapter.specs.Started.{has_given, has_given_each, pending_ticket}
 
 same_some : (x y : SlotState) → ◌≡◌ {A = Option SlotState} (Some x) (Some y) → x ≡ y
 same_some x y e = cc
@@ -18,7 +18,7 @@ drop_slot (first ∷ slots) (suc i) slot e = drop_slot slots i slot e
 
 -- one slot more
 pub each_more : (slots : List SlotState) (i : ℕ) (slot : SlotState) (queue : Option QueueState)
-    → Some slot ≡ slice_get slots i → has_given slot.ticket queue ≡ true
+    → Some slot ≡ slice_get slots i → has_given (pending_ticket slot) queue ≡ true
     → has_given_each (drop (i + 1) slots) queue ≡ has_given_each (drop i slots) queue
 each_more slots i slot queue e given =
     let next : i + 1 ≡ suc i = omega arith in
@@ -27,7 +27,7 @@ each_more slots i slot queue e given =
     ∙ ap (λ t. t && has_given_each (drop (suc i) slots) queue) given)
 
 pub each_fails : (slots : List SlotState) (i : ℕ) (slot : SlotState) (queue : Option QueueState)
-    → Some slot ≡ slice_get slots i → has_given slot.ticket queue ≡ false
+    → Some slot ≡ slice_get slots i → has_given (pending_ticket slot) queue ≡ false
     → false ≡ has_given_each (drop i slots) queue
 each_fails slots i slot queue e other =
     sym (ap (λ xs. has_given_each xs queue) (drop_slot slots i slot e)

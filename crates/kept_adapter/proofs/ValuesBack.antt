@@ -18,7 +18,7 @@ use Rattle.device_state.specs.declared.restoring.Outcome.TheVariants.{Used}
 use Rattle.device_state.specs.Keys.{key_of}
 use Rattle.device_state.specs.Laws.{IsName, IsKept}
 use Rattle.device_state.specs.Restored.{Done, done, to_ledger, restored_entry}
-use Rattle.device_state.specs.Saved.{State, state_of, entry_of, value_entry, identity_bytes, with_version}
+use Rattle.device_state.specs.Saved.{State, state_of, entry_of, value_entry, identity_bytes, needs_version_2, with_version}
 use Rattle.device_state.proofs.Puts.{put, put_all, entry_put, shapes_stay, entries_same, identity_stays, reads}
 use Rattle.kept_adapter.specs.declared.adapter_start.AdapterStart.{AdapterStart}
 use Rattle.kept_adapter.specs.declared.progress.Progress.{Progress}
@@ -132,9 +132,10 @@ objects_back : (start : AdapterStart) (m : Contents) (l : Option LedgerState) (q
     ≡ put_all m (contents_of_config start.objects) (kept_names m.shapes)
 objects_back start m l queue same are =
     let p = beginning (configured start) in
-    let q = put_back p (key_of IDENTITY 1 0, with_version queue (identity_bytes m)) in
+    let is_version_2 = needs_version_2 queue l in
+    let q = put_back p (key_of IDENTITY 1 0, with_version is_version_2 (identity_bytes m)) in
     ap (λ (x : Progress). x.objects) (all_entries p m l queue)
-    ∙ ledger_leaves (put_all_back p (versioned_objects m queue)) l
+    ∙ ledger_leaves (put_all_back p (versioned_objects m is_version_2)) l
     ∙ values_back q m (kept_names m.shapes) same are
 
 -- ---- the objects after a restart

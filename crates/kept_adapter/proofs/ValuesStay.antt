@@ -77,7 +77,7 @@ use Rattle.enip_adapter.specs.Calls.{AdapterState, Call}
 use Rattle.enip_adapter.specs.DeviceRuns.{DeviceStep, Requested, WrittenBy, device_after, device_after_step}
 use Rattle.enip_adapter.specs.DeviceRuns.{steps_of_calls, objects_after, objects_answer}
 use Rattle.enip_adapter.specs.OwnWrites.{OwnWrite, WritesData, WritesAttribute, SetsStatus, SetsState, Prepares, Settles}
-use Rattle.enip_adapter.specs.OwnWrites.{Finishes, Marks}
+use Rattle.enip_adapter.specs.OwnWrites.{Finishes, Marks, Withdraws}
 use Rattle.enip_adapter.specs.OwnWrites.{attribute_write, device_written}
 use Rattle.enip_adapter.specs.Runs.{after_calls}
 use Rattle.enip_adapter.proofs.DeviceLemmas.{calls-end}
@@ -85,7 +85,7 @@ use Rattle.enip_keep.specs.Kept.{Kept}
 use Rattle.kept_adapter.specs.declared.progress.Progress.{Progress}
 use Rattle.kept_adapter.specs.Keys.{device_key}
 use Rattle.kept_adapter.specs.Restarts.{HasValues}
-use Rattle.kept_adapter.specs.SameKeys.{executed_shapes}
+use Rattle.kept_adapter.specs.SameKeys.{executed_shapes, found-objects}
 use Rattle.kept_adapter.specs.Started.{is_free_slot, by_device_key, put_back, put_all_back}
 
 -- ---- one value is set
@@ -862,6 +862,7 @@ written_values (Prepares reply) device have = have
 written_values (Settles originator number reply) device have = have
 written_values (Finishes ticket reply) device have = have
 written_values (Marks ticket) device have = have
+written_values (Withdraws request) device have = subst HasValues (sym (found-objects request device)) have
 
 -- ---- all steps
 

@@ -16,6 +16,7 @@ use Rattle.device_state.specs.Laws.{IsKept}
 use Rattle.enip_adapter.specs.Adapter.{shared_adapter}
 use Rattle.enip_adapter.specs.Calls.{AdapterState, Call}
 use Rattle.enip_adapter.specs.DeviceRuns.{Requested, objects_after, objects_answer}
+use Rattle.enip_adapter.specs.QueueLaws.{IsNoFinish}
 use Rattle.enip_adapter.specs.Runs.{after_calls}
 use Rattle.enip_keep.specs.declared.lives.Event.{Event}
 use Rattle.enip_keep.specs.Kept.{Kept}
@@ -31,7 +32,6 @@ use Rattle.kept_adapter.specs.Restarts.{RestartsGoOn}
 use Rattle.kept_adapter.specs.Restarts.{HasValues, IsServing, KeepsTables, HasObjects, IsRestartable, IsConfiguration, IsStep}
 use Rattle.kept_adapter.specs.Restarts.{sizes_of, configured_sizes, GoesOn, IsGoingOn, queue_steps_over_restarts}
 use Rattle.kept_adapter.specs.Restarts.{IsLedgerAfter, IsQueueAfter, SettlesNothingOf, IsOnceInEachLife, BeginNewLives}
-use Rattle.kept_adapter.specs.Restarts.{IsUnfinished}
 use Rattle.kept_adapter.specs.Saved.{saved_adapter, saved_objects}
 use Rattle.kept_adapter.specs.Started.{started}
 
@@ -99,7 +99,8 @@ abbrev pub device_stays_law : Type 0
 device_stays_law = (device : Device) (step : LifeStep) → IsStep step → IsRestartable device →
     IsRestartable (after_life_step device step)
 
--- What is assumed of steps holds of those of an adapter, if what its peers send consists of bytes.
+-- What is assumed of steps holds of those of an adapter, if what its peers send consists of bytes, and so do the requests
+-- that withdraw commands.
 abbrev pub steps_fit_law : Type 0
 steps_fit_law = (a : AdapterState) (steps : List AdapterStep) → HoldsBytes a → AllByRecursion IsAdapterStep steps →
     AllByRecursion IsStep (steps_over_restarts a steps)
@@ -139,8 +140,8 @@ pub record GoOn (device : Device) (steps : List LifeStep) : Type 0 where
   pub fit : AllByRecursion IsStep steps
   pub on : AllByRecursion (IsGoingOn (sizes_of device)) steps
 
--- Over restarts, the queue is that after the commands that were put into it and those that were marked or finished, in
--- order. So what holds of a queue over every list of such steps holds over restarts, too: each command waits until it is
+-- Over restarts, the queue is that after the commands that were put into it and those that were marked, finished or
+-- withdrawn, in order. So what holds of a queue over every list of such steps holds over restarts, too: each command waits until it is
 -- finished, and never again after that, none is lost or made up, no ticket is given twice, and what was handed over stays
 -- so.
 abbrev pub queue_over_restarts_law : Type 0
@@ -183,13 +184,13 @@ same_bytes_over_restarts_law =
     ⊎ (answer_to objects_after objects_answer owned_standing device first
     ≡ reply_to DO_ONCE (success (PENDING ∷ [])))
 
--- A command of the ledger that is pending keeps its slot until the owner finishes it, whatever restarts come between. Until
--- then no later one of its originator is taken, and no Forget frees the slot.
+-- A command of the ledger that is pending keeps its slot until it leaves the queue, whatever restarts come between: until
+-- the owner finishes it, or it is withdrawn, no later one of its originator is taken, and no Forget frees the slot.
 abbrev pub keeps_slot_over_restarts_law : Type 0
 keeps_slot_over_restarts_law =
     (device : Device) (steps : List LifeStep) (originator ticket : ℕ) (slot : SlotState) → GoOn device steps →
     slot_in originator device.ledger ≡ Some slot → slot.reply ≡ None → slot.ticket ≡ Some ticket →
-    AllByRecursion (IsUnfinished ticket) steps →
+    AllByRecursion (IsNoFinish ticket) (queue_steps_over_restarts device steps) →
     slot_in originator (after_life_steps device steps).ledger ≡ Some slot
 
 -- A device without a queue never says that a command is pending, so the bytes are the same.

@@ -25,8 +25,8 @@ use Rattle.enip_adapter.specs.Calls.{AdapterState, Call, Held}
 use Rattle.enip_adapter.specs.Calls.Call.{Begins_peer, Feeds, Ends_peer, Ticks, Writes}
 use Rattle.enip_adapter.specs.DeviceRuns.{DeviceStep, Requested, WrittenBy, device_after_step, journal_by_step}
 use Rattle.enip_adapter.specs.DeviceRuns.{steps_of_calls}
-use Rattle.enip_adapter.specs.OwnWrites.{OwnWrite, Settles}
-use Rattle.enip_adapter.specs.QueueLaws.{queue_steps_by_step, IsNoFinish}
+use Rattle.enip_adapter.specs.OwnWrites.{OwnWrite, Settles, Withdraws}
+use Rattle.enip_adapter.specs.QueueLaws.{queue_steps_by_step}
 use Rattle.enip_adapter.specs.Runs.{after_calls}
 use Rattle.enip_keep.specs.declared.lives.Event.{Event}
 use Rattle.enip_keep.specs.declared.lives.Event.TheVariants.{Round, Restart}
@@ -74,8 +74,8 @@ abbrev pub queue_steps_by : Device → LifeStep → List QueueStep
 queue_steps_by device (Does step) = queue_steps_by_step device step
 queue_steps_by device (Restarts start) = []
 
--- The commands that are put into the queue in these steps, and those that are marked or finished. A restart does none of
--- that.
+-- The commands that are put into the queue in these steps, and those that are marked or finished. One that is withdrawn
+-- leaves the queue as if it were finished. A restart does none of that.
 abbrev pub queue_steps_over_restarts : Device → List LifeStep → List QueueStep
 queue_steps_over_restarts device [] = []
 queue_steps_over_restarts device (step ∷ steps) =
@@ -198,22 +198,26 @@ pub record IsConfiguration (start : AdapterStart) : Type 0 where
   pub few : IfSome start.ledger (λ l. l.originators ≤ 64)
   pub places : IfSome start.queue (λ n. n ≤ 256)
 
--- A request consists of bytes.
+-- A request consists of bytes, and so does one that withdraws a command.
+abbrev pub IsWriteOfBytes : OwnWrite → Type 0
+IsWriteOfBytes (Withdraws request) = AreBytes request
+IsWriteOfBytes other = ⊤
+
 abbrev pub IsOfBytes : DeviceStep → Type 0
 IsOfBytes (Requested request) = AreBytes request.1
-IsOfBytes (WrittenBy write) = ⊤
+IsOfBytes (WrittenBy write) = IsWriteOfBytes write
 
 abbrev pub IsStep : LifeStep → Type 0
 IsStep (Does step) = IsOfBytes step
 IsStep (Restarts start) = IsConfiguration start
 
--- The pieces of a peer's stream consist of bytes.
+-- The pieces of a peer's stream consist of bytes, and so does a request that withdraws a command.
 abbrev pub FeedsBytes : Call → Type 0
 FeedsBytes (Begins_peer rights group) = ⊤
 FeedsBytes (Feeds now peer piece) = AreBytes piece
 FeedsBytes (Ends_peer peer) = ⊤
 FeedsBytes (Ticks now) = ⊤
-FeedsBytes (Writes write) = ⊤
+FeedsBytes (Writes write) = IsWriteOfBytes write
 
 abbrev pub IsAdapterStep : AdapterStep → Type 0
 IsAdapterStep (Executed calls) = AllByRecursion FeedsBytes calls
@@ -286,11 +290,6 @@ IsForOthers originator (WrittenBy write) = SettlesOthers originator write
 abbrev pub SettlesNothingOf : ℕ → LifeStep → Type 0
 SettlesNothingOf originator (Does step) = IsForOthers originator step
 SettlesNothingOf originator (Restarts start) = ⊤
-
--- The owner does not finish the command with this ticket.
-abbrev pub IsUnfinished : ℕ → LifeStep → Type 0
-IsUnfinished ticket (Does step) = IsNoFinish ticket step
-IsUnfinished ticket (Restarts start) = ⊤
 
 -- ---- lives
 

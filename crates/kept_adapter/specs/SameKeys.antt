@@ -15,6 +15,7 @@ use Rattle.cip_ledger.specs.Requests.{is_barred}
 use Rattle.cip_ledger.specs.Pending.{completed}
 use Rattle.cip_ledger.specs.Services.{Replies, Executes, Queues, Frees}
 use Rattle.cip_ledger.specs.Turn.{Fate, Passed, Served, fate, turn_by}
+use Rattle.cip_ledger.specs.Withdrawing.{found_by, withdrawal_result}
 use Rattle.cip_message.specs.declared.path.Path.{Path}
 use Rattle.cip_objects.specs.declared.status.Refusal.{Refusal}
 use Rattle.cip_objects.specs.ChangeServices.{with_bytes_at, set_attribute_single, set_member, add, clear}
@@ -51,17 +52,18 @@ use Rattle.cip_owner.specs.Queue.{QueueState, takes, pushed}
 use Rattle.cip_owner.specs.QueueRuns.{after_steps}
 use Rattle.cip_owner.specs.Replies.{Reply}
 use Rattle.device_state.specs.Keys.{key_of}
-use Rattle.device_state.specs.Saved.{value_entry}
+use Rattle.device_state.specs.Saved.{value_entry, needs_version_2}
 use Rattle.enip_adapter.specs.Calls.{AdapterState, Call}
 use Rattle.enip_adapter.specs.DeviceRuns.{DeviceStep, Requested, WrittenBy, device_after, device_after_step, steps_of_calls}
 use Rattle.enip_adapter.specs.DeviceRuns.{objects_after, objects_answer}
 use Rattle.enip_adapter.specs.OwnWrites.{OwnWrite, WritesData, WritesAttribute, SetsStatus, SetsState, Prepares, Settles}
-use Rattle.enip_adapter.specs.OwnWrites.{Finishes, Marks, attribute_write, ledger_written, device_written}
+use Rattle.enip_adapter.specs.OwnWrites.{Finishes, Marks, Withdraws, attribute_write, ledger_written, device_written}
 use Rattle.enip_adapter.specs.QueueLaws.{queue_steps_by_step}
 use Rattle.enip_adapter.specs.Runs.{after_calls}
 use Rattle.enip_adapter.proofs.DeviceLemmas.{calls-end}
 use Rattle.enip_adapter.proofs.QueueLemmas.{step-queue}
-use Rattle.enip_adapter.proofs.SettleLemmas.{IsFinished, Unchanged, Completed, finished-ledger}
+use Rattle.enip_adapter.proofs.SettleLemmas.{IsFinished, Unchanged, Completed, finished-ledger, finished-router}
+use Rattle.enip_adapter.proofs.WithdrawalLemmas.{by-ticket, found-ledger}
 use Rattle.kept_server.specs.Changes.{keys_of}
 use Rattle.device_state.specs.QueueEntries.{QUEUE_ENTRIES, queue_bytes}
 use Rattle.kept_adapter.specs.Keys.{ledger_key, queue_key}
@@ -375,6 +377,13 @@ attribute_shapes m class instance attribute offset bytes =
       | false ↦ object_shapes m class instance attribute offset bytes
     ]
 
+-- a command that is withdrawn leaves the objects as they are
+pub found-objects : (text : List ℕ) (device : Device) → (found_by text device).router.objects ≡ device.router.objects
+found-objects text device =
+    by-ticket (λ d ticket. d.router.objects ≡ device.router.objects) device text refl (λ ledger w is facts. refl)
+    (λ ledger w ticket is facts of not_handed some.
+    ap (λ (r : OwnedState). r.objects) (finished-router ticket withdrawal_result device))
+
 write_shapes : (write : OwnWrite) (device : Device)
     → (device_written write device).router.objects.shapes ≡ device.router.objects.shapes
 write_shapes (WritesData instance offset bytes) device = data_shapes device.router.objects instance offset bytes
@@ -386,6 +395,7 @@ write_shapes (Prepares reply) device = refl
 write_shapes (Settles originator number reply) device = refl
 write_shapes (Finishes ticket reply) device = refl
 write_shapes (Marks ticket) device = refl
+write_shapes (Withdraws request) device = ap (λ (m : Contents). m.shapes) (found-objects request device)
 
 finished_alike : (ticket : ℕ) (old new : Option LedgerState) → IsFinished ticket old new → is_some new ≡ is_some old
 finished_alike ticket old new Unchanged = refl
@@ -403,6 +413,9 @@ write_ledger (Finishes ticket reply) device =
     finished_alike ticket device.ledger (ledger_written (Finishes ticket reply) device)
     (finished-ledger ticket reply device)
 write_ledger (Marks ticket) device = refl
+write_ledger (Withdraws request) device =
+    found-ledger (λ l. is_some l ≡ is_some device.ledger) device request (λ l originator number same. same)
+    (λ l ticket reply same. same) refl
 
 -- ---- all steps
 
@@ -441,9 +454,9 @@ value_keys m n [] = refl
 value_keys m n (name ∷ names) =
     ap (λ keys. key_of name.class name.instance name.attribute ∷ keys) (value_keys m n names)
 
-object_keys : (m n : Contents) (q r : Option QueueState) → n.shapes ≡ m.shapes
-    → keys_of (versioned_objects n r) ≡ keys_of (versioned_objects m q)
-object_keys m n q r same =
+object_keys : (m n : Contents) (v w : Bool) → n.shapes ≡ m.shapes
+    → keys_of (versioned_objects n w) ≡ keys_of (versioned_objects m v)
+object_keys m n v w same =
     ap (λ shapes. key_of IDENTITY 1 0 ∷ keys_of (map pair_of (map (value_entry n) (kept_names shapes)))) same
     ∙ ap (λ keys. key_of IDENTITY 1 0 ∷ keys) (value_keys n m (kept_names m.shapes))
 
@@ -470,19 +483,23 @@ queue_keys (Some q) (Some r) same = first_keys queue_key (queue_bytes r) (queue_
 -- the keys of all entries by those of the parts
 all_keys : (m : Contents) (l : Option LedgerState) (q : Option QueueState)
     → keys_of (saved_device m l q)
-    ≡ keys_of (versioned_objects m q) ++ (keys_of (saved_ledger l) ++ keys_of (saved_queue q))
+    ≡ keys_of (versioned_objects m (needs_version_2 q l)) ++ (keys_of (saved_ledger l) ++ keys_of (saved_queue q))
 all_keys m l q =
-    map-append (λ (entry : ℕ × List ℕ). entry.0) (versioned_objects m q) (saved_ledger l ++ saved_queue q)
-    ∙ ap (λ keys. keys_of (versioned_objects m q) ++ keys)
+    let values = versioned_objects m (needs_version_2 q l) in
+    map-append (λ (entry : ℕ × List ℕ). entry.0) values (saved_ledger l ++ saved_queue q)
+    ∙ ap (λ keys. keys_of values ++ keys)
     (map-append (λ (entry : ℕ × List ℕ). entry.0) (saved_ledger l) (saved_queue q))
 
 pub device_keys : (m n : Contents) (l k : Option LedgerState) (q r : Option QueueState) → n.shapes ≡ m.shapes
     → is_some k ≡ is_some l → is_some r ≡ is_some q → keys_of (saved_device n k r) ≡ keys_of (saved_device m l q)
 device_keys m n l k q r shapes ledger queue =
+    let old = needs_version_2 q l in
+    let values = keys_of (versioned_objects m old) in
     all_keys n k r
-    ∙ ap (λ keys. keys ++ (keys_of (saved_ledger k) ++ keys_of (saved_queue r))) (object_keys m n q r shapes)
-    ∙ ap (λ keys. keys_of (versioned_objects m q) ++ (keys ++ keys_of (saved_queue r))) (ledger_keys l k ledger)
-    ∙ ap (λ keys. keys_of (versioned_objects m q) ++ (keys_of (saved_ledger l) ++ keys)) (queue_keys q r queue)
+    ∙ ap (λ keys. keys ++ (keys_of (saved_ledger k) ++ keys_of (saved_queue r)))
+    (object_keys m n old (needs_version_2 r k) shapes)
+    ∙ ap (λ keys. values ++ (keys ++ keys_of (saved_queue r))) (ledger_keys l k ledger)
+    ∙ ap (λ keys. values ++ (keys_of (saved_ledger l) ++ keys)) (queue_keys q r queue)
     ∙ sym (all_keys m l q)
 
 pub keys_stay : (a : AdapterState) (calls : List Call) → adapter_keys (after_calls a calls) ≡ adapter_keys a

@@ -5,7 +5,7 @@ use Rattle.cip_ledger.specs.Ledger.{SlotState, LedgerState}
 use Rattle.cip_objects.specs.Contents.{Contents}
 use Rattle.cip_owner.specs.Queue.{QueueState}
 use Rattle.device_state.specs.QueueEntries.{PLACES, QUEUE_ENTRIES, queue_bytes}
-use Rattle.device_state.specs.Saved.{Entry, saved, object_entries, slot_bytes, state_of}
+use Rattle.device_state.specs.Saved.{Entry, saved, object_entries, needs_version_2, slot_bytes, state_of}
 use Rattle.enip_adapter.specs.Calls.{AdapterState}
 use Rattle.enip_keep.specs.Kept.{Kept}
 use Rattle.kept_server.specs.Changes.{keys_of}
@@ -18,9 +18,9 @@ pair_of entry = (entry.key, entry.content)
 abbrev pub saved_objects : Contents → Kept
 saved_objects objects = map pair_of (saved (state_of objects None))
 
--- The same, with the version of the state behind which device it is.
-abbrev pub versioned_objects : Contents → Option QueueState → Kept
-versioned_objects objects queue = map pair_of (object_entries objects queue)
+-- The same, with the version of the state behind which device it is if it is 2.
+abbrev pub versioned_objects : Contents → Bool → Kept
+versioned_objects objects is_version_2 = map pair_of (object_entries objects is_version_2)
 
 -- The content of a slot. A free slot has no bytes.
 abbrev pub bytes_of_slot : Option SlotState → List ℕ
@@ -66,7 +66,8 @@ saved_queue None = []
 saved_queue (Some queue) = first_queue_entries queue QUEUE_ENTRIES
 
 abbrev pub saved_device : Contents → Option LedgerState → Option QueueState → Kept
-saved_device objects ledger queue = versioned_objects objects queue ++ (saved_ledger ledger ++ saved_queue queue)
+saved_device objects ledger queue =
+    versioned_objects objects (needs_version_2 queue ledger) ++ (saved_ledger ledger ++ saved_queue queue)
 
 abbrev pub saved_adapter : AdapterState → Kept
 saved_adapter a =

@@ -111,9 +111,17 @@ has_given None queue = true
 has_given (Some ticket) None = false
 has_given (Some ticket) (Some queue) = nat_lt ticket queue.next
 
+-- The ticket of a command that is pending. That of one that was withdrawn is none of a queue.
+abbrev pub ticket_by : Option (List ℕ) → Option ℕ → Option ℕ
+ticket_by None ticket = ticket
+ticket_by (Some reply) ticket = None
+
+abbrev pub pending_ticket : SlotState → Option ℕ
+pending_ticket slot = ticket_by slot.reply slot.ticket
+
 abbrev pub has_given_each : List SlotState → Option QueueState → Bool
 has_given_each [] queue = true
-has_given_each (slot ∷ slots) queue = has_given slot.ticket queue && has_given_each slots queue
+has_given_each (slot ∷ slots) queue = has_given (pending_ticket slot) queue && has_given_each slots queue
 
 -- The queue has given the ticket of each command that is pending in the ledger, so it gives none of them again.
 abbrev pub has_given_all : Option LedgerState → Option QueueState → Bool
@@ -128,9 +136,9 @@ new_queue limit = option_map empty_queue limit
 abbrev pub queue_back_in : AdapterStart → Kept → QueueProgress
 queue_back_in start kept = put_queue_all_back (empty_progress (new_queue start.queue)) kept
 
--- The queue as it was kept. If an entry of it is lost, it is empty.
+-- The queue as it was kept. If an entry of it is lost, or if a new life is wanted, it is empty.
 abbrev pub trusted_queue : AdapterStart → QueueProgress → Option QueueState
-trusted_queue start q = if q.has_lost then new_queue start.queue else q.queue
+trusted_queue start q = if q.has_lost || start.begins_life then new_queue start.queue else q.queue
 
 abbrev pub new_ledger : Option LedgerStart → Option LedgerState
 new_ledger ledger = option_map (λ l. empty_ledger l.originators l.life) ledger

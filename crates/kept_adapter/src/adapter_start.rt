@@ -42,7 +42,7 @@ pub struct AdapterStart {
     pub ledger: Option<LedgerStart>,
     /// How many commands may wait in the queue, 1 to 256, if there is one.
     pub queue: Option<u16>,
-    /// Whether the ledger starts empty, in its own life, whatever is kept of it.
+    /// Whether the ledger and the queue start empty, in a life of their own, whatever is kept of them.
     pub begins_life: bool,
     /// Whether peers may reset the device. A Reset of type 1 puts the values back that `objects` gives.
     pub reset: bool,

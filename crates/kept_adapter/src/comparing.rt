@@ -24,17 +24,17 @@ fn is_entry(entry: &Entry, key: u64, bytes: &[u8]) -> bool
 /// The entries behind those of the objects. `None` if the first entries are not those of the objects.
 pub(crate) fn behind_objects<'a>(
     objects: &Objects,
-    queue: Option<&Queue>,
+    is_version_2: bool,
     entries: &'a [Entry],
 ) -> Option<&'a [Entry]>
     ensures same { IfSome result (λ rest. pairs_of entries.now
-        ≡ versioned_objects objects.now (option_map (λ q. q.now) queue.entry) ++ pairs_of rest.now) }
+        ≡ versioned_objects objects.now is_version_2 ++ pairs_of rest.now) }
     ensures other { IfNone result ((rest : Kept) → pairs_of entries.now
-        ≢ versioned_objects objects.now (option_map (λ q. q.now) queue.entry) ++ rest) }
+        ≢ versioned_objects objects.now is_version_2 ++ rest) }
 {
     let mut bytes = ReplyBuf::new();
     let mut count = 0;
-    while let Some(key) = object_entry(objects, queue, count, &mut bytes) {
+    while let Some(key) = object_entry(objects, is_version_2, count, &mut bytes) {
         if count >= entries.len() || !is_entry(&entries[count], key, &bytes) {
             return None;
         }

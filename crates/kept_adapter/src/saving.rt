@@ -59,8 +59,8 @@ fn set_entry(
     write_entry(&mut into[index], key, bytes)
 }
 
-/// Writes the entries of objects to `into`, in place of the first ones that are there, with the version of the state, which
-/// depends on the queue. Returns how many they are.
+/// Writes the entries of objects to `into`, in place of the first ones that are there, with the version of the state if it is
+/// 2. Returns how many they are.
 ///
 /// # Errors
 ///
@@ -68,17 +68,17 @@ fn set_entry(
 pub(crate) fn save_objects(
     alloc: Global,
     objects: &Objects,
-    queue: Option<&Queue>,
+    is_version_2: bool,
     into: &mut Vec<Entry>,
 ) -> Result<usize, AllocError>
     ensures entries { IfOk result (λ count. take count (pairs_of into.new.items)
-        ≡ versioned_objects objects.now (option_map (λ q. q.now) queue.entry)) }
+        ≡ versioned_objects objects.now is_version_2) }
     ensures small { IfOk result (λ count. are_small (take count (pairs_of into.new.items)) ≡ true) }
     ensures within { IfOk result (λ count. count ≤ length into.new.items) }
 {
     let mut bytes = ReplyBuf::new();
     let mut count = 0;
-    while let Some(key) = object_entry(objects, queue, count, &mut bytes) {
+    while let Some(key) = object_entry(objects, is_version_2, count, &mut bytes) {
         set_entry(alloc, into, count, key, &bytes)?;
         count += 1;
     }

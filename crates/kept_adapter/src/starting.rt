@@ -19,6 +19,7 @@ use crate::tickets::has_given_all;
 use cip_ledger::Ledger;
 use cip_objects::Objects;
 use cip_owner::{Queue, Resetting};
+use device_state::needs_version_2;
 use enip_adapter::Adapter;
 use enip_keep::{Entry, KeepError};
 use kept_server::KeptDevice;
@@ -156,7 +157,7 @@ impl AdapterStart {
         }
     }
 
-    /// The queue that entries were put back into, or a new one if one of them was lost.
+    /// The queue that entries were put back into, or a new one if one of them was lost, or if a new life is wanted.
     fn trusted_queue(
         &self,
         alloc: Global,
@@ -164,7 +165,7 @@ impl AdapterStart {
     ) -> Result<Option<Queue>, AllocError>
         ensures { IfOk result (λ q. q ≡ trusted_queue self.now progress) }
     {
-        if progress.has_lost {
+        if progress.has_lost || self.begins_life {
             return self.new_queue(alloc);
         }
         let QueueProgress { queue, .. } = progress;
@@ -253,10 +254,12 @@ impl KeptDevice for AdapterStart {
     fn is_saved(adapter: &Adapter, entries: &[Entry]) -> bool {
         let objects = adapter.objects();
         let queue = adapter.queue();
-        let Some(behind) = behind_objects(objects, queue, entries) else {
+        let ledger = adapter.ledger();
+        let is_version_2 = needs_version_2(queue, ledger);
+        let Some(behind) = behind_objects(objects, is_version_2, entries) else {
             return false;
         };
-        match behind_ledger(objects, adapter.ledger(), behind) {
+        match behind_ledger(objects, ledger, behind) {
             Some(rest) => are_of_queue(queue, rest),
             None => false,
         }
@@ -265,8 +268,10 @@ impl KeptDevice for AdapterStart {
     fn save(alloc: Global, adapter: &Adapter, into: &mut Vec<Entry>) -> Result<(), AllocError> {
         let objects = adapter.objects();
         let queue = adapter.queue();
-        let values = save_objects(alloc, objects, queue, into)?;
-        let behind = save_ledger_if_any(alloc, objects, adapter.ledger(), values, into)?;
+        let ledger = adapter.ledger();
+        let is_version_2 = needs_version_2(queue, ledger);
+        let values = save_objects(alloc, objects, is_version_2, into)?;
+        let behind = save_ledger_if_any(alloc, objects, ledger, values, into)?;
         let count = save_queue_if_any(alloc, queue, behind, into)?;
         into.truncate(count);
         Ok(())

@@ -1,8 +1,9 @@
 //! Whether the queue has given the tickets of the commands that are pending in the ledger.
 ghost use Rattle.std.specs.Prelude.{◌≡◌, option_map};
-ghost use Rattle.kept_adapter.specs.Started.{has_given, has_given_all, has_given_each};
+ghost use Rattle.cip_ledger.specs.Kept.{kept_in};
+ghost use Rattle.kept_adapter.specs.Started.{has_given, has_given_all, has_given_each, pending_ticket};
 
-use cip_ledger::Ledger;
+use cip_ledger::{KeptCommand, Ledger};
 use cip_owner::Queue;
 
 /// Whether the queue, if there is one, has given the ticket of each command that is pending in the ledger.
@@ -23,11 +24,21 @@ fn has_given_each(ledger: &Ledger, queue: Option<&Queue>) -> bool
         let Some(kept) = ledger.slot(index) else {
             return true;
         };
-        if !has_given(kept.ticket, queue) {
+        if !has_given(pending_ticket(kept), queue) {
             return false;
         }
     }
     true
+}
+
+/// The ticket of the command in a slot if it is pending.
+fn pending_ticket(kept: KeptCommand<'_>) -> Option<u32>
+    ensures { result ≡ pending_ticket (kept_in kept.entry) }
+{
+    match kept.reply {
+        Some(_) => None, // the ticket of a command that was withdrawn is none of a queue
+        None => kept.ticket,
+    }
 }
 
 /// Whether the queue, if there is one, has given this ticket.

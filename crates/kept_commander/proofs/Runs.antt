@@ -3,7 +3,7 @@ use Rattle.std.proofs.Common.{◌≡◌, ◌⊎◌, inl, inr, ℕ, Bool, true, f
 use Rattle.std.specs.Prelude.{⊤}
 use Rattle.std.proofs.lemmas.List.Elements.{All-cons, All-nil, All-head, All-tail}
 use Rattle.std.proofs.lemmas.List.Kept.{AllPairs-cons}
-use Rattle.cip_commander.specs.Outcome.{Outcome, Done, StillPending, InDoubt, Refused, Malformed, NotPending, outcome_of_text}
+use Rattle.cip_commander.specs.Outcome.{Outcome, Done, StillPending, InDoubt, Withdrawn, Refused, Malformed, NotPending, Settles, outcome_of_text}
 use Rattle.cip_commander.specs.declared.refusal.CommandRefused.{CommandRefused}
 use Rattle.cip_commander.specs.CommanderRule.{CommanderState, first_refusal, pending_message, outcome_at, after_outcome}
 use Rattle.kept_commander.specs.declared.lives.CommandEvent.{CommandEvent}
@@ -55,6 +55,7 @@ outcome_moves : (c : CommanderState) (o : Outcome) → Moves c (after_outcome c 
 outcome_moves c (Done reply) = inr (inr (refl, refl))
 outcome_moves c StillPending = inl refl
 outcome_moves c InDoubt = inl refl
+outcome_moves c Withdrawn = inr (inr (refl, refl))
 outcome_moves c (Refused status) = inl refl
 outcome_moves c Malformed = inl refl
 outcome_moves c NotPending = inl refl
@@ -181,15 +182,16 @@ none_pending : (pending : Option (List ℕ)) (embedded number : Option CommandRe
 none_pending (Some request) embedded number is = absurd (no_message (sym is))
 none_pending None embedded number is = refl
 
-not_done : (pending : Option (List ℕ)) (text : List ℕ) → ((answer : List ℕ) → outcome_of_text text ≡ Done answer → ⊥)
-    → (answer : List ℕ) → outcome_at pending text ≡ Done answer → ⊥
-not_done None text other answer is = cc
-not_done (Some request) text other answer is = other answer is
+not_settled : (pending : Option (List ℕ)) (text : List ℕ) → (Settles (outcome_of_text text) → ⊥)
+    → Settles (outcome_at pending text) → ⊥
+not_settled None text other is = is
+not_settled (Some request) text other is = other is
 
-unchanged : (c : CommanderState) (o : Outcome) → ((answer : List ℕ) → o ≡ Done answer → ⊥) → after_outcome c o ≡ c
-unchanged c (Done answer) other = absurd (other answer refl)
+unchanged : (c : CommanderState) (o : Outcome) → (Settles o → ⊥) → after_outcome c o ≡ c
+unchanged c (Done answer) other = absurd (other tt)
 unchanged c StillPending other = refl
 unchanged c InDoubt other = refl
+unchanged c Withdrawn other = absurd (other tt)
 unchanged c (Refused status) other = refl
 unchanged c Malformed other = refl
 unchanged c NotPending other = refl
@@ -203,7 +205,7 @@ step_keeps (Give life request) m a b message (inr taken) keeps is =
 step_keeps Send m a b message step keeps is = step.0
 step_keeps (Accept reply) m a b message (inl lost) keeps is = lost.0
 step_keeps (Accept reply) m a b message (inr taken) keeps is =
-    taken.0 ∙ unchanged a (outcome_at a.pending reply.items) (not_done a.pending reply.items keeps)
+    taken.0 ∙ unchanged a (outcome_at a.pending reply.items) (not_settled a.pending reply.items keeps)
 step_keeps Abandon m a b message step keeps is = absurd keeps
 step_keeps Restart m a b message step keeps is = step.0
 

@@ -3,7 +3,7 @@ use Rattle.std.specs.Prelude.{◌≡◌, ◌⊎◌, ℕ, ◌<◌, ◌≤◌, ⊤
 use Rattle.std.specs.Option.{ForSome}
 use Rattle.cip_commander.specs.CommanderRule.{CommanderState, command_refusal, pending_message, after_reply, abandoned}
 use Rattle.cip_commander.specs.declared.refusal.CommandRefused.{CommandRefused}
-use Rattle.cip_commander.specs.Outcome.{Done, outcome_of_text}
+use Rattle.cip_commander.specs.Outcome.{Settles, outcome_of_text}
 use Rattle.kept_commander.specs.declared.lives.CommandEvent.{CommandEvent}
 use Rattle.kept_commander.specs.declared.lives.CommandEvent.TheVariants.{Give, Send, Accept, Abandon, Restart}
 use Rattle.kept_commander.specs.declared.lives.Sent.{Sent}
@@ -97,7 +97,7 @@ HasUsed commander (Some sent) =
 abbrev pub KeepsPending : CommandEvent → Type 0
 KeepsPending (Give life request) = ⊤
 KeepsPending Send = ⊤
-KeepsPending (Accept reply) = (answer : List ℕ) → outcome_of_text reply.items ≡ Done answer → ⊥
+KeepsPending (Accept reply) = Settles (outcome_of_text reply.items) → ⊥
 KeepsPending Abandon = ⊥
 KeepsPending Restart = ⊤
 

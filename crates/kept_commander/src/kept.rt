@@ -132,7 +132,8 @@ impl<K: CommandKeeper + Drop> KeptCommander<K> {
         }
     }
 
-    /// Takes a reply to the pending command. If it says that the command is done, that is kept before it is returned.
+    /// Takes a reply to the pending command. If it says that the command is done or was withdrawn, that is kept before it is
+    /// returned.
     ///
     /// # Errors
     ///
@@ -158,7 +159,7 @@ impl<K: CommandKeeper + Drop> KeptCommander<K> {
             return Err(KeptCommandError::Stopped);
         }
         let outcome = self.commander.receive(reply);
-        if let CommandOutcome::Done(_) = outcome {
+        if let CommandOutcome::Done(_) | CommandOutcome::Withdrawn = outcome {
             self.keep()?;
         }
         Ok(outcome)

@@ -1,20 +1,24 @@
 -- What a line of the owner does is not a set, and gives no ticket.
 use Rattle.std.proofs.Common.{◌≡◌, ℕ, Bool, true, false, List, [], ◌∷◌, Option, Some, None, unwrap_or, Result, Ok, Err, refl, sym, ap, subst, ◌∙◌, ◌⊎◌, inl, inr}
 use Rattle.std.specs.Prelude.{option_map}
+use Rattle.cip_ledger.specs.Withdrawing.{withdrawal_result}
+use Rattle.cip_owner.specs.Owned.{OwnedState}
 use Rattle.cip_owner.specs.Queue.{QueueState, QueuedCommand, command_of, can_be_reply, with_finished, finished_by}
 use Rattle.cip_owner.specs.QueueRuns.{after_step, Marks as Marked}
 use Rattle.cip_owner.proofs.QueueLemmas.{by_mark}
 use Rattle.cip_owner.specs.Replies.{Reply}
 use Rattle.cip_values.specs.declared.element.ValueType.{ValueType}
-use Rattle.enip_adapter.specs.OwnWrites.{OwnWrite, WritesData, WritesAttribute, SetsStatus, SetsState, Prepares, Settles, Finishes, Marks}
+use Rattle.enip_adapter.specs.OwnWrites.{OwnWrite, WritesData, WritesAttribute, SetsStatus, SetsState, Prepares, Settles, Finishes, Marks, Withdraws}
 use Rattle.enip_owner.specs.declared.attribute_ref.AttributeRef.{AttributeRef}
 use Rattle.enip_owner.specs.declared.line_buffer.LineOutcome.{LineOutcome}
 use Rattle.enip_owner.specs.declared.line_buffer.LineOutcome.TheVariants as outcomes
 use Rattle.enip_adapter.specs.Calls.{AdapterState}
-use Rattle.enip_adapter.specs.Device.{resets_of}
+use Rattle.enip_adapter.specs.Device.{resets_by, resets_of}
 use Rattle.enip_owner.specs.Streams.{BufferedLine, IsFed}
 use Rattle.enip_owner.specs.Requests as requests
 use Rattle.enip_owner.specs.Requests.{Request, Given}
+use Rattle.enip_adapter.proofs.SettleLemmas.{finished-router}
+use Rattle.enip_adapter.proofs.WithdrawalLemmas.{by-ticket}
 use Rattle.enip_server.specs.Rounds.{ServerState, written_by, written_all}
 use Rattle.owner_port.specs.declared.attribute_table.TypedAttribute.{TypedAttribute}
 use Rattle.owner_port.specs.declared.execution.Answer.{Answer}
@@ -79,6 +83,13 @@ own_next (Prepares reply) before = refl
 own_next (Settles originator number reply) before = refl
 own_next (Finishes ticket reply) before = next-of before.adapter.state.shared.objects.router.queue ticket reply
 own_next (Marks ticket) before = next-marked before.adapter.state.shared.objects.router.queue ticket
+own_next (Withdraws request) before =
+    let device = before.adapter.state.shared.objects in
+    by-ticket (λ d ticket. next_in d.router.queue ≡ next_in device.router.queue) device request refl
+    (λ ledger w is facts. refl)
+    (λ ledger w ticket is facts of not_handed some.
+    ap (λ (o : OwnedState). next_in o.queue) (finished-router ticket withdrawal_result device)
+    ∙ next-of device.router.queue ticket withdrawal_result)
 
 own_resets : {W : Type 0} (write : OwnWrite) (before : ServerState W)
     → resets_of (written_by write before).adapter ≡ resets_of before.adapter
@@ -90,6 +101,12 @@ own_resets (Prepares reply) before = refl
 own_resets (Settles originator number reply) before = refl
 own_resets (Finishes ticket reply) before = refl
 own_resets (Marks ticket) before = refl
+own_resets (Withdraws request) before =
+    let device = before.adapter.state.shared.objects in
+    by-ticket (λ d ticket. resets_by d.router.reset ≡ resets_by device.router.reset) device request refl
+    (λ ledger w is facts. refl)
+    (λ ledger w ticket is facts of not_handed some.
+    ap (λ (o : OwnedState). resets_by o.reset) (finished-router ticket withdrawal_result device))
 
 written-unseen : {W : Type 0} (write : OwnWrite) (before after : ServerState W) → after ≡ written_by write before
     → IsUnseen before after

@@ -12,10 +12,14 @@ use Rattle.cip_objects.specs.ChangeServices.{with_bytes_at}
 use Rattle.cip_objects.specs.Contents.{Contents, bytes_at, with_value}
 use Rattle.cip_objects.specs.DeviceWrites.{device_write, object_write, object_by, with_attribute_by, with_data_of}
 use Rattle.cip_objects.specs.ObjectMap.{Key, key}
+use Rattle.cip_ledger.specs.Withdrawing.{withdrawal_result}
+use Rattle.cip_owner.specs.Owned.{OwnedState}
 use Rattle.cip_objects.specs.Tables.{Shape, AttributeShape, shape_at, object_at, attribute_at}
 use Rattle.enip_adapter.specs.Calls.{AdapterState, after_call}
 use Rattle.enip_adapter.specs.Calls.Call.{Writes}
-use Rattle.enip_adapter.specs.OwnWrites.{OwnWrite, WritesData, WritesAttribute, SetsStatus, SetsState, Prepares, Settles, Finishes, Marks, attribute_write}
+use Rattle.enip_adapter.specs.OwnWrites.{OwnWrite, WritesData, WritesAttribute, SetsStatus, SetsState, Prepares, Settles, Finishes, Marks, Withdraws, attribute_write}
+use Rattle.enip_adapter.proofs.SettleLemmas.{finished-router}
+use Rattle.enip_adapter.proofs.WithdrawalLemmas.{by-ticket}
 use Rattle.owner_port.specs.declared.set_count.SetCount.{SetCount}
 use Rattle.owner_port.specs.Sets.{tallies_in, key_of, count_of, sets_since, after_sets, how_often, reports_law, own_write_law}
 
@@ -74,6 +78,12 @@ own_write a (Prepares reply) = refl
 own_write a (Settles originator number reply) = refl
 own_write a (Finishes ticket reply) = refl
 own_write a (Marks ticket) = refl
+own_write a (Withdraws request) =
+    let device = a.state.shared.objects in
+    by-ticket (λ d ticket. d.router.objects.changes ≡ device.router.objects.changes) device request refl
+    (λ ledger w is facts. refl)
+    (λ ledger w ticket is facts of not_handed some.
+    ap (λ (o : OwnedState). o.objects.changes) (finished-router ticket withdrawal_result device))
 
 -- ---- keys
 

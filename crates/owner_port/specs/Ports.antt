@@ -27,7 +27,7 @@ use Rattle.owner_port.specs.declared.set_count.SetCount.{SetCount}
 use Rattle.owner_port.specs.Execution.{IsAnswered}
 use Rattle.owner_port.specs.Handing.{AreHanded, last_in}
 use Rattle.owner_port.specs.Questions.{IsNoQuestions, with_list}
-use Rattle.owner_port.specs.Senders.{next_in, without_sender, AreNoted, IsNobody}
+use Rattle.owner_port.specs.Senders.{next_in, without_sender, still_known, AreNoted, IsNobody}
 use Rattle.owner_port.specs.Sessions.{no_session, begun, opened, is_open, awaits_token, can_feed, with_end, with_next_line, AreSent, IsSent, IsSetReported, IsResetSeen, AreEndsReported, IsHelloLine, IsErrorLine, IsLineAnswered}
 use Rattle.owner_port.specs.Sets.{sets_since, with_reported, new_count, tallies_in, AreCounted}
 
@@ -72,7 +72,8 @@ pub record IsFrameSeen (by : IpAddr) (a : AdapterState) (old new : OwnerPort) : 
   pub reset : IsResetSeen a by old.counts.resets between after_reset
   pub resets : new.counts.resets ≡ resets_of a
   pub next : new.senders.next ≡ next_in (queue_in a)
-  pub noted : AreNoted (next_in (queue_in a) - old.senders.next) old.senders.next by old.senders.known.items new.senders.known.items
+  pub noted : AreNoted (next_in (queue_in a) - old.senders.next) old.senders.next by
+      (still_known old.senders.next (queue_in a) old.senders.known.items) new.senders.known.items
   pub handed : IsQueueHanded (queue_in a) new.senders.known.items old.hand_over after_reset new.hand_over new.session
   pub types : new.table.types ≡ old.table.types
   pub token : new.token ≡ old.token

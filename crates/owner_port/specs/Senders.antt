@@ -1,7 +1,8 @@
 -- By whom the waiting commands were sent.
-use Rattle.std.specs.Prelude.{◌≡◌, ◌⊎◌, ℕ, zero, suc, ◌+◌, ◌==◌, not, if◌then◌else◌, List, [], ◌∷◌, ◌++◌, filter, Option, Some, None}
+use Rattle.std.specs.Prelude.{◌≡◌, ◌⊎◌, ℕ, zero, suc, ◌+◌, ◌==◌, ◌&&◌, Bool, nat_lt, nat_le, not, if◌then◌else◌, List, [], ◌∷◌, ◌++◌, length, filter, Option, Some, None}
 use Rattle.std.specs.declared.net.ip_addr.IpAddr.{IpAddr}
 use Rattle.cip_owner.specs.Queue.{QueueState}
+use Rattle.enip_adapter.specs.QueueLaws.{is_waiting}
 use Rattle.owner_port.specs.declared.senders.Sender.{Sender}
 use Rattle.owner_port.specs.declared.senders.Senders.{Senders}
 
@@ -17,6 +18,16 @@ sender_of ticket (sender ∷ known) = if sender.ticket == ticket then Some sende
 
 abbrev pub without_sender : ℕ → List Sender → List Sender
 without_sender ticket known = filter (λ (sender : Sender). not (sender.ticket == ticket)) known
+
+-- The senders that stay known as commands were put into the queue, from this ticket on. A command can leave the queue without
+-- its owner, if it is withdrawn. So if as many senders are known as commands can wait, those are forgotten whose commands
+-- have left.
+abbrev pub is_full : ℕ → Option QueueState → List Sender → Bool
+is_full next queue known = nat_lt next (next_in queue) && nat_le 256 (length known)
+
+abbrev pub still_known : ℕ → Option QueueState → List Sender → List Sender
+still_known next queue known =
+    if is_full next queue known then filter (λ (sender : Sender). is_waiting sender.ticket queue) known else known
 
 -- The sender of a command is known from now on. If memory is refused, it is not.
 abbrev pub IsNoted : ℕ → IpAddr → List Sender → List Sender → Type 0

@@ -2,9 +2,10 @@
 
 ghost use Rattle.std.specs.Prelude.{◌≡◌, ◌-◌, IfOk, option_map};
 ghost use Rattle.std.specs.declared.net.ip_addr.IpAddr.{IpAddr};
-ghost use Rattle.owner_port.specs.Senders.{sender_of, without_sender, next_in, AreNoted, IsNoted, IsNobody};
+ghost use Rattle.enip_adapter.specs.QueueLaws.{is_waiting};
+ghost use Rattle.owner_port.specs.Senders.{sender_of, without_sender, next_in, is_full, still_known, AreNoted, IsNoted, IsNobody};
 
-use cip_owner::Queue;
+use cip_owner::{QUEUE_LIMIT, Queue};
 use enip_server::{FrameWire, HeldWire};
 use std::alloc::{AllocError, Global};
 use std::net::IpAddr;
@@ -79,13 +80,16 @@ impl Senders {
         })
     }
 
-    /// Notes the sender of the commands that were put into the queue since the last call.
+    /// Notes the sender of the commands that were put into the queue since the last call. If as many senders are known as
+    /// commands can wait, those are forgotten first whose commands have left the queue.
     pub(crate) fn note(&mut self, by: IpAddr, queue: Option<&Queue>)
         ensures next { self.new.next ≡ next_in (option_map (λ q. q.now) queue.entry) }
         ensures noted { AreNoted (next_in (option_map (λ q. q.now) queue.entry) - self.old.next) self.old.next by
-            self.old.known.items self.new.known.items }
+            (still_known self.old.next (option_map (λ q. q.now) queue.entry) self.old.known.items)
+            self.new.known.items }
     {
         let next = next_ticket(queue);
+        keep_waiting(&mut self.known, self.next, queue);
         note_tickets(&mut self.known, self.next, next, by);
         self.next = next;
     }
@@ -113,6 +117,33 @@ fn next_ticket(queue: Option<&Queue>) -> u64
     match queue {
         Some(queue) => queue.next(),
         None => 1,
+    }
+}
+
+/// Forgets the senders of commands that have left the queue, if commands were put into it from the ticket `next` on, and
+/// as many senders are known as commands can wait.
+fn keep_waiting(known: &mut Vec<Sender>, next: u64, queue: Option<&Queue>)
+    ensures { known.new.items ≡ still_known next (option_map (λ q. q.now) queue.entry) known.old.items }
+{
+    if is_full(known.as_slice(), next, queue) {
+        known.retain(|sender| waits(queue, sender.ticket));
+    }
+}
+
+/// Whether commands were put into the queue from the ticket `next` on, and as many senders are known as commands can wait.
+fn is_full(known: &[Sender], next: u64, queue: Option<&Queue>) -> bool
+    ensures { result ≡ is_full next (option_map (λ q. q.now) queue.entry) known.now }
+{
+    next < next_ticket(queue) && known.len() >= usize::from(QUEUE_LIMIT)
+}
+
+/// Whether a command waits under this ticket.
+fn waits(queue: Option<&Queue>, ticket: u32) -> bool
+    ensures { result ≡ is_waiting ticket (option_map (λ q. q.now) queue.entry) }
+{
+    match queue {
+        Some(queue) => queue.command(ticket).is_some(),
+        None => false,
     }
 }
 

@@ -33,13 +33,13 @@ get_rest (x ∷ xs) ys i (suc n) e =
 
 -- ---- how many values there are
 
-abbrev values : Contents → Option QueueState → List device.Entry
-values objects queue = device.object_entries objects queue
+abbrev values : Contents → Bool → List device.Entry
+values objects is_version_2 = device.object_entries objects is_version_2
 
 -- The version is a part of an entry.
-same_size : (objects : Contents) (queue : Option QueueState)
-    → length (map pair_of (values objects queue)) ≡ length (saved_objects objects)
-same_size objects queue = refl
+same_size : (objects : Contents) (is_version_2 : Bool)
+    → length (map pair_of (values objects is_version_2)) ≡ length (saved_objects objects)
+same_size objects is_version_2 = refl
 
 value_within : (key : ℕ) (bytes : List ℕ) (es : List device.Entry) (i : ℕ)
     → device.entry_in (Some key) bytes ≡ slice_get es i → i + 1 ≤ length (map pair_of es)
@@ -54,37 +54,37 @@ value_past bytes (x ∷ es) zero e = absurd (cc)
 value_past bytes (x ∷ es) (suc i) e = let h = value_past bytes es i e in omega (arith, h)
 
 pub one_more : (objects : Contents) (r : Option ℕ) (bytes : List ℕ) (count : ℕ)
-    → device.entry_in r bytes ≡ slice_get (values objects None) count → is_some r ≡ true
+    → device.entry_in r bytes ≡ slice_get (values objects false) count → is_some r ≡ true
     → count + 1 ≤ length (saved_objects objects)
 one_more objects None bytes count e is = absurd (cc)
 one_more objects (Some key) bytes count e is =
-    let h = value_within key bytes (values objects None) count e in
-    let size = same_size objects None in
+    let h = value_within key bytes (values objects false) count e in
+    let size = same_size objects false in
     omega (arith, h, size)
 
 pub all_values : (objects : Contents) (r : Option ℕ) (bytes : List ℕ) (count : ℕ)
-    → device.entry_in r bytes ≡ slice_get (values objects None) count → is_some r ≡ false
+    → device.entry_in r bytes ≡ slice_get (values objects false) count → is_some r ≡ false
     → count ≤ length (saved_objects objects) → IsCounted objects count
 all_values objects (Some key) bytes count e is within = absurd (cc)
 all_values objects None bytes count e is within =
-    let h = value_past bytes (values objects None) count e in
-    let size = same_size objects None in
+    let h = value_past bytes (values objects false) count e in
+    let size = same_size objects false in
     (within, inl (omega (arith, h, within, size)))
 
-pub counted : (objects : Contents) (queue : Option QueueState) (bytes : List ℕ) (count index : ℕ) → IsCounted objects count
-    → index < 2 ^ 64 → device.entry_in None bytes ≡ slice_get (values objects queue) index
+pub counted : (objects : Contents) (version : Bool) (bytes : List ℕ) (count index : ℕ) → IsCounted objects count
+    → index < 2 ^ 64 → device.entry_in None bytes ≡ slice_get (values objects version) index
     → count ≡ length (saved_objects objects)
-counted objects queue bytes count index (within, inl e) fits at = e
-counted objects queue bytes count index (within, inr big) fits at =
-    let h = value_past bytes (values objects queue) index at in
-    let size = same_size objects queue in
+counted objects version bytes count index (within, inl e) fits at = e
+counted objects version bytes count index (within, inr big) fits at =
+    let h = value_past bytes (values objects version) index at in
+    let size = same_size objects version in
     omega (arith, within, big, fits, h, size)
 
-pub not_within : (objects : Contents) (queue : Option QueueState) (bytes : List ℕ) (count index : ℕ)
-    → IsCounted objects count → device.entry_in None bytes ≡ slice_get (values objects queue) index → index < count → ⊥
-not_within objects queue bytes count index counts at below =
-    let h = value_past bytes (values objects queue) index at in
-    let size = same_size objects queue in
+pub not_within : (objects : Contents) (version : Bool) (bytes : List ℕ) (count index : ℕ)
+    → IsCounted objects count → device.entry_in None bytes ≡ slice_get (values objects version) index → index < count → ⊥
+not_within objects version bytes count index counts at below =
+    let h = value_past bytes (values objects version) index at in
+    let size = same_size objects version in
     omega (arith, counts.0, below, h, size)
 
 -- ---- an entry of the objects
@@ -116,16 +116,18 @@ map_length : (xs : Kept) → length (entries_of xs) ≡ length xs
 map_length [] = refl
 map_length (x ∷ xs) = ap suc (map_length xs)
 
-pub object_entry : (objects : Contents) (ledger : Option LedgerState) (queue : Option QueueState) (key : ℕ)
-    (bytes : List ℕ) (i : ℕ) → device.entry_in (Some key) bytes ≡ slice_get (values objects queue) i
+pub object_entry : (objects : Contents) (ledger : Option LedgerState) (queue : Option QueueState) (version : Bool)
+    (key : ℕ) (bytes : List ℕ) (i : ℕ) → version ≡ device.needs_version_2 queue ledger
+    → device.entry_in (Some key) bytes ≡ slice_get (values objects version) i
     → entry_in (Some key) bytes ≡ slice_get (entries_of (saved_device objects ledger queue)) i
-object_entry objects ledger queue key bytes i e =
-    let h = value_within key bytes (values objects queue) i e in
+object_entry objects ledger queue version key bytes i own e =
+    let h = value_within key bytes (values objects version) i e in
+    let front = versioned_objects objects version in
     let rest = saved_ledger ledger ++ saved_queue queue in
-    value_at (Some key) bytes (values objects queue) i e
-    ∙ sym (ap (λ es. slice_get es i) (split_map (versioned_objects objects queue) rest)
-    ∙ get_front (entries_of (versioned_objects objects queue)) (entries_of rest) i
-    (omega (arith, h, map_length (versioned_objects objects queue))))
+    value_at (Some key) bytes (values objects version) i e
+    ∙ sym (ap (λ es. slice_get es i) (split_map front rest)
+    ∙ get_front (entries_of front) (entries_of rest) i (omega (arith, h, map_length front)))
+    ∙ ap (λ v. slice_get (entries_of (versioned_objects objects v ++ rest)) i) own
 
 -- The entry behind the values.
 pub behind_values : (objects : Contents) (ledger : Option LedgerState) (queue : Option QueueState) (i n count : ℕ)
@@ -134,11 +136,12 @@ pub behind_values : (objects : Contents) (ledger : Option LedgerState) (queue : 
     ≡ slice_get (entries_of (saved_ledger ledger ++ saved_queue queue)) n
 behind_values objects ledger queue i n count c e =
     let rest = saved_ledger ledger ++ saved_queue queue in
-    let size = same_size objects queue in
-    ap (λ es. slice_get es i) (split_map (versioned_objects objects queue) rest)
-    ∙ ap (slice_get (entries_of (versioned_objects objects queue) ++ entries_of rest)) e
-    ∙ get_rest (entries_of (versioned_objects objects queue)) (entries_of rest) n count
-    (omega (arith, c, size, map_length (versioned_objects objects queue)))
+    let version = device.needs_version_2 queue ledger in
+    let size = same_size objects version in
+    ap (λ es. slice_get es i) (split_map (versioned_objects objects version) rest)
+    ∙ ap (slice_get (entries_of (versioned_objects objects version) ++ entries_of rest)) e
+    ∙ get_rest (entries_of (versioned_objects objects version)) (entries_of rest) n count
+    (omega (arith, c, size, map_length (versioned_objects objects version)))
 
 -- ---- a numbered entry
 

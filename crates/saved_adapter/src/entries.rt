@@ -2,6 +2,7 @@
 
 ghost use Rattle.std.specs.Prelude.{◌≡◌, ◌++◌, Some, option_map, slice_get};
 ghost use Rattle.cip_ledger.specs.Executing.{doubted_by};
+ghost use Rattle.device_state.specs.Saved.{needs_version_2};
 ghost use Rattle.kept_adapter.specs.Saved.{saved_ledger, saved_queue};
 ghost use Rattle.saved_adapter.specs.Entries.{entries_in_doubt, entries_of, entry_in, IsCounted};
 
@@ -9,7 +10,7 @@ use crate::marked::MarkedLedger;
 use cip_ledger::{DoubtfulCommand, Ledger, MOST_ORIGINATORS};
 use cip_objects::{Objects, ReplyBuf};
 use cip_owner::Queue;
-use device_state::{QUEUE_ENTRIES, object_entry, write_queue_entry};
+use device_state::{QUEUE_ENTRIES, needs_version_2, object_entry, write_queue_entry};
 use enip_adapter::Adapter;
 use kept_adapter::{ledger_key, queue_key};
 use saved_state::{EntryHead, EntrySource};
@@ -26,13 +27,16 @@ pub struct AdapterEntries<'a> {
     objects: &'a Objects,
     ledger: Option<MarkedLedger<'a>>,
     queue: Option<&'a Queue>,
+    /// Whether the state has version 2.
+    is_version_2: bool,
     /// How many entries come before those of the ledger and of the queue.
     values: usize,
 }
 
 impl<'a> Model for AdapterEntries<'a> {
-    ghost use Rattle.std.specs.Prelude.{List, option_map};
+    ghost use Rattle.std.specs.Prelude.{◌≡◌, List, option_map};
     ghost use Rattle.std.specs.Coded.{coded_list};
+    ghost use Rattle.device_state.specs.Saved.{needs_version_2};
     ghost use Rattle.kept_adapter.specs.Saved.{saved_device};
     ghost use Rattle.saved_state.specs.States.{Entry, entry_code};
     ghost use Rattle.saved_adapter.specs.Entries.{entries_of, IsCounted};
@@ -43,7 +47,8 @@ impl<'a> Model for AdapterEntries<'a> {
 
     ghost view = { λ s. entries_of (saved_device s.objects.now s.ledger (option_map (λ q. q.now) s.queue)) };
 
-    ghost invariant = { λ s. IsCounted s.objects.now s.values };
+    ghost invariant = { λ s. IsCounted s.objects.now s.values
+        × (s.is_version_2 ≡ needs_version_2 (option_map (λ q. q.now) s.queue) s.ledger) };
 }
 
 impl<'a> AdapterEntries<'a> {
@@ -53,10 +58,14 @@ impl<'a> AdapterEntries<'a> {
         ensures { result ≡ entries_in_doubt doubt adapter.now }
     {
         let objects = adapter.objects();
+        let ledger = marked(adapter.ledger(), doubt);
+        let queue = adapter.queue();
+        let is_version_2 = is_version_2(queue, &ledger);
         AdapterEntries {
             objects,
-            ledger: marked(adapter.ledger(), doubt),
-            queue: adapter.queue(),
+            ledger,
+            queue,
+            is_version_2,
             values: value_count(objects),
         }
     }
@@ -66,7 +75,7 @@ impl<'a> AdapterEntries<'a> {
     pub(crate) fn entry(&self, index: usize, bytes: &mut ReplyBuf) -> Option<u64>
         ensures { entry_in result bytes.new.items ≡ slice_get self.now index }
     {
-        if let Some(key) = object_entry(self.objects, self.queue, index, bytes) {
+        if let Some(key) = object_entry(self.objects, self.is_version_2, index, bytes) {
             return Some(key);
         }
         if index < self.values {
@@ -151,13 +160,24 @@ fn marked<'a>(
     }
 }
 
+/// Whether a state with this queue and this ledger has version 2.
+fn is_version_2(queue: Option<&Queue>, ledger: &Option<MarkedLedger<'_>>) -> bool
+    ensures { result ≡ needs_version_2 (option_map (λ q. q.now) queue.entry) ledger.now }
+{
+    let has_withdrawn = match ledger {
+        Some(ledger) => ledger.has_withdrawn(),
+        None => false,
+    };
+    needs_version_2(queue, None) || has_withdrawn
+}
+
 /// How many entries the objects have.
 fn value_count(objects: &Objects) -> usize
     ensures { IsCounted objects.now result }
 {
     let mut bytes = ReplyBuf::new();
     for count in 0..usize::MAX {
-        if object_entry(objects, None, count, &mut bytes).is_none() {
+        if object_entry(objects, false, count, &mut bytes).is_none() {
             return count;
         }
     }

@@ -1,14 +1,16 @@
 //! A ledger with a command in doubt.
 
-ghost use Rattle.std.specs.Prelude.{◌≡◌, None};
+ghost use Rattle.std.specs.Prelude.{◌≡◌, None, Some, option_map, slice_get};
 ghost use Rattle.cip_ledger.specs.Executing.{doubted_by, doubtful};
-ghost use Rattle.device_state.specs.Saved.{slot_bytes};
+ghost use Rattle.cip_ledger.specs.Kept.{kept_in};
+ghost use Rattle.device_state.specs.Saved.{has_withdrawn, slot_bytes};
 ghost use Rattle.kept_adapter.specs.Saved.{ledger_bytes};
 ghost use Rattle.saved_adapter.specs.Entries.{IsMarkedAt};
 
 use cip_bytes::{append, append_u8, append_u32};
-use cip_ledger::{DoubtfulCommand, Ledger};
+use cip_ledger::{DoubtfulCommand, KeptCommand, Ledger};
 use cip_objects::{Objects, ReplyBuf};
+use device_state::is_withdrawn;
 use kept_adapter::write_ledger_bytes;
 use std::marker::Model;
 
@@ -57,6 +59,37 @@ impl<'a> MarkedLedger<'a> {
                 write_doubtful(command, bytes);
             }
             _ => write_ledger_bytes(objects, self.ledger, number, bytes),
+        }
+    }
+
+    /// Whether a slot has a command that was withdrawn.
+    pub(crate) fn has_withdrawn(&self) -> bool
+        ensures { result ≡ has_withdrawn (Some self.now) }
+    {
+        // the command in doubt may have a slot of its own, behind the others
+        for index in 0..self.ledger.slot_count() + 1 {
+            let Some(kept) = self.slot(index) else {
+                return false;
+            };
+            if is_withdrawn(kept) {
+                return true;
+            }
+        }
+        false
+    }
+
+    /// The last command in a slot, by the slot's index. `None` past the last.
+    fn slot(&self, index: usize) -> Option<KeptCommand<'_>>
+        ensures { option_map kept_in result ≡ slice_get self.now.taken index }
+    {
+        match (self.doubt, self.index) {
+            (Some(command), Some(at)) if at == index => Some(KeptCommand {
+                originator: command.originator,
+                number: command.number,
+                reply: None,
+                ticket: None,
+            }),
+            _ => self.ledger.slot(index),
         }
     }
 }

@@ -79,7 +79,17 @@ int main(void) {
     assert(outcome.general == 0 && outcome.reply == 8 && inner[4] == 5);
     printf("command %u is done\n", (unsigned)number);
 
-    /* another command, which is given up */
+    /* another command, which is withdrawn: it is never executed */
+    check(enip_once_command(once, request, length, message, sizeof message,
+                            &size));
+    check(enip_once_withdraw(once, message, sizeof message, &size));
+    exchange(enip_client_ask(client, message, size, frame, sizeof frame,
+                             &count));
+    check(enip_once_withdrawn(once, reply, heard.reply, inner, sizeof inner,
+                              &outcome));
+    assert(outcome.kind == ENIP_ONCE_WITHDRAWN);
+
+    /* and one that is given up, without the device */
     check(enip_once_command(once, request, length, message, sizeof message,
                             &size));
     check(enip_once_abandon(once));

@@ -144,7 +144,7 @@ class HeardKind(_Numbers):
 
 
 class OutcomeKind(_Numbers):
-    """What `Once.receive` learned about the pending command."""
+    """What `Once.receive` and `Once.withdrawn` learned about the pending command."""
 
     NOTHING = 0
     DONE = 1
@@ -152,6 +152,9 @@ class OutcomeKind(_Numbers):
     REFUSED = 3
     MALFORMED = 4
     IN_DOUBT = 5
+    WITHDRAWN = 6
+    SMALLER = 7
+    OTHER_LIFE = 8
 
 
 class Rights(_Numbers):
@@ -327,6 +330,8 @@ _CALLS: dict[str, Sequence[Any]] = {
     "enip_once_command": [_HANDLE, *_READ, *_WRITE, _COUNT],
     "enip_once_resend": [_HANDLE, *_WRITE, _COUNT],
     "enip_once_receive": [_HANDLE, *_READ, *_WRITE, ctypes.POINTER(_Outcome)],
+    "enip_once_withdraw": [_HANDLE, *_WRITE, _COUNT],
+    "enip_once_withdrawn": [_HANDLE, *_READ, *_WRITE, ctypes.POINTER(_Outcome)],
     "enip_once_abandon": [_HANDLE],
     "enip_once_values": [_HANDLE, _TO_U64, _TO_U64, _TO_U32],
     "enip_once_request": [_HANDLE, *_WRITE, _COUNT],
@@ -916,7 +921,7 @@ class Originator(_Handle):
 
 
 class Outcome(NamedTuple):
-    """The result of `Once.receive`. If the command is done, `reply` is the reply to its request."""
+    """The result of `Once.receive` or `Once.withdrawn`. If the command is done, `reply` is the reply to its request."""
 
     kind: OutcomeKind
     general: int
@@ -954,9 +959,20 @@ class Once(_Handle):
 
     def receive(self, reply: _Bytes) -> Outcome:
         """Takes the reply to the message."""
+        return self._outcome("enip_once_receive", reply)
+
+    def withdraw(self) -> Optional[bytes]:
+        """The message that withdraws the pending command from the device; None if none is pending."""
+        return _written("enip_once_withdraw", _MESSAGE_ROOM, self._handle)
+
+    def withdrawn(self, reply: _Bytes) -> Outcome:
+        """Takes the reply to the message of `withdraw`. The command is pending until it was withdrawn or is done."""
+        return self._outcome("enip_once_withdrawn", reply)
+
+    def _outcome(self, call: str, reply: _Bytes) -> Outcome:
         reply, outcome = bytes(reply), _Outcome()
         buffer = ctypes.create_string_buffer(max(len(reply), 1))
-        _checked("enip_once_receive", self._handle, reply, len(reply), buffer, len(buffer), ctypes.byref(outcome))
+        _checked(call, self._handle, reply, len(reply), buffer, len(buffer), ctypes.byref(outcome))
         return Outcome(OutcomeKind(outcome.kind), outcome.general, buffer.raw[: outcome.reply])
 
     def abandon(self) -> None:
@@ -1144,6 +1160,20 @@ class Client:
         return heard
 
 
+# Why a command was not withdrawn. It is still pending.
+_NOT_WITHDRAWN = {
+    OutcomeKind.PENDING: "the owner of the device has the command: the same command waits for its reply",
+    OutcomeKind.IN_DOUBT: "the device does not know whether it executed the command: its owner has to settle that",
+    OutcomeKind.SMALLER: "the device has a later command, and may have executed this one before: abandon gives it up",
+    OutcomeKind.OTHER_LIFE: "the device was started again, and may have executed the command: abandon gives it up",
+    OutcomeKind.MALFORMED: "the device sent a malformed reply",
+}
+
+
+def _refused_withdrawal(general: int) -> str:
+    return "the device refused to withdraw the command: " + status_text(Of.GENERAL, general)
+
+
 class Commander:
     """Commands to a device with a command ledger, which executes each of them once.
 
@@ -1198,11 +1228,50 @@ class Commander:
             raise EnipTimeout("no answer: no command was given")
         raise EnipTimeout("no answer: the command may have been executed; the same line sends it again")
 
+    def withdraw(self) -> Optional[bytes]:
+        """Withdraws the pending command from the device: it is never executed. Returns None.
+
+        If the device has executed it, returns the reply to its request, as `command` does. Raises `EnipError` with the
+        reason if the device can do neither, and `EnipTimeout` if it does not answer: the command is still pending then,
+        and `abandon` gives it up.
+        """
+        for tries in range(self._tries):
+            if self.pending is None:
+                return None
+            if tries > 0:
+                time.sleep(self._pause)
+            answer = self._withdrawal()
+            if answer is not None:
+                return self._withdrawn(answer)
+        raise EnipTimeout("no answer: the command may have been executed, and is still pending")
+
     def abandon(self) -> None:
         """Gives up the pending command: it is executed once or not at all."""
         if self.pending is not None and self._once is not None:
             self._once.abandon()
             self._store(self._values, None)
+
+    def _withdrawal(self) -> Optional[bytes]:
+        """Sends the message that withdraws the pending command over a new connection. Returns the answer."""
+        assert self._once is not None
+        message = self._once.withdraw()
+        assert message is not None
+        try:
+            with Client(*self._address, self._timeout) as client:
+                return client.ask(message)
+        except EnipRefused as refused:
+            return refused.reply
+        except (EnipTimeout, EnipLost, OSError):
+            return None
+
+    def _withdrawn(self, answer: bytes) -> Optional[bytes]:
+        """Takes the answer. Returns the reply to the command's request if it was executed, None if it was withdrawn."""
+        assert self._once is not None
+        outcome = self._once.withdrawn(answer)
+        if outcome.kind not in (OutcomeKind.WITHDRAWN, OutcomeKind.DONE):
+            raise EnipError(_NOT_WITHDRAWN.get(outcome.kind) or _refused_withdrawal(outcome.general))
+        self._store(self._values, None)
+        return outcome.reply if outcome.kind == OutcomeKind.DONE else None
 
     def _take(self, once: Optional[Once]) -> None:
         """Frees the originator's end, and goes on with another."""
@@ -1257,6 +1326,9 @@ class Commander:
             raise EnipError("the device refused the command: " + status_text(Of.GENERAL, outcome.general))
         if outcome.kind == OutcomeKind.IN_DOUBT:
             raise EnipError("the device does not know whether it executed the command: its owner has to settle that")
+        if outcome.kind == OutcomeKind.WITHDRAWN:
+            self._store(self._values, None)
+            raise EnipError("the command was withdrawn, and is never executed")
         if outcome.kind != OutcomeKind.DONE:
             return None
         self._store(self._values, None)

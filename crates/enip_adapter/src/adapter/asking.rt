@@ -12,7 +12,7 @@ ghost use Rattle.enip_adapter.specs.Adapter.{feed_output};
 use super::lend;
 use crate::adapter::{Adapter, Fed};
 use crate::asked_head::{copy_asked, lend_asked};
-use crate::commands::{asked, executing};
+use crate::commands::{asked, executing, withdraw};
 use crate::peer::Peer;
 use crate::reply::LONGEST_ANSWER;
 use cip_ledger::DoubtfulCommand;
@@ -24,6 +24,7 @@ impl Adapter {
     ghost use Rattle.enip_adapter.specs.Calls.{Call, call_meaning, call_answer, after_call};
     ghost use Rattle.enip_adapter.specs.Executing.{executing};
     ghost use Rattle.enip_adapter.specs.Runs.{after_calls};
+    ghost use Rattle.enip_adapter.specs.Withdrawing.{found_by_piece, is_withdrawing, requests_of_piece};
     ghost use Rattle.enip_adapter.specs.contracts.adapter.Adapter.{the_row};
 
     /// What the owner of the device would be asked if these bytes were fed now: the own request of the frame that they
@@ -74,6 +75,31 @@ impl Adapter {
         ensures command { result ≡ executing self.old peer.now piece.now }
     {
         executing(&self.shared, self.places.peek(peer.handle, piece))
+    }
+
+    /// Withdraws what the request in these bytes withdraws: that of the frame which they complete. Call it before each
+    /// feed of an adapter that has a ledger, at the time of `tick`. Withdraw and Forget of a pending command take it out of
+    /// the queue, if no owner was handed it, and Withdraw of a number that was not used uses it up. The feed answers what
+    /// has become of the command. No other request withdraws anything, and nothing else changes.
+    ///
+    /// Returns whether something was withdrawn: the ledger changed, and perhaps the queue.
+    ///
+    /// ```
+    /// adapter.tick(now);
+    /// adapter.withdraw_asked(&peer, piece);
+    /// let fed = adapter.feed(now, &peer, piece);
+    /// ```
+    pub fn withdraw_asked(&mut self, peer: &Peer, piece: &[u8]) -> bool
+        ensures state { self.new ≡ found_by_piece self.old peer.now piece.now }
+        ensures told { result
+            ≡ is_withdrawing self.old.state.shared.objects (requests_of_piece self.old peer.now piece.now) }
+    {
+        // Without a ledger nothing is withdrawn, and no byte is looked at.
+        if self.shared.objects.ledger.is_none() {
+            return false;
+        }
+        let seen = self.places.peek(peer.handle, piece);
+        withdraw(&mut self.shared, seen)
     }
 
     /// Feeds bytes as `feed` does, with the owner's reply to the request that they ask. `None` is answered 0x10, as a

@@ -12,6 +12,7 @@ ghost use Rattle.enip_adapter.specs.Asks.{request_lent, asks_by_requests, asks_b
 ghost use Rattle.enip_adapter.specs.DeviceRuns as runs;
 ghost use Rattle.enip_adapter.specs.Executing.{executing_seen};
 ghost use Rattle.enip_adapter.specs.SendRRData.{route_of};
+ghost use Rattle.enip_adapter.specs.Withdrawing.{requests_by_seen, shared_found, is_withdrawing};
 
 use super::requests::Route;
 use crate::peer::{Rights, Session};
@@ -47,6 +48,21 @@ pub(crate) fn executing(
     let (session, frame) = seen?;
     let (request, max_size) = request_in_frame(shared, session, frame)?;
     shared.objects.executing(request, max_size)
+}
+
+/// Withdraws what the request of a peer's whole frame withdraws, and returns whether that is anything. Without a frame
+/// nothing is.
+pub(crate) fn withdraw(shared: &mut Shared, seen: Option<(Session, FrameView<'_>)>) -> bool
+    ensures state { shared.new ≡ shared_found shared.old (requests_by_seen shared.old seen.entry) }
+    ensures result { result ≡ is_withdrawing shared.old.objects (requests_by_seen shared.old seen.entry) }
+{
+    let Some((session, frame)) = seen else {
+        return false;
+    };
+    match request_in_frame(shared, session, frame) {
+        Some((request, _)) => shared.objects.withdraw_asked(request),
+        None => false,
+    }
 }
 
 /// What the owner would be asked by a request to the device, whose reply may have `max_size` bytes.

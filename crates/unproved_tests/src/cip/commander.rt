@@ -2,7 +2,9 @@
 //! answers are lost. The bytes are those of docs/PROTOCOL.md.
 
 use super::counting::{ADD_ONE, objects};
-use cip_commander::{CommandOutcome, CommandRefused, Commander, LONGEST_EMBEDDED};
+use cip_commander::{
+    CommandOutcome, CommandRefused, Commander, LONGEST_EMBEDDED, WithdrawalOutcome,
+};
 use cip_ledger::{Ledger, LedgerRouter};
 use cip_objects::{ReplyBuf, Router};
 use cip_owner::OwnedObjects;
@@ -140,7 +142,7 @@ fn a_reply_that_is_not_done_keeps_the_command(rt: HostRuntime) {
         (b"\xcc\0\0\0\0", CommandOutcome::Malformed),
         (b"\xcb\0\x0c\x01\0", CommandOutcome::Malformed),
         (b"\xcb\0\0\0", CommandOutcome::Malformed),
-        (b"\xcb\0\0\0\x03", CommandOutcome::Malformed),
+        (b"\xcb\0\0\0\x04", CommandOutcome::Malformed),
         (b"\xcb\0\0\0\xff\xb2\0\0\0", CommandOutcome::Malformed),
     ];
     for (reply, outcome) in &rows {
@@ -169,6 +171,81 @@ fn a_command_is_done_once(rt: HostRuntime) {
     assert!(rt; commander.command(&ADD_ONE).is_ok());
     assert!(rt; commander.receive(b"\xcb\0\0\0\0") == CommandOutcome::Done(b""));
     assert_eq!(rt; commander.last_number(), 3);
+}
+
+/// A command that was withdrawn is not pending any more, and its number is not taken again.
+#[test]
+fn a_withdrawn_command_ends(rt: HostRuntime) {
+    for reply in [b"\xcb\0\0\0\x03".as_slice(), b"\xcb\0\0\0\x03\xb2\0\0\0"] {
+        let mut commander = commander(4);
+        assert!(rt; commander.command(&ADD_ONE).is_ok());
+        assert!(rt; commander.receive(reply) == CommandOutcome::Withdrawn);
+        assert!(rt; commander.pending().is_none() && commander.withdrawal().is_none());
+        assert!(rt; commander.receive(reply) == CommandOutcome::NotPending);
+        assert!(rt; commander.command(&ADD_ONE).is_ok());
+        check_pending(&rt, &commander, 6, &ADD_ONE);
+    }
+}
+
+/// Withdraw has the life, the originator and the number of the pending command. Each reply that does not say that it was
+/// withdrawn or is done leaves it pending.
+#[test]
+fn a_command_that_is_not_withdrawn_stays(rt: HostRuntime) -> Result<(), Fail> {
+    let mut commander = commander(0x0201);
+    assert!(rt; commander.withdrawal().is_none());
+    assert!(rt; commander.receive_withdrawal(b"\xcf\0\0\0\x03") == WithdrawalOutcome::NotPending);
+    assert!(rt; commander.command(&ADD_ONE).is_ok());
+    let rows: [(&[u8], WithdrawalOutcome<'_>); 16] = [
+        (b"\xcf\0\0\0\x01", WithdrawalOutcome::HandedOver),
+        (b"\xcf\0\0\0\x01\xb2\0\0\0", WithdrawalOutcome::HandedOver),
+        (b"\xcf\0\0\0\x02", WithdrawalOutcome::InDoubt),
+        (b"\xcf\0\x0c\0", WithdrawalOutcome::Smaller),
+        (b"\xcf\0\x10\0", WithdrawalOutcome::OtherLife),
+        (b"\xcf\x55\x10\x01\x07\x01\0", WithdrawalOutcome::OtherLife),
+        (b"\xcf\0\x02\0", WithdrawalOutcome::Refused(0x02)),
+        (b"\xcf\0\x08\0", WithdrawalOutcome::Refused(0x08)),
+        (b"\xcf\0\xd0\0", WithdrawalOutcome::Refused(0xd0)),
+        // no reply; no reply to Withdraw; words past the end; no state; no such state
+        (b"", WithdrawalOutcome::Malformed),
+        (b"\xcf\0\0", WithdrawalOutcome::Malformed),
+        (b"\x4f\0\0\0\x03", WithdrawalOutcome::Malformed),
+        (b"\xcb\0\0\0\x03", WithdrawalOutcome::Malformed),
+        (b"\xcf\0\x0c\x01\0", WithdrawalOutcome::Malformed),
+        (b"\xcf\0\0\0", WithdrawalOutcome::Malformed),
+        (b"\xcf\0\0\0\x04", WithdrawalOutcome::Malformed),
+    ];
+    for (reply, outcome) in &rows {
+        assert!(rt; commander.receive_withdrawal(reply) == *outcome);
+        check_pending(&rt, &commander, 0x0202, &ADD_ONE);
+        let request = commander.withdrawal().ok_or("a command is pending")?;
+        let request = request.as_slice();
+        assert_eq!(rt; (request.len(), request[0]), (26, 0x4f));
+        assert!(rt; &request[1..22] == &FRONT[1..]);
+        assert!(rt; &request[22..] == [0x02, 0x02, 0, 0].as_slice());
+    }
+    Ok(())
+}
+
+/// A command ends as withdrawn, or as done with the reply to its request.
+#[test]
+fn a_command_is_withdrawn_or_done(rt: HostRuntime) {
+    let rows: [(&[u8], WithdrawalOutcome<'_>); 4] = [
+        (b"\xcf\0\0\0\x03", WithdrawalOutcome::Withdrawn),
+        (b"\xcf\0\0\0\x03\xb2\0\0\0", WithdrawalOutcome::Withdrawn),
+        (
+            b"\xcf\0\0\0\0\xb2\0\x09\0",
+            WithdrawalOutcome::Done(b"\xb2\0\x09\0"),
+        ),
+        (b"\xcf\0\0\0\0", WithdrawalOutcome::Done(b"")),
+    ];
+    for (reply, outcome) in &rows {
+        let mut commander = commander(4);
+        assert!(rt; commander.command(&ADD_ONE).is_ok());
+        assert!(rt; commander.receive_withdrawal(reply) == *outcome);
+        assert!(rt; commander.pending().is_none() && commander.pending_request().is_none());
+        assert!(rt; commander.receive_withdrawal(reply) == WithdrawalOutcome::NotPending);
+        assert_eq!(rt; commander.last_number(), 5);
+    }
 }
 
 /// An abandoned command's number is not taken again.
@@ -240,6 +317,57 @@ fn lost_answers_move_the_machine_once(rt: HostRuntime) -> Result<(), Fail> {
         check_done(&rt, &mut resumed, &reply, count);
         check_done(&rt, &mut commander, &reply, count);
     }
+    Ok(())
+}
+
+/// The device's reply to Withdraw of the pending command.
+fn withdrawn_at(commander: &Commander, device: &mut LedgerRouter<OwnedObjects>) -> ReplyBuf {
+    let mut reply = ReplyBuf::new();
+    if let Some(request) = commander.withdrawal() {
+        device.withdraw_asked(request.as_slice());
+        device.execute(request.as_slice(), 504, &mut reply);
+    }
+    reply
+}
+
+/// A command that is withdrawn at the device before it arrives is never executed, and one that was executed is done.
+#[test]
+fn a_withdrawn_command_never_moves_the_machine(rt: HostRuntime) -> Result<(), Fail> {
+    let mut device = device(rt.alloc(), 7)?;
+    let mut commander = commander(0);
+    assert!(rt; commander.command(&ADD_ONE).is_ok());
+    let late = Commander::resume(7, 0x0102_0304_0506_0708, 1, Some(&ADD_ONE));
+    let mut late = late.ok().ok_or("the file has a command")?;
+    for _ in 0..2 {
+        let mut again = Commander::resume(7, 0x0102_0304_0506_0708, 1, Some(&ADD_ONE))
+            .ok()
+            .ok_or("the file has a command")?;
+        let reply = withdrawn_at(&again, &mut device);
+        assert!(rt; again.receive_withdrawal(reply.as_slice()) == WithdrawalOutcome::Withdrawn);
+    }
+    let reply = reply_to(&late, &mut device, 504);
+    assert!(rt; late.receive(reply.as_slice()) == CommandOutcome::Withdrawn);
+    let reply = withdrawn_at(&commander, &mut device);
+    assert!(rt; commander.receive_withdrawal(reply.as_slice()) == WithdrawalOutcome::Withdrawn);
+    assert!(rt; commander.command(&ADD_ONE).is_ok());
+    let _lost = reply_to(&commander, &mut device, 504);
+    let reply = withdrawn_at(&commander, &mut device);
+    let done = [0xb2, 0, 0, 0, 1, 0, 0, 0];
+    assert!(rt; commander.receive_withdrawal(reply.as_slice()) == WithdrawalOutcome::Done(&done));
+    let mut smaller = Commander::resume(7, 0x0102_0304_0506_0708, 1, Some(&ADD_ONE))
+        .ok()
+        .ok_or("the file has a command")?;
+    let reply = withdrawn_at(&smaller, &mut device);
+    assert!(rt; smaller.receive_withdrawal(reply.as_slice()) == WithdrawalOutcome::Smaller);
+    let mut other = Commander::resume(8, 0x0102_0304_0506_0708, 9, Some(&ADD_ONE))
+        .ok()
+        .ok_or("the file has a command")?;
+    let reply = withdrawn_at(&other, &mut device);
+    assert!(rt; other.receive_withdrawal(reply.as_slice()) == WithdrawalOutcome::OtherLife);
+    let mut second = Commander::new(7, 2, 0);
+    assert!(rt; second.command(&ADD_ONE).is_ok());
+    let reply = withdrawn_at(&second, &mut device);
+    assert!(rt; second.receive_withdrawal(reply.as_slice()) == WithdrawalOutcome::Refused(0x02));
     Ok(())
 }
 

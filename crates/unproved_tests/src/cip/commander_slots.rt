@@ -38,13 +38,15 @@ fn lists(rt: HostRuntime) -> Result<(), Fail> {
         \x01\x02\x03\x04\x05\x06\x07\x08\x09\x0a\x0b\x0c\x00\
         \xff\xff\xff\xff\xff\xff\xff\xff\xff\xff\xff\xff\x01\
         \x00\x00\x00\x00\x00\x00\x00\x00\x00\x00\x00\x00\x02\
-        \x00\x00\x00\x00\x00\x00\x00\x00\x00\x00\x00\x00\x03";
+        \x01\x00\x00\x00\x00\x00\x00\x00\x02\x00\x00\x00\x03\
+        \x00\x00\x00\x00\x00\x00\x00\x00\x00\x00\x00\x00\x04";
     let list = SlotList::read(reply).ok().ok_or("a list")?;
-    assert_eq!(rt; (list.taken(), list.count()), (5, 4));
+    assert_eq!(rt; (list.taken(), list.count()), (5, 5));
     let wanted = [
         (0x0807_0605_0403_0201, 0x0c0b_0a09, CommandState::Done),
         (u64::MAX, u32::MAX, CommandState::Pending),
         (0, 0, CommandState::InDoubt),
+        (1, 2, CommandState::Withdrawn),
     ];
     for (index, (originator, number, state)) in wanted.iter().enumerate() {
         let slot = LedgerSlot {
@@ -54,8 +56,8 @@ fn lists(rt: HostRuntime) -> Result<(), Fail> {
         };
         assert!(rt; list.slot(index) == Some(slot));
     }
-    assert!(rt; list.slot(3).is_none());
     assert!(rt; list.slot(4).is_none());
+    assert!(rt; list.slot(5).is_none());
     assert!(rt; list.slot(usize::MAX).is_none());
     Ok(())
 }
@@ -98,7 +100,11 @@ fn other_replies(rt: HostRuntime) -> Result<(), Fail> {
         assert!(rt; read_last(&last[..size]) == wanted);
     }
     assert!(rt; read_last(b"\xcc\x00\x16\x00") == Err(SlotsFault::Refused(0x16, 0)));
-    assert!(rt; read_last(b"\xcc\x00\x00\x00\x01\x02\x03\x04\x03") == Err(SlotsFault::Malformed));
+    assert!(rt;
+        read_last(b"\xcc\x00\x00\x00\x01\x02\x03\x04\x03")
+            == Ok((0x0403_0201, CommandState::Withdrawn))
+    );
+    assert!(rt; read_last(b"\xcc\x00\x00\x00\x01\x02\x03\x04\x04") == Err(SlotsFault::Malformed));
     let counts = b"\x83\x00\x00\x00\x02\x00\x01\x00\x00\x00\x04\x03\x02\x00\x00\x00\x02\x01\x00";
     for size in 0..=19usize {
         let wanted = if size == 18 {

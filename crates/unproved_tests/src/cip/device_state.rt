@@ -5,8 +5,8 @@ use cip_ledger::{KeptCommand, Ledger};
 use cip_objects::{Objects, ReplyBuf};
 use cip_owner::Queue;
 use device_state::{
-    Outcome, identity_key, is_same_device, object_entry, restore, restore_queue_entry, saved_entry,
-    write_queue_entry,
+    Outcome, identity_key, is_same_device, needs_version_2, object_entry, restore,
+    restore_queue_entry, saved_entry, write_queue_entry,
 };
 use std::alloc::Global;
 use std::process::Abort;
@@ -131,7 +131,7 @@ fn check_outcome(
 
 #[test]
 fn entries_that_do_not_fit(rt: HostRuntime) -> Result<(), Fail> {
-    let rows: [(u64, &[u8], Outcome); 18] = [
+    let rows: [(u64, &[u8], Outcome); 21] = [
         (0x0004_0064_0003, b"\xaa\xbb\xcc", Outcome::Unfit), // four bytes
         (0x0004_0064_0004, b"\x04\x00", Outcome::Unfit), // the size is not kept
         (0x0004_0063_0003, b"\xaa\xbb", Outcome::Unknown), // no assembly 99
@@ -159,6 +159,21 @@ fn entries_that_do_not_fit(rt: HostRuntime) -> Result<(), Fail> {
             b"\x0a\x00\x00\x00\x00\x00\x00\x00\x05\x00\x00\x00\x02",
             Outcome::Used,
         ), // in doubt
+        (
+            0x0065_0002_0000,
+            b"\x0a\x00\x00\x00\x00\x00\x00\x00\x05\x00\x00\x00\x03",
+            Outcome::Used,
+        ), // withdrawn
+        (
+            0x0065_0002_0000,
+            b"\x0a\x00\x00\x00\x00\x00\x00\x00\x05\x00\x00\x00\x03\xb2",
+            Outcome::Unfit,
+        ), // withdrawn, with a reply
+        (
+            0x0065_0002_0000,
+            b"\x0a\x00\x00\x00\x00\x00\x00\x00\x05\x00\x00\x00\x04",
+            Outcome::Unfit,
+        ), // no such state
         (
             0x0065_0002_0000,
             b"\x0a\x00\x00\x00\x00\x00\x00\x00\x05\x00\x00\x00\x00",
@@ -224,7 +239,7 @@ fn versions(rt: HostRuntime) -> Result<(), Fail> {
     for (next, handed, version, tickets) in rows {
         let old = queue(&rt, rt.alloc(), next, handed)?;
         assert_eq!(rt;
-            object_entry(&objects, Some(&old), 0, &mut bytes),
+            object_entry(&objects, needs_version_2(Some(&old), None), 0, &mut bytes),
             Some(KEYS[0])
         );
         assert!(rt; &bytes[..8] == IDENTITY && &bytes[8..] == version);
@@ -235,11 +250,75 @@ fn versions(rt: HostRuntime) -> Result<(), Fail> {
         assert!(rt; restore_queue_entry(&mut new, 0, &bytes));
         assert!(rt; new.next() == next && new.handed() == handed);
     }
-    assert_eq!(rt; object_entry(&objects, None, 0, &mut bytes), Some(KEYS[0]));
+    assert_eq!(rt; object_entry(&objects, false, 0, &mut bytes), Some(KEYS[0]));
     assert_eq!(rt; bytes.as_slice(), IDENTITY);
-    assert_eq!(rt; object_entry(&objects, None, 1, &mut bytes), Some(KEYS[3]));
+    assert_eq!(rt; object_entry(&objects, false, 1, &mut bytes), Some(KEYS[3]));
+    assert!(rt; !needs_version_2(None, None));
     assert!(rt; !is_same_device(&objects, b"\x34\x12\x07\x00\x04\x03\x02\x01\x03"));
     assert!(rt; !is_same_device(&objects, b"\x34\x12\x07\x00\x05\x03\x02\x01\x02"));
+    Ok(())
+}
+
+/// A ledger with slots in these states.
+fn ledger_of(
+    rt: &impl Abort,
+    alloc: Global,
+    states: &[(Option<&[u8]>, Option<u32>)],
+) -> Result<Ledger, Fail> {
+    let mut ledger = Ledger::new(alloc, 4, 0x0102)?;
+    let mut originator = 8;
+    for (reply, ticket) in states {
+        originator += 1;
+        assert!(rt;
+            ledger.restore(KeptCommand {
+                originator,
+                number: 5,
+                reply: *reply,
+                ticket: *ticket,
+            })
+        );
+    }
+    Ok(ledger)
+}
+
+/// A withdrawn command in any slot gives the state version 2, and is withdrawn again in a ledger that starts from it.
+#[test]
+fn withdrawn_commands(rt: HostRuntime) -> Result<(), Fail> {
+    let done: (Option<&[u8]>, Option<u32>) = (Some(b"\xb2\x00\x00\x00"), None);
+    let pending: (Option<&[u8]>, Option<u32>) = (None, Some(7));
+    let doubtful: (Option<&[u8]>, Option<u32>) = (None, None);
+    let withdrawn: (Option<&[u8]>, Option<u32>) = (Some(b""), Some(0));
+    let rows: [(&[(Option<&[u8]>, Option<u32>)], &[u8]); 6] = [
+        (&[], b""),
+        (&[done, pending, doubtful], b""),
+        (&[withdrawn], b"\x02"),
+        (&[withdrawn, done], b"\x02"),
+        (&[done, pending, doubtful, withdrawn], b"\x02"),
+        (&[pending, withdrawn, withdrawn], b"\x02"),
+    ];
+    let mut bytes = ReplyBuf::new();
+    for (states, version) in rows {
+        let mut old = objects_with_conveyor(rt.alloc())?;
+        let ledger = ledger_of(&rt, rt.alloc(), states)?;
+        assert_eq!(rt;
+            object_entry(&old, needs_version_2(None, Some(&ledger)), 0, &mut bytes),
+            Some(KEYS[0])
+        );
+        assert!(rt; &bytes[..8] == IDENTITY && &bytes[8..] == version);
+        let mut new = Some(Ledger::new(rt.alloc(), 4, 7)?);
+        for index in 0..states.len() + 2 {
+            let key = saved_entry(&old, Some(&ledger), index, &mut bytes).ok_or("an entry")?;
+            assert!(rt; index > 0 || &bytes[8..] == version);
+            assert_eq!(rt; restore(&mut old, &mut new, key, &bytes), Outcome::Used);
+        }
+        for (index, (reply, ticket)) in states.iter().enumerate() {
+            let kept = new
+                .as_ref()
+                .and_then(|ledger| ledger.slot(index))
+                .ok_or("a slot")?;
+            assert!(rt; kept.reply == *reply && kept.ticket == *ticket);
+        }
+    }
     Ok(())
 }
 

@@ -13,3 +13,4 @@ mod paths;
 mod queued;
 mod refusals;
 mod slots;
+mod withdrawing;

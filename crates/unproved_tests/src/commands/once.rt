@@ -3,8 +3,8 @@
 use super::command_files::{ADD, PENDING, commander_in, text_of};
 use cip_commander::{CommandOutcome, CommandRefused, Commander};
 use enip_commands::{
-    LIFE_REQUEST, LedgerRefusal, LifeFault, OnceRefusal, PendingChoice, begin_once, check_once,
-    read_life,
+    LIFE_REQUEST, LedgerRefusal, LifeFault, OnceRefusal, PendingChoice, WithdrawalRefusal,
+    begin_once, check_once, read_life,
 };
 use std::alloc::Global;
 use std::process::Abort;
@@ -278,6 +278,7 @@ fn refusals_of_the_program(rt: HostRuntime) -> Result<(), Fail> {
         (OnceRefusal::Differs, "pending", 2),
         (OnceRefusal::NonePending, "pending", 2),
         (OnceRefusal::OtherLife, "life", 2),
+        (OnceRefusal::Withdrawn, "withdrawn", 7),
         (
             OnceRefusal::Command(CommandRefused::NotARequest),
             "fault 7",
@@ -295,6 +296,32 @@ fn refusals_of_the_program(rt: HostRuntime) -> Result<(), Fail> {
         assert_eq!(rt; why.exit_status(), status);
     }
     Ok(())
+}
+
+/// The statuses of the table of Withdraw, their neighbours, and what they say of the command.
+#[test]
+fn refusals_of_a_withdrawal(rt: HostRuntime) {
+    let rows = [
+        (0x01, WithdrawalRefusal::Other(1), true),
+        (0x02, WithdrawalRefusal::SlotsTaken, false),
+        (0x03, WithdrawalRefusal::Other(3), true),
+        (0x05, WithdrawalRefusal::NoLedger, true),
+        (0x07, WithdrawalRefusal::Other(7), true),
+        (0x08, WithdrawalRefusal::NotSupported, true),
+        (0x09, WithdrawalRefusal::Other(9), true),
+        (0x0b, WithdrawalRefusal::Other(0x0b), true),
+        (0x0c, WithdrawalRefusal::NumberPassed, true),
+        (0x0f, WithdrawalRefusal::Other(0x0f), true),
+        (0x10, WithdrawalRefusal::Other(0x10), true),
+        (0x13, WithdrawalRefusal::Other(0x13), true),
+        (0xcf, WithdrawalRefusal::Other(0xcf), true),
+        (0xd0, WithdrawalRefusal::OtherPending, false),
+        (0xd1, WithdrawalRefusal::Other(0xd1), true),
+    ];
+    for (status, refusal, may_be_executed) in rows {
+        assert_eq!(rt; WithdrawalRefusal::of(status), refusal);
+        assert_eq!(rt; refusal.may_be_executed(), may_be_executed);
+    }
 }
 
 /// The statuses of the table of Do_Once, their neighbours, and what they say of the command.

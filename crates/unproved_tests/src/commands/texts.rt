@@ -9,7 +9,7 @@ use enip_access::{Prefix, PrefixFault};
 use enip_client::ClientFault;
 use enip_commands::{
     CommandFileFault, LedgerRefusal, LifeFault, LineFault, OnceRefusal, ProgramFault,
-    RequestFailure,
+    RequestFailure, WithdrawalRefusal,
 };
 use enip_config::{ConfigurationRefusal, LoadFault};
 use enip_replay::ReplayFailure;
@@ -88,6 +88,7 @@ fn of_commands_that_are_executed_once(rt: HostRuntime) -> Result<(), Fail> {
         (OnceRefusal::Differs, "pending"),
         (OnceRefusal::NonePending, "pending"),
         (OnceRefusal::OtherLife, "life"),
+        (OnceRefusal::Withdrawn, "withdrawn"),
         (OnceRefusal::Command(CommandRefused::TooLong), "fault 7"),
     ];
     let device = [
@@ -122,9 +123,36 @@ fn of_commands_that_are_executed_once(rt: HostRuntime) -> Result<(), Fail> {
             "the ledger refused the command with general status 0x0e",
         ),
     ];
+    let withdrawals = [
+        (
+            WithdrawalRefusal::SlotsTaken,
+            "all slots of the command ledger are taken (see enip ledger and --forget, or configure more originators)",
+        ),
+        (
+            WithdrawalRefusal::NoLedger,
+            "the device has no command ledger",
+        ),
+        (
+            WithdrawalRefusal::NotSupported,
+            "the device cannot withdraw a command",
+        ),
+        (
+            WithdrawalRefusal::NumberPassed,
+            "the ledger has a later command of this originator, and will not execute this one",
+        ),
+        (
+            WithdrawalRefusal::OtherPending,
+            "another command of this originator is still in the queue of the device",
+        ),
+        (
+            WithdrawalRefusal::Other(0x0e),
+            "the device refused to withdraw the command, with general status 0x0e",
+        ),
+    ];
     check_texts(&rt, rt.alloc(), &lives)?;
     check_texts(&rt, rt.alloc(), &program)?;
-    check_texts(&rt, rt.alloc(), &device)
+    check_texts(&rt, rt.alloc(), &device)?;
+    check_texts(&rt, rt.alloc(), &withdrawals)
 }
 
 /// Each text is the code that the program prints.

@@ -43,7 +43,7 @@ fn check(rt: &impl Abort, alloc: Global, row: Row) -> Result<(), Fail> {
 }
 
 /// The least and the greatest value of each type, and others.
-static ROWS: [Row; 97] = [
+static ROWS: [Row; 100] = [
     ("BOOL", &["0"], &[0], "0"),
     ("BOOL", &["1"], &[1], "1"),
     ("BOOL", &["false"], &[0], "0"),
@@ -100,6 +100,19 @@ static ROWS: [Row; 97] = [
         &[0xff, 0xff, 0xff, 0xff, 0xff, 0xff, 0xff, 0xff],
         "18446744073709551615",
     ),
+    (
+        "ULINT",
+        &["0x0102030405060708"],
+        &[8, 7, 6, 5, 4, 3, 2, 1],
+        "72623859790382856",
+    ),
+    (
+        "ULINT",
+        &["0xFFFFFFFFFFFFFFFF"],
+        &[0xff, 0xff, 0xff, 0xff, 0xff, 0xff, 0xff, 0xff],
+        "18446744073709551615",
+    ),
+    ("ULINT", &["0x0"], &[0, 0, 0, 0, 0, 0, 0, 0], "0"),
     ("BYTE", &["0x0f"], &[0x0f], "0x0f"),
     ("BYTE", &["15"], &[0x0f], "0x0f"),
     ("BYTE", &["0xFF"], &[0xff], "0xff"),

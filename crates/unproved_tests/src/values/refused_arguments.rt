@@ -7,7 +7,7 @@ use std::test::Fail;
 /// A type, arguments, and why they are refused.
 type Refused = (&'static str, &'static [&'static str], &'static str);
 
-static REFUSED: [Refused; 107] = [
+static REFUSED: [Refused; 108] = [
     ("BOOL", &["2"], "2 is not of type BOOL"),
     ("BOOL", &["TRUE"], "TRUE is not of type BOOL"),
     (
@@ -85,6 +85,11 @@ static REFUSED: [Refused; 107] = [
         "ULINT",
         &["-999999999999999999999999999999999999999999999999"],
         "-999999999999999999999999999999999999999999999999 is out of range for ULINT (0 to 18446744073709551615)",
+    ),
+    (
+        "ULINT",
+        &["0x10000000000000000"],
+        "0x10000000000000000 is out of range for ULINT (0 to 18446744073709551615)",
     ),
     (
         "BYTE",

@@ -1,7 +1,7 @@
 use Rattle.std.proofs.Common.{◌≡◌, ◌≤◌, ◌+◌, ◌∙◌, ◌++◌, List, Some, ap, sym, arith, suc, length, drop, map, ◌-◌, take_all, length-drop}
 use Rattle.device_state.specs.Saved.{Entry, entry_of, object_entries}
 use Rattle.enip_keep.specs.Kept.{Kept, pairs_of, pair_of as pair_of_kept}
-use Rattle.std.specs.Prelude.{slice_get, option_map}
+use Rattle.std.specs.Prelude.{slice_get}
 use Rattle.kept_adapter.specs.Saved.{pair_of}
 use Rattle.kept_adapter.proofs.CompareLemmas.{differs_at, differs_past, first_and_rest, length_pairs, not_both, pair_at}
 use Rattle.kept_adapter.proofs.CompareLemmas.{take_more}
@@ -12,7 +12,7 @@ use Rattle.kept_adapter.proofs.comparing.behind_objects.Goals.{then-count-entrie
 
 pub returns-then-count-entries-clause-other : goal.returns-then-count-entries-clause-other
 returns-then-count-entries-clause-other c =
-    let es : List Entry = object_entries c.args.objects.now (option_map (λ q. q.now) c.args.queue) in
+    let es : List Entry = object_entries c.args.objects.now c.args.is_version_2 in
     let pairs : Kept = pairs_of c.args.entries.now in
     let count = c.loop-key.count in
     let key = c.in-Some.key in
@@ -33,7 +33,7 @@ returns-then-count-entries-clause-other c =
 
 pub loop-key-preserved : goal.loop-key-preserved
 loop-key-preserved c =
-    let es : List Entry = object_entries c.args.objects.now (option_map (λ q. q.now) c.args.queue) in
+    let es : List Entry = object_entries c.args.objects.now c.args.is_version_2 in
     let pairs : Kept = pairs_of c.args.entries.now in
     let count = c.loop-key.count in
     let key = c.in-Some.key in
@@ -51,7 +51,7 @@ loop-key-preserved c =
 
 pub loop-key-smaller : goal.loop-key-smaller
 loop-key-smaller c =
-    let es : List Entry = object_entries c.args.objects.now (option_map (λ q. q.now) c.args.queue) in
+    let es : List Entry = object_entries c.args.objects.now c.args.is_version_2 in
     let count = c.loop-key.count in
     let next : count + 1 ≡ suc count = omega arith in
     let within : count + 1 ≤ length (map pair_of es)
@@ -60,7 +60,7 @@ loop-key-smaller c =
 
 pub returns-clause-same : goal.returns-clause-same
 returns-clause-same c =
-    let es : List Entry = object_entries c.args.objects.now (option_map (λ q. q.now) c.args.queue) in
+    let es : List Entry = object_entries c.args.objects.now c.args.is_version_2 in
     first_and_rest c.args.entries.now c.loop-key.count
     ∙ ap (λ front. front ++ pairs_of (drop c.loop-key.count c.args.entries.now))
     (c.loop-key.invariant.0 ∙ past_end pair_of es c.loop-key.count c.in_default.ensures.entry)

@@ -1,14 +1,13 @@
 use Rattle.std.proofs.Common.{◌≡◌, ◌≤◌, ◌-◌, take, length}
-use Rattle.std.specs.Prelude.{option_map}
 use Rattle.enip_keep.specs.Kept.{pairs_of}
 use Rattle.kept_adapter.specs.Saved.{versioned_objects}
 use Rattle.kept_adapter.proofs.comparing.behind_objects.Given as goal
 
 abbrev pub invariant-loop-key : goal.invariant-loop-key
 invariant-loop-key l =
-    (take l.count (pairs_of l.entries) ≡ take l.count (versioned_objects l.objects (option_map (λ q. q.now) l.queue)))
+    (take l.count (pairs_of l.entries) ≡ take l.count (versioned_objects l.objects l.is_version_2))
     × (l.count ≤ length l.entries)
-    × (l.count ≤ length (versioned_objects l.objects (option_map (λ q. q.now) l.queue)))
+    × (l.count ≤ length (versioned_objects l.objects l.is_version_2))
 
 abbrev pub decreases-loop-key : goal.decreases-loop-key
-decreases-loop-key l = length (versioned_objects l.objects (option_map (λ q. q.now) l.queue)) - l.count
+decreases-loop-key l = length (versioned_objects l.objects l.is_version_2) - l.count

@@ -1,5 +1,4 @@
-use Rattle.std.proofs.Common.{◌≡◌, ◌∙◌, true, sym}
-use Rattle.kept_adapter.specs.Saved.{is_free}
+use Rattle.std.proofs.Common.{◌∙◌, sym}
 use Rattle.kept_adapter.proofs.CompareLemmas.{free_is_empty}
 use Rattle.kept_adapter.proofs.comparing.is_of_queue.Goals as goal
 

@@ -1,5 +1,4 @@
 use Rattle.std.proofs.Common.{◌≡◌, suc, ◌+◌, take, List, ap, ◌∙◌, ◌++◌, ◌∷◌, [], arith}
-use Rattle.std.specs.Prelude.{option_map}
 use Rattle.device_state.specs.Saved.{Entry, object_entries}
 use Rattle.enip_keep.specs.Kept.{pairs_of}
 use Rattle.kept_adapter.specs.Saved.{pair_of}
@@ -8,7 +7,7 @@ use Rattle.kept_adapter.proofs.saving.save_objects.Goals as goal
 
 pub loop-key-preserved : goal.loop-key-preserved
 loop-key-preserved c =
-    let es : List Entry = object_entries c.args.objects.now (option_map (λ q. q.now) c.args.queue) in
+    let es : List Entry = object_entries c.args.objects.now c.args.is_version_2 in
     let count = c.loop-key.count in
     let next : count + 1 ≡ suc count = omega arith in (
       entry_more es (pairs_of c.loop-key.into.items) (pairs_of c.set_entry.new.into.items) count (count + 1) c.in-Some.key
@@ -22,5 +21,5 @@ loop-key-preserved c =
 
 pub returns-clause-entries : goal.returns-clause-entries
 returns-clause-entries c =
-    let es : List Entry = object_entries c.args.objects.now (option_map (λ q. q.now) c.args.queue) in
+    let es : List Entry = object_entries c.args.objects.now c.args.is_version_2 in
     c.loop-key.invariant.0 ∙ past_end pair_of es c.loop-key.count c.in_default.ensures.entry

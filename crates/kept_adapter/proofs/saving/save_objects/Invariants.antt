@@ -1,5 +1,4 @@
 use Rattle.std.proofs.Common.{◌≡◌, ◌≤◌, ◌-◌, take, length, true}
-use Rattle.std.specs.Prelude.{option_map}
 use Rattle.enip_keep.specs.Kept.{pairs_of}
 use Rattle.kept_server.specs.Changes.{are_small}
 use Rattle.kept_adapter.specs.Saved.{versioned_objects}
@@ -7,10 +6,10 @@ use Rattle.kept_adapter.proofs.saving.save_objects.Given as goal
 
 abbrev pub invariant-loop-key : goal.invariant-loop-key
 invariant-loop-key l =
-    (take l.count (pairs_of l.into.items) ≡ take l.count (versioned_objects l.objects (option_map (λ q. q.now) l.queue)))
+    (take l.count (pairs_of l.into.items) ≡ take l.count (versioned_objects l.objects l.is_version_2))
     × (are_small (take l.count (pairs_of l.into.items)) ≡ true)
     × (l.count ≤ length l.into.items)
-    × (l.count ≤ length (versioned_objects l.objects (option_map (λ q. q.now) l.queue)))
+    × (l.count ≤ length (versioned_objects l.objects l.is_version_2))
 
 abbrev pub decreases-loop-key : goal.decreases-loop-key
-decreases-loop-key l = length (versioned_objects l.objects (option_map (λ q. q.now) l.queue)) - l.count
+decreases-loop-key l = length (versioned_objects l.objects l.is_version_2) - l.count

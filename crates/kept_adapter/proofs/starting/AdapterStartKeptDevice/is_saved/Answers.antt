@@ -3,12 +3,13 @@ use Rattle.kept_adapter.proofs.starting.AdapterStartKeptDevice.is_saved.Goals as
 
 pub returns-in-Some-behind_ledger : goal.returns-in-Some-behind_ledger
 returns-in-Some-behind_ledger c =
-    compared c.objects-objects.ensures c.ledger.ensures c.queue-queue.ensures c.are_of_queue.result
+    compared c.objects-objects.ensures c.ledger-ledger.ensures c.queue-queue.ensures c.needs_version_2-is_version_2.ensures
+    c.are_of_queue.result
     c.in-Some.ensures.same c.in-Some-behind_ledger.ensures.same c.are_of_queue.ensures
 
 pub returns-in-None : goal.returns-in-None
 returns-in-None c = (
   false_is _,
-  λ same. absurd (other_ledger c.objects-objects.ensures c.ledger.ensures c.queue-queue.ensures c.in-Some.ensures.same
-      c.in-None.ensures.other same),
+  λ same. absurd (other_ledger c.objects-objects.ensures c.ledger-ledger.ensures c.queue-queue.ensures
+      c.needs_version_2-is_version_2.ensures c.in-Some.ensures.same c.in-None.ensures.other same),
 )

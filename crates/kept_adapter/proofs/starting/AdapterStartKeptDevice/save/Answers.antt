@@ -8,7 +8,8 @@ pub returns-clause-saved : goal.returns-clause-saved
 returns-clause-saved c =
     ap pairs_of c.truncate.ensures.items
     ∙ take_pairs c.save_queue_if_any.new.into.items c.in_ok-count.count
-    ∙ saved_all c.objects-objects.ensures c.ledger.ensures c.queue-queue.ensures c.in_ok-values.ensures.entries
+    ∙ saved_all c.objects-objects.ensures c.ledger-ledger.ensures c.queue-queue.ensures
+    c.needs_version_2-is_version_2.ensures c.in_ok-values.ensures.entries
     c.in_ok-behind.ensures.entries c.in_ok-count.ensures.entries
 
 pub returns-clause-small : goal.returns-clause-small

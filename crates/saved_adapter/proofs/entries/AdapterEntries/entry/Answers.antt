@@ -8,19 +8,20 @@ use Rattle.saved_adapter.proofs.entries.AdapterEntries.entry.Goals as goal
 pub returns-in-Some : goal.returns-in-Some
 returns-in-Some c =
     object_entry c.self.inside.objects.now c.self.inside.ledger (option_map (λ q. q.now) c.self.inside.queue)
-    c.in-Some.key c.object_entry.new.bytes.items c.args.index c.in-Some.ensures.entry
+    c.self.inside.is_version_2 c.in-Some.key c.object_entry.new.bytes.items c.args.index c.self.invariant.1
+    c.in-Some.ensures.entry
     ∙ ap (λ es. slice_get es c.args.index) c.self.view_is
 
 pub returns-then-index-self : goal.returns-then-index-self
 returns-then-index-self c =
-    absurd (not_within c.self.inside.objects.now (option_map (λ q. q.now) c.self.inside.queue) c.object_entry.new.bytes.items c.self.inside.values c.args.index
-    c.self.invariant c.in_default.ensures.entry (omega (arith, c.if-index-self.true)))
+    absurd (not_within c.self.inside.objects.now c.self.inside.is_version_2 c.object_entry.new.bytes.items c.self.inside.values c.args.index
+    c.self.invariant.0 c.in_default.ensures.entry (omega (arith, c.if-index-self.true)))
 
 pub returns-in-Some-ledger : goal.returns-in-Some-ledger
 returns-in-Some-ledger c =
     let count = c.self.inside.values in
     let queue = option_map (λ q. q.now) c.self.inside.queue in
-    let same = counted c.self.inside.objects.now queue c.object_entry.new.bytes.items count c.args.index c.self.invariant
+    let same = counted c.self.inside.objects.now c.self.inside.is_version_2 c.object_entry.new.bytes.items count c.args.index c.self.invariant.0
     c.ranges.index.fits c.in_default.ensures.entry in
     let whole : c.args.index ≡ count + (c.args.index - count) = omega (arith, c.if-index-self.false) in
     c.ledger_or_queue.ensures
@@ -34,7 +35,7 @@ pub returns-in-None : goal.returns-in-None
 returns-in-None c =
     let count = c.self.inside.values in
     let queue = option_map (λ q. q.now) c.self.inside.queue in
-    let same = counted c.self.inside.objects.now queue c.object_entry.new.bytes.items count c.args.index c.self.invariant
+    let same = counted c.self.inside.objects.now c.self.inside.is_version_2 c.object_entry.new.bytes.items count c.args.index c.self.invariant.0
     c.ranges.index.fits c.in_default.ensures.entry in
     let whole : c.args.index ≡ count + (c.args.index - count) = omega (arith, c.if-index-self.false) in
     c.queue_entry.ensures

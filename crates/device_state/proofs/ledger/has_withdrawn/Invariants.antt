@@ -1,0 +1,6 @@
+use Rattle.cip_ledger.specs.Ledger.{is_withdrawn}
+use Rattle.device_state.proofs.WithdrawnSlots.{AsFrom}
+use Rattle.device_state.proofs.ledger.has_withdrawn.Given as goal
+
+abbrev pub invariant-loop-index : goal.invariant-loop-index
+invariant-loop-index l = AsFrom is_withdrawn l.index l.ledger.taken
