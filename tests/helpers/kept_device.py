@@ -13,6 +13,7 @@ import tempfile
 import threading
 from pathlib import Path
 
+from slow_start import is_slow
 from wire_frames import REGISTER, frame, unconnected
 
 TESTS = Path(__file__).resolve().parent.parent
@@ -132,6 +133,8 @@ class Device:
         # other test runs at the same time hardly have the same first number
         self.host, self.port = "127.%d.%d.%d" % (1 + os.getpid() % 254, *divmod(next(numbers), 256)), 0
         self.process, self.errors, self.listens = None, [], False
+        # whether `errors` has how long the parts of a slow start took
+        self.tells_slow = False
         self.configure(config)
 
     def configure(self, config):
@@ -150,7 +153,8 @@ class Device:
             if line.startswith("listening on "):
                 self.port, self.listens = int(line.rsplit(":", 1)[1]), True
                 break
-            self.errors.append(line)
+            if self.tells_slow or not is_slow(line):
+                self.errors.append(line)
         patience.cancel()
         return self.errors
 

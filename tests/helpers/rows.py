@@ -9,6 +9,8 @@ import sys
 import tempfile
 import threading
 
+from slow_start import is_slow
+
 # How many runs there are at once. Each takes little, and some wait.
 WORKERS = 8
 # By how many seconds an event may be late, on a busy machine.
@@ -135,7 +137,8 @@ class Server:
         self.line, self.reports = self.process.stderr.readline(), []
         # what it says of its state comes first
         while self.line.startswith("enip: "):
-            self.reports.append(self.line)
+            if not is_slow(self.line):
+                self.reports.append(self.line)
             self.line = self.process.stderr.readline()
         self.at = self.line.rsplit(" ", 1)[-1].strip()
         self.port = int(self.line.rsplit(":", 1)[1])

@@ -9,6 +9,7 @@ ghost use Rattle.device_start.specs.Starting.{fault_of_open, fault_at_start, fau
 
 use crate::file_identity::FileIdentity;
 use crate::judgement::{OpenFault, judged, named};
+use crate::start_watch::{Done, StartWatch};
 use enip_cli::{LastRound, OsArg, RoundFile, front_of, is_link, option_file_name, resolved};
 use enip_common::{CommandError, Fault, NamedReason, Reason, StateFile, StorageReason};
 use enip_faults::ProgramFault;
@@ -34,6 +35,15 @@ pub struct OpenFile<K: Keeper + Drop> {
     note: FileNote,
     /// The number of the last round, as `FILE.round` has it.
     last: u64,
+    /// How long its opening takes.
+    watch: StartWatch,
+}
+
+impl<K: Keeper + Drop> OpenFile<K> {
+    /// The watch of the start that goes on with it.
+    pub(crate) fn watch(&self) -> StartWatch {
+        self.watch
+    }
 }
 
 /// Notes the numbers of rounds in `FILE.round`.
@@ -111,6 +121,7 @@ pub struct LockedFile {
     round: RoundFile,
     /// The number of the last round, as `FILE.round` has it.
     last: u64,
+    watch: StartWatch,
 }
 
 impl LockedFile {
@@ -124,12 +135,18 @@ impl LockedFile {
         rt: &HostRuntime,
         user: U,
     ) -> Result<R, OpenFault> {
-        let LockedFile { path, round, last } = self;
+        let LockedFile {
+            path,
+            round,
+            last,
+            watch,
+        } = self;
         let path = path.as_str();
         let opening = Opening {
             path,
             round,
             last,
+            watch,
             user,
         };
         match with_rows(rt, path, Unknown, opening) {
@@ -145,19 +162,27 @@ struct Opening<'p, U: Drop> {
     path: &'p str,
     round: RoundFile,
     last: u64,
+    watch: StartWatch,
     user: U,
 }
 
-impl<'p, R, U: FileUser<R> + Drop> RowsUser<Result<R, OpenFault>> for Opening<'p, U> {
+impl<'p, R, U: FileUser<R> + Drop> RowsUser<Unknown, Result<R, OpenFault>> for Opening<'p, U> {
     fn run<K: Keeper + Drop>(self, rt: &HostRuntime, rows: K) -> Result<R, OpenFault> {
         let Opening {
             path,
             round,
             last,
+            watch,
             user,
         } = self;
         let note = FileNote::new(rt, path, round, last)?;
-        Ok(user.run(rt, OpenFile { rows, note, last }))
+        let opened = OpenFile {
+            rows,
+            note,
+            last,
+            watch,
+        };
+        Ok(user.run(rt, opened))
     }
 }
 
@@ -225,7 +250,12 @@ impl<'a> KeptFile<'a> {
         };
         let path = String::from_str(rt.alloc(), path)?;
         match self.lock_rounds(rt, path.as_str()) {
-            Ok((round, last)) => Ok(LockedFile { path, round, last }),
+            Ok((round, last)) => Ok(LockedFile {
+                path,
+                round,
+                last,
+                watch: StartWatch::start(rt),
+            }),
             Err(fault) => Err(self.not_opened(fault)),
         }
     }
@@ -238,8 +268,11 @@ impl<'a> KeptFile<'a> {
         let round = lock(alloc, path)?;
         let last = self.last_round(alloc, &round, found)?;
         if last == 0 || found == Found::Nothing {
+            let watch = StartWatch::start(rt);
             match make_file(rt, path, Unknown) {
-                Ok(()) => {}
+                Ok(()) => {
+                    let _ = watch.next(rt, self.name, Done::Made);
+                }
                 Err(fault) => return Err(judged(alloc, path, fault)),
             }
         }
@@ -305,7 +338,12 @@ impl<'a> KeptFile<'a> {
         ensures { IfOk result (λ n. ⟦<Numbered<K, FileNote> as Keeper>⟧.doubt n ≡ 0
             → ⟦<Numbered<K, FileNote> as Keeper>⟧.is_up n) }
     {
-        let OpenFile { rows, note, last } = opened;
+        let OpenFile {
+            rows,
+            note,
+            last,
+            watch: _,
+        } = opened;
         match Numbered::start(alloc, rows, note) {
             Ok(keeper) => self.compare(keeper, last),
             Err(error) => Err(self.refused(error)),

@@ -1,16 +1,20 @@
 //! A device that starts from what is kept in FILE of `--keep`.
 
 ghost use Rattle.std.specs.Prelude.{◌≡◌, IfOk};
+ghost use Rattle.enip_keep.specs.Kept.{pairs_of};
 ghost use Rattle.enip_keep.specs.Server.{IsReady};
 ghost use Rattle.kept_server.specs.Rounds.{kept_of};
 
 use crate::kept_file::{FileNote, FileUser, KeptFile, OpenFile};
 use crate::kept_values::KeptValues;
+use crate::prepared::{Prepared, prepare};
 use crate::start::start_to_read;
+use crate::start_watch::{Done, StartWatch};
+use crate::wishes::StartWishes;
 use config_file::ConfigFile;
 use enip_cli::OsArg;
 use enip_common::{CommandError, OUTPUT};
-use enip_keep::{Device, Keeper, Numbered, Server};
+use enip_keep::{Device, Entry, Keeper, Numbered, Server, commit_loaded};
 use enip_server::Wire;
 use kept_adapter::AdapterStart;
 use kept_server::{KeptDevice, KeptPeers, RoundGuest};
@@ -20,12 +24,14 @@ use std::alloc::Global;
 ///
 /// # Errors
 ///
-/// If the state in the file is damaged, older than `FILE.round` says, or that of another device.
+/// If the state in the file is damaged, older than `FILE.round` says, or that of another device. If the device would lose
+/// something of it: see `AdapterStart::hindrances`.
 pub fn start_kept<'a, W: Wire + Drop, K: Keeper + Drop, G: RoundGuest<W>>(
-    alloc: Global,
+    rt: &HostRuntime,
     file: KeptFile<'a>,
     opened: OpenFile<K>,
-    start: &AdapterStart,
+    start: AdapterStart,
+    wishes: StartWishes<'a>,
 ) -> Result<
     (
         Server<KeptPeers<W, AdapterStart, G>, Numbered<K, FileNote>>,
@@ -38,30 +44,72 @@ pub fn start_kept<'a, W: Wire + Drop, K: Keeper + Drop, G: RoundGuest<W>>(
         ⟦<Numbered<K, FileNote> as Keeper>⟧.kept ⟦<KeptPeers<W, AdapterStart, G> as Device>⟧.contents
         ⟦<KeptPeers<W, AdapterStart, G> as Device>⟧.known_kept kept_of r.0) }
 {
-    let keeper = file.numbered(alloc, opened)?;
-    start_server(alloc, file, keeper, start)
+    let watch = opened.watch();
+    let keeper = file.numbered(rt.alloc(), opened)?;
+    start_server(rt, file, keeper, start, wishes, watch)
 }
 
 /// Starts a device from what is kept. Returns its server, and what is kept.
 fn start_server<'a, W: Wire + Drop, K: Keeper + Drop, G: RoundGuest<W>>(
-    alloc: Global,
+    rt: &HostRuntime,
     file: KeptFile<'a>,
     keeper: K,
-    start: &AdapterStart,
+    start: AdapterStart,
+    wishes: StartWishes<'a>,
+    watch: StartWatch,
 ) -> Result<(Server<KeptPeers<W, AdapterStart, G>, K>, KeptValues), CommandError<'a>>
     requires { K.doubt keeper ≡ 0 → K.is_up keeper }
     ensures { IfOk result (λ r. IsReady K.doubt K.is_up K.kept
         ⟦<KeptPeers<W, AdapterStart, G> as Device>⟧.contents
         ⟦<KeptPeers<W, AdapterStart, G> as Device>⟧.known_kept kept_of r.0) }
 {
-    let (keeper, values) = KeptValues::read(alloc, file, keeper, start)?;
-    match Server::start(alloc, keeper, start) {
-        Ok(server) => Ok((server, values)),
+    let alloc = rt.alloc();
+    let (keeper, entries, start, notes, watch) = load(rt, file, keeper, start, wishes, watch)?;
+    match Server::start_from(alloc, keeper, &entries, &start) {
+        Ok(server) => {
+            let _ = watch.next(rt, file.name(), Done::Written);
+            Ok((
+                server,
+                KeptValues::of(alloc, file, &entries, &start, notes)?,
+            ))
+        }
+        Err(error) => Err(file.refused(error)),
+    }
+}
+
+/// Loads what is kept, and makes it ready for the start: what has changed by that is committed. Returns the keeper, its
+/// entries, the start in a life that was not before, what is said of the changes, and the watch.
+fn load<'a, K: Keeper + Drop>(
+    rt: &HostRuntime,
+    file: KeptFile<'a>,
+    keeper: K,
+    start: AdapterStart,
+    wishes: StartWishes<'a>,
+    watch: StartWatch,
+) -> Result<(K, Vec<Entry>, AdapterStart, Vec<String>, StartWatch), CommandError<'a>>
+    requires { K.doubt keeper ≡ 0 → K.is_up keeper }
+    ensures up { IfOk result (λ r. K.doubt r.0 ≡ 0 → K.is_up r.0) }
+    ensures loaded { IfOk result (λ r. K.doubt r.0 ≡ 0 → pairs_of r.1.items ≡ K.kept r.0) }
+{
+    let mut keeper = keeper;
+    let mut entries = match keeper.load(rt.alloc()) {
+        Ok(entries) => entries,
+        Err(error) => return Err(file.refused(error)),
+    };
+    let watch = watch.next(rt, file.name(), Done::Read(entries.len()));
+    let start = start.in_later_life(&entries);
+    let Prepared { changes, notes } = prepare(rt, file, &start, &mut entries, wishes)?;
+    match commit_loaded(&mut keeper, &entries, &changes) {
+        Ok(()) => Ok((keeper, entries, start, notes, watch)),
         Err(error) => Err(file.refused(error)),
     }
 }
 
 /// `enip check --keep`: prints what is kept in FILE of the device of a configuration.
+///
+/// # Errors
+///
+/// Those of a start with this configuration. What is kept is printed before.
 pub fn print_kept_values<'a>(
     rt: &HostRuntime,
     args: &[OsArg],
@@ -79,7 +127,7 @@ pub fn print_kept_values<'a>(
     }
 }
 
-/// Prints what is kept in an open file, if a device starts from it.
+/// Prints what is kept in an open file, and whether a device starts from it.
 #[derive(Drop)]
 struct Printing<'a> {
     file: KeptFile<'a>,
@@ -93,26 +141,30 @@ impl<'a> FileUser<Result<(), CommandError<'a>>> for Printing<'a> {
         opened: OpenFile<K>,
     ) -> Result<(), CommandError<'a>> {
         let Printing { file, start } = self;
-        let values = kept_values(rt.alloc(), file, opened, &start)?;
+        let mut entries = loaded(rt.alloc(), file, opened)?;
+        let values = KeptValues::of(rt.alloc(), file, &entries, &start, Vec::new(rt.alloc()))?;
         values
-            .print(rt.alloc(), rt.stdout())
-            .map_err(|error| CommandError::of_system(OUTPUT, error))
+            .print(rt.alloc(), &entries, &start, rt.stdout())
+            .map_err(|error| CommandError::of_system(OUTPUT, error))?;
+        prepare(rt, file, &start, &mut entries, StartWishes::NONE)?;
+        match start.start(rt.alloc(), &entries) {
+            Ok(_) => Ok(()),
+            Err(error) => Err(file.refused(error)),
+        }
     }
 }
 
-/// What is kept in an open file, if a device starts from it.
-fn kept_values<'a, K: Keeper + Drop>(
+/// The entries in an open file.
+fn loaded<'a, K: Keeper + Drop>(
     alloc: Global,
     file: KeptFile<'a>,
     opened: OpenFile<K>,
-    start: &AdapterStart,
-) -> Result<KeptValues, CommandError<'a>>
+) -> Result<Vec<Entry>, CommandError<'a>>
     requires { K.doubt opened.rows ≡ 0 → K.is_up opened.rows }
 {
-    let keeper = file.numbered(alloc, opened)?;
-    let (_, values) = KeptValues::read(alloc, file, keeper, start)?;
-    match start.start(alloc, values.entries()) {
-        Ok(_) => Ok(values),
+    let mut keeper = file.numbered(alloc, opened)?;
+    match keeper.load(alloc) {
+        Ok(entries) => Ok(entries),
         Err(error) => Err(file.refused(error)),
     }
 }

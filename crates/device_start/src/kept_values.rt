@@ -1,57 +1,54 @@
 //! What FILE of `--keep` has, and what of it a device does not use.
 
-ghost use Rattle.std.specs.Prelude.{◌≡◌, IfOk};
-
+use crate::kept_commands::{CommandText, SlotText};
 use crate::kept_file::KeptFile;
+use crate::prepared::Noted;
 use enip_common::{CommandError, NamedReason, Reason, print_reason};
 use enip_faults::Digits;
-use enip_keep::{Entry, Keeper};
-use kept_adapter::{AdapterStart, EntryName};
+use enip_keep::Entry;
+use kept_adapter::{AdapterStart, EntryName, ValueState, is_origin_key, kept_at, waiting_commands};
 use std::alloc::Global;
 use std::fmt;
 use std::io::{self, BufWriter, Write};
 
-/// The entries in FILE, and the keys of those from which a device takes nothing.
+/// The keys of what is kept and a device does not use, and what is said of a start.
 #[derive(Drop)]
 pub struct KeptValues {
-    entries: Vec<Entry>,
     unused: Vec<u64>,
+    /// How many commands waited.
+    waiting: usize,
+    notes: Vec<String>,
 }
 
 impl KeptValues {
-    /// Reads all entries, and gives the keeper back.
-    pub(crate) fn read<'a, K: Keeper + Drop>(
+    /// What a device that starts from these entries does not use, and what is said of the start.
+    pub(crate) fn of<'a>(
         alloc: Global,
         file: KeptFile<'a>,
-        keeper: K,
+        entries: &[Entry],
         start: &AdapterStart,
-    ) -> Result<(K, KeptValues), CommandError<'a>>
-        requires { K.doubt keeper ≡ 0 → K.is_up keeper }
-        ensures { IfOk result (λ r. K.doubt r.0 ≡ 0 → K.is_up r.0) }
-    {
-        let mut keeper = keeper;
-        let entries = match keeper.load(alloc) {
-            Ok(entries) => entries,
-            Err(error) => return Err(file.refused(error)),
-        };
-        let unused = match start.unused(alloc, entries.as_slice()) {
+        notes: Vec<String>,
+    ) -> Result<KeptValues, CommandError<'a>> {
+        let mut unused = match start.unused(alloc, entries) {
             Ok(unused) => unused,
             Err(error) => return Err(file.refused(error)),
         };
-        Ok((keeper, KeptValues { entries, unused }))
+        unused.retain(|key| !is_origin_key(*key) && !is_at_rest(EntryName::of_key(*key), start));
+        Ok(KeptValues {
+            unused,
+            waiting: waiting_commands(entries),
+            notes,
+        })
     }
 
-    /// The entries.
-    pub(crate) fn entries(&self) -> &[Entry] {
-        self.entries.as_slice()
-    }
-
-    /// Prints a line on standard error for each value that is not used, which stays in FILE, and one if commands that waited
-    /// were dropped.
-    pub fn report_unused(&self, rt: &HostRuntime, file: KeptFile<'_>) {
-        let waiting = self.waiting_commands();
-        if file.accepts_older() && waiting > 0 {
-            print_reason(rt, &Dropped(file.name(), waiting));
+    /// Prints on standard error what is said of the start: a line for each value that stays as it was set although the
+    /// configuration has changed, for what was dropped, and for each value that is not used, which stays in FILE.
+    pub fn report(&self, rt: &HostRuntime, file: KeptFile<'_>) {
+        if file.accepts_older() && self.waiting > 0 {
+            print_reason(rt, &Dropped(file.name(), self.waiting));
+        }
+        for note in &self.notes {
+            print_reason(rt, &Noted(file.name(), note.as_str()));
         }
         let mut has_lost = false;
         for key in &self.unused {
@@ -64,36 +61,105 @@ impl KeptValues {
         }
     }
 
-    /// How many commands wait in the queue that is kept.
-    fn waiting_commands(&self) -> usize {
-        self.entries
-            .iter()
-            .filter(|entry| is_waiting_command(entry))
-            .count()
-    }
-
-    /// Prints each entry in hexadecimal. A slot of the command ledger that is free has no line.
-    pub(crate) fn print<W: Write + Drop>(&self, alloc: Global, output: W) -> io::Result<()> {
+    /// Prints each of these entries in hexadecimal, and what a start makes of it. A place that is free has no line, and neither
+    /// has the origin of a value.
+    pub(crate) fn print<W: Write + Drop>(
+        &self,
+        alloc: Global,
+        entries: &[Entry],
+        start: &AdapterStart,
+        output: W,
+    ) -> io::Result<()> {
+        let values = start.configured_values(alloc)?;
         let mut output = BufWriter::new(alloc, output)?;
-        for entry in &self.entries {
+        for entry in entries {
             let name = EntryName::of_key(entry.key);
-            if entry.bytes.is_empty() && name.is_of_ledger() {
+            let is_free = entry.bytes.is_empty() && (name.is_of_ledger() || name.is_of_queue());
+            if is_free || is_origin_key(entry.key) {
                 continue;
             }
-            write!(output, "kept: {name}, {}", Digits(entry.bytes.as_slice()))?;
-            if self.unused.contains(&entry.key) {
-                write!(output, ", not used")?;
-            }
-            writeln!(output)?;
+            let remark = self.remark(entry, name, &values, entries, start);
+            writeln!(
+                output,
+                "kept: {name}, {}{remark}",
+                Digits(entry.bytes.as_slice())
+            )?;
         }
         output.flush()
     }
+
+    /// What a start makes of an entry.
+    fn remark<'e>(
+        &self,
+        entry: &'e Entry,
+        name: EntryName,
+        values: &'e [Entry],
+        entries: &[Entry],
+        start: &AdapterStart,
+    ) -> Remark<'e> {
+        match name {
+            EntryName::Slot(_) => return Remark::Slot(entry.bytes.as_slice()),
+            EntryName::WaitingCommand(_) => return Remark::Command(entry.bytes.as_slice()),
+            _ => {}
+        }
+        let state = match values.iter().find(|value| value.key == entry.key) {
+            Some(value) => start.value_state(value, entries),
+            None => None,
+        };
+        match (state, kept_at(values, entry.key)) {
+            (Some(state), Some(configured)) if configured != entry.bytes.as_slice() => {
+                Remark::Value(state, configured)
+            }
+            (None, _) if self.unused.contains(&entry.key) => Remark::Unused,
+            _ => Remark::None,
+        }
+    }
 }
 
-/// Whether an entry is of a command that waits. That of a free place has no bytes.
-fn is_waiting_command(entry: &Entry) -> bool {
-    let name = EntryName::of_key(entry.key);
-    matches!(name, EntryName::WaitingCommand(_)) && !entry.bytes.is_empty()
+/// Whether an entry is of a ledger or a queue that the configuration does not have: no slot is taken then, and nothing waits.
+fn is_at_rest(name: EntryName, start: &AdapterStart) -> bool {
+    match name {
+        EntryName::NextTicket => start.queue.is_none(),
+        _ => name.is_of_ledger() && start.ledger.is_none(),
+    }
+}
+
+/// What a start makes of an entry, as text behind its bytes.
+#[derive(Clone, Copy)]
+enum Remark<'e> {
+    None,
+    /// It is not used.
+    Unused,
+    /// It is a slot of the command ledger with these bytes.
+    Slot(&'e [u8]),
+    /// It is a command that waits, with these bytes.
+    Command(&'e [u8]),
+    /// It is a value that is not the configured one, which has these bytes.
+    Value(ValueState, &'e [u8]),
+}
+
+impl fmt::Display for Remark<'_> {
+    fn fmt<W: fmt::Write>(&self, f: &mut fmt::Formatter<W>) -> fmt::Result {
+        match *self {
+            Remark::None | Remark::Value(ValueState::Missing, _) => Ok(()),
+            Remark::Unused => f.write_str(", not used"),
+            Remark::Slot(bytes) => write!(f, ": {}", SlotText(bytes)),
+            Remark::Command(bytes) => write!(f, ": {}", CommandText(bytes)),
+            Remark::Value(ValueState::Configured, configured) => {
+                write!(f, ", as configured before (now {})", Digits(configured))
+            }
+            Remark::Value(ValueState::Written, configured) => {
+                write!(f, ", set (configured {})", Digits(configured))
+            }
+            Remark::Value(ValueState::Unfit, configured) => {
+                write!(
+                    f,
+                    ", set and not allowed any more (configured {})",
+                    Digits(configured)
+                )
+            }
+        }
+    }
 }
 
 /// So many commands that waited in the file of this name were dropped, as its state may be older than it was.

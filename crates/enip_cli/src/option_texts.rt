@@ -131,6 +131,21 @@ With --keep, start even if FILE is damaged, or older than FILE.round
 says. The command ledger and the queue then start empty, in a new
 life, so that no pending command is executed twice";
 
+pub(crate) const DROP_COMMANDS_DETAILS: &str = "\
+With --keep, start even if CONFIG has no place for commands that wait
+in FILE, or for taken slots of the command ledger. All of them are
+dropped, and standard error says how many. Look at the machine before
+you give a command again";
+
+pub(crate) const RESET_VALUES_DETAILS: &str = "\
+With --keep, put these attributes back to the values of CONFIG, such
+as 768/1/1 or 0x300/1/1,768/1/2: class, instance and attribute, with a
+comma between several";
+
+pub(crate) const ACCEPT_CONFIG_DETAILS: &str = "\
+With --keep, put each kept value that its type or range in CONFIG does
+not allow any more back to the value of CONFIG";
+
 pub(crate) const OWNER_DETAILS: &str = "\
 Also listen here for the owner of the device: a program that executes
 its services, hears of each set by a client, and writes its values, by

@@ -2,9 +2,10 @@
 
 use crate::argument_row::{ArgumentRow, FLAG, PLAIN};
 use crate::option_texts::{
-    ACCEPT_OLDER_DETAILS, CLIENT_ADDRESS_DETAILS, EDS_DATE_DETAILS, ICON_DETAILS, KEEP_DETAILS,
-    KEPT_FILE_DETAILS, OWNER_DETAILS, OWNER_FROM_DETAILS, OWNER_TIMEOUT_DETAILS,
-    OWNER_TOKEN_DETAILS, PROFILE_DETAILS, SERVED_ADDRESS_DETAILS,
+    ACCEPT_CONFIG_DETAILS, ACCEPT_OLDER_DETAILS, CLIENT_ADDRESS_DETAILS, DROP_COMMANDS_DETAILS,
+    EDS_DATE_DETAILS, ICON_DETAILS, KEEP_DETAILS, KEPT_FILE_DETAILS, OWNER_DETAILS,
+    OWNER_FROM_DETAILS, OWNER_TIMEOUT_DETAILS, OWNER_TOKEN_DETAILS, PROFILE_DETAILS,
+    RESET_VALUES_DETAILS, SERVED_ADDRESS_DETAILS,
 };
 use enip_shell::Takes;
 
@@ -164,6 +165,34 @@ pub(crate) static ACCEPT_OLDER: ArgumentRow = ArgumentRow {
     id: "accept-older",
     option: Some("accept-older"),
     help: ACCEPT_OLDER_DETAILS,
+    needs: &["keep"],
+    is_rare: true,
+    ..FLAG
+};
+
+pub(crate) static DROP_COMMANDS: ArgumentRow = ArgumentRow {
+    id: "drop-commands",
+    option: Some("drop-commands"),
+    help: DROP_COMMANDS_DETAILS,
+    needs: &["keep"],
+    is_rare: true,
+    ..FLAG
+};
+
+pub(crate) static RESET_VALUES: ArgumentRow = ArgumentRow {
+    id: "reset-value",
+    option: Some("reset-value"),
+    value_name: Some("ATTRIBUTES"),
+    help: RESET_VALUES_DETAILS,
+    needs: &["keep"],
+    is_rare: true,
+    ..PLAIN
+};
+
+pub(crate) static ACCEPT_CONFIG: ArgumentRow = ArgumentRow {
+    id: "accept-config",
+    option: Some("accept-config"),
+    help: ACCEPT_CONFIG_DETAILS,
     needs: &["keep"],
     is_rare: true,
     ..FLAG

@@ -39,6 +39,9 @@ pub enum ArgumentError<'a> {
     /// The value of this option is not an address.
     #[error("invalid value '{1}' for '--{0} <ADDRESS>'\n  [an IPv4 or IPv6 address, such as 10.0.0.5 or fd00::5]")]
     Address(&'static str, &'a str),
+    /// The value of `--reset-value` names no attributes.
+    #[error("invalid value '{0}' for '--reset-value <ATTRIBUTES>'\n  [CLASS/INSTANCE/ATTRIBUTE, such as 768/1/1, with a comma between several]")]
+    Attributes(&'a str),
     /// The value of `--date` is not a day.
     #[error("invalid value '{0}' for '--date <DATE>'\n  [a day as MM-DD-YYYY, such as 11-29-2026]")]
     Date(&'a str),

@@ -127,6 +127,9 @@ pub enum Reason<'a> {
     /// `FILE.round` is missing or damaged.
     #[error("{0}: {0}.round is missing or damaged, so the state may be older than it was (see --accept-older)")]
     NoLastRound(&'a str),
+    /// A device does not start from the state in the file, for this reason.
+    #[error("{0}: {1}")]
+    NoStart(&'a str, String),
     /// Memory was refused.
     #[error("out of memory")]
     Memory,

@@ -143,7 +143,7 @@ impl<'a, O: Observer + Drop> FileUser<Result<u8, CommandError<'a>>> for KeptServ
             access,
             observer,
         } = self;
-        serve_kept(rt, file, opened, &start, options, access, observer)
+        serve_kept(rt, file, opened, start, options, access, observer)
     }
 }
 
@@ -152,15 +152,15 @@ fn serve_kept<'a, O: Observer + Drop, K: Keeper + Drop>(
     rt: &HostRuntime,
     file: KeptFile<'a>,
     opened: OpenFile<K>,
-    start: &AdapterStart,
+    start: AdapterStart,
     options: ServeOptions<'a>,
     access: Option<Access>,
     observer: O,
 ) -> Result<u8, CommandError<'a>>
     requires { K.doubt opened.rows ≡ 0 → K.is_up opened.rows }
 {
-    let (server, values) = start_kept(rt.alloc(), file, opened, start)?;
-    values.report_unused(rt, file);
+    let (server, values) = start_kept(rt, file, opened, start, options.wishes())?;
+    values.report(rt, file);
     listen_and_serve(
         rt,
         options,

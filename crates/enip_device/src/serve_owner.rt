@@ -215,7 +215,7 @@ impl<'a, O: Observer + Drop> FileUser<Result<u8, CommandError<'a>>> for OwnedSer
             observer,
         } = self;
         serve_kept(
-            rt, file, opened, owner, parts, &start, options, access, observer,
+            rt, file, opened, owner, parts, start, options, access, observer,
         )
     }
 }
@@ -227,16 +227,16 @@ fn serve_kept<'a, O: Observer + Drop, K: Keeper + Drop>(
     opened: OpenFile<K>,
     owner: OwnerOptions<'a>,
     parts: PortParts,
-    start: &AdapterStart,
+    start: AdapterStart,
     options: ServeOptions<'a>,
     access: Option<Access>,
     observer: O,
 ) -> Result<u8, CommandError<'a>>
     requires { K.doubt opened.rows ≡ 0 → K.is_up opened.rows }
 {
-    let (server, values) = start_kept(rt.alloc(), file, opened, start)?;
+    let (server, values) = start_kept(rt, file, opened, start, options.wishes())?;
     let (peers, address) = keeping(rt, owner, parts, server, observer.owner_log())?;
-    values.report_unused(rt, file);
+    values.report(rt, file);
     listen_and_serve(rt, options.with_owner_at(address), access, peers, observer)
 }
 

@@ -6,16 +6,16 @@ ghost use Rattle.enip_keep.specs.declared.entry.Entry.{Entry};
 use crate::Entry;
 use std::alloc::{AllocError, Global};
 
-/// Sets the bytes of these keys, the first of them first.
+/// Sets the bytes of these keys, the first of them first. The entries stay in the order of their keys.
 ///
 /// # Errors
 ///
 /// `AllocError` if memory is refused. Some of the keys may be set.
-pub(crate) fn set_all(
-    alloc: Global,
-    entries: &mut Vec<Entry>,
-    changes: &[Entry],
-) -> Result<(), AllocError>
+///
+/// ```
+/// set_all(alloc, &mut entries, &changes)?;
+/// ```
+pub fn set_all(alloc: Global, entries: &mut Vec<Entry>, changes: &[Entry]) -> Result<(), AllocError>
     ensures { OnOk result (pairs_of entries.new.items
         ≡ set_all (pairs_of changes.now) (pairs_of entries.old.items)) }
 {

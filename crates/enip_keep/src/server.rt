@@ -55,6 +55,35 @@ impl<D: Device + Drop, K: Keeper + Drop> Server<D, K> {
         })
     }
 
+    /// The same, from entries that were loaded from the keeper since its last commit.
+    ///
+    /// # Errors
+    ///
+    /// Those of `start`.
+    pub fn start_from(
+        alloc: Global,
+        mut keeper: K,
+        entries: &[Entry],
+        configuration: &D::Configuration,
+    ) -> Result<Server<D, K>, KeepError>
+        requires up { K.doubt keeper ≡ 0 → K.is_up keeper }
+        requires loaded { K.doubt keeper ≡ 0 → pairs_of entries.now ≡ K.kept keeper }
+        ensures ready { IfOk result (IsReady K.doubt K.is_up K.kept D.contents D.known_kept D.kept_part) }
+        ensures serving { IfOk result (λ s. IsTrue s.is_serving) }
+        ensures contents { IfOk result (λ s. K.doubt s.keeper ≡ 0
+            → D.contents s.device ≡ D.started configuration.now (K.kept keeper)) }
+        ensures cause { IfErr result (λ e. (after : K) × (K.doubt keeper ≤ K.doubt after) × (K.doubt after ≡ 0
+            → IsStartCause (D.refuses configuration.now (K.kept keeper)) (K.faults keeper) (K.faults after) e)) }
+        ensures doubt { IfOk result (λ s. K.doubt keeper ≤ K.doubt s.keeper) }
+    {
+        let device = start_loaded(alloc, &mut keeper, entries, configuration)?;
+        Ok(Server {
+            device,
+            keeper,
+            is_serving: true,
+        })
+    }
+
     /// The device.
     pub fn device(&self) -> &D
         ensures { result.now ≡ self.now.device }
@@ -156,14 +185,37 @@ fn start_device<D: Device + Drop, K: Keeper + Drop>(
     ensures faults { K.faults keeper.old ≤ K.faults keeper.new }
 {
     let entries = keeper.load(alloc)?;
-    let mut device = D::start(alloc, configuration, &entries)?;
+    start_loaded(alloc, keeper, &entries, configuration)
+}
+
+/// Makes the device from the entries that were loaded, and keeps what the start has changed.
+fn start_loaded<D: Device + Drop, K: Keeper + Drop>(
+    alloc: Global,
+    keeper: &mut K,
+    entries: &[Entry],
+    configuration: &D::Configuration,
+) -> Result<D, KeepError>
+    requires up { K.doubt keeper.old ≡ 0 → K.is_up keeper.old }
+    requires loaded { K.doubt keeper.old ≡ 0 → pairs_of entries.now ≡ K.kept keeper.old }
+    ensures contents { K.doubt keeper.new ≡ 0 → IfOk result (λ d.
+        D.contents d ≡ D.started configuration.now (K.kept keeper.old)) }
+    ensures kept { K.doubt keeper.new ≡ 0 → IfOk result (λ d.
+        IsKept (K.is_up keeper.new) (K.kept keeper.new) (D.known_kept d) (D.kept_part (D.contents d))) }
+    ensures crash { K.doubt keeper.new ≡ 0 → (c : Kept) → K.may_leave keeper.new c
+        → K.may_leave keeper.old c ⊎ (c ≡ D.kept_part (D.started configuration.now (K.kept keeper.old))) }
+    ensures cause { K.doubt keeper.new ≡ 0 → IfErr result (IsStartCause
+        (D.refuses configuration.now (K.kept keeper.old)) (K.faults keeper.old) (K.faults keeper.new)) }
+    ensures doubt { K.doubt keeper.old ≤ K.doubt keeper.new }
+    ensures faults { K.faults keeper.old ≤ K.faults keeper.new }
+{
+    let mut device = D::start(alloc, configuration, entries)?;
     keep(keeper, device.changes())?;
     device.release();
     Ok(device)
 }
 
 /// Commits changes, if there are any.
-fn keep<K: Keeper>(keeper: &mut K, changes: &[Entry]) -> Result<(), KeepError>
+pub(crate) fn keep<K: Keeper>(keeper: &mut K, changes: &[Entry]) -> Result<(), KeepError>
     requires up { K.doubt keeper.old ≡ 0 → K.is_up keeper.old }
     requires keys { All IsKeepable changes.now }
     ensures done { K.doubt keeper.new ≡ 0 → OnOk result

@@ -1,5 +1,5 @@
 -- What a keeper over a store shows.
-use Rattle.std.specs.Prelude.{◌≡◌, ◌≤◌, ℕ, false, IsTrue, List, [], ◌∷◌, Option, Some, None}
+use Rattle.std.specs.Prelude.{◌≡◌, ◌≤◌, ◌⊎◌, ℕ, false, IsTrue, List, [], ◌∷◌, Option, Some, None}
 use Rattle.sqlite_value.specs.Order.{Row}
 use Rattle.enip_keep.specs.declared.entry.Entry.{Entry}
 use Rattle.std.specs.List.{AllByRecursion}
@@ -17,6 +17,16 @@ pub record IsAtRest (v : View) : Type 0 where
   pub shape : v.shape 0 ≡ kinds.Table
   pub reals : v.reals 0 ≡ 0
   pub ours : AllByRecursion IsOurs (v.trees 0)
+
+-- the first tree is a table without a column of the type REAL, and there is no other tree
+pub record IsOnlyTable (v : View) : Type 0 where
+  pub shape : v.shape 0 ≡ kinds.Table
+  pub alone : v.shape 1 ≡ kinds.Absent
+  pub reals : v.reals 0 ≡ 0
+
+-- there is no such table, or it has a row that this keeper does not write
+abbrev pub IsForeign : View → Type 0
+IsForeign v = (¬ IsOnlyTable v) ⊎ (¬ AllByRecursion IsOurs (v.trees 0))
 
 -- the pairs are put, and nothing is committed
 pub record Puts (old new : View) (pairs : Kept) : Type 0 where

@@ -1,15 +1,21 @@
 //! The keeper over a file.
-ghost use Rattle.std.specs.Prelude.{◌≡◌, ℕ, Option, IfOk, is_some};
+ghost use Rattle.std.specs.Prelude.{◌≡◌, ℕ, Option, IfOk, IfErr, IsTrue, is_some};
 ghost use Rattle.memchr.specs.Find.{FindsNeedle};
+ghost use Rattle.sqlite_wal.specs.Files.{image_at};
 ghost use Rattle.sqlite_trees.specs.View.{IsClean};
-ghost use Rattle.sqlite_store.specs.FileStore.{view};
+ghost use Rattle.sqlite_store.specs.FileStore.{recovers, view};
+ghost use Rattle.sqlite.specs.Held.{AreDatabases};
 ghost use Rattle.enip_keep_sqlite.specs.Files.{begins_as_kept, table_text};
+ghost use Rattle.enip_keep_sqlite.specs.Found.{IsFoundIn};
+ghost use Rattle.enip_keep_sqlite.specs.Opening.{IsNotOpened};
 ghost use Rattle.enip_keep_sqlite.specs.Rows.{IsAtRest};
 
 use crate::fault::{FileFault, fault_of, fault_of_rows};
 use crate::rows::Rows;
+use enip_keep::Keeper;
 use memchr::memmem;
 use sqlite::{Connection, FileFrom, FileStore, Start};
+use sqlite_disk::Disk;
 
 /// The table. The key is the rowid, so a row has no column but the bytes.
 const TABLE: &str = "CREATE TABLE kept (key INTEGER PRIMARY KEY, value BLOB NOT NULL) STRICT";
@@ -73,7 +79,12 @@ pub fn open<S: Start>(
     path: &str,
     start: S,
 ) -> Result<Rows<FileStore<FileFrom<S>>>, FileFault>
-    ensures { IfOk result (λ k. IsClean (view k.store) → IsAtRest (view k.store)) }
+    ensures up { IfOk result (λ k. IsClean (view k.store) → IsAtRest (view k.store)) }
+    ensures found { IfOk result (λ k. IsClean (view k.store)
+        → IsFoundIn (image_at S.Start) (⟦<Rows<FileStore<FileFrom<S>>> as Keeper>⟧.kept k)) }
+    ensures databases { IfOk result (λ k. IsClean (view k.store)
+        → IsTrue (view k.store).is_numbered × AreDatabases (recovers k.store)) }
+    ensures cause { IfErr result (IsNotOpened ⟦<FileFrom<S> as Disk>⟧ (image_at S.Start)) }
 {
     let mut connection = match Connection::open_from(rt, path, true, start) {
         Ok(connection) => connection,

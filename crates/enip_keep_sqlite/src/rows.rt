@@ -1,10 +1,11 @@
 //! The keeper.
-ghost use Rattle.std.specs.Prelude.{◌≡◌, ◌≤◌, ℕ, List, IsTrue, IfOk, OnOk};
+ghost use Rattle.std.specs.Prelude.{◌≡◌, ◌≤◌, ℕ, List, IsTrue, IfOk, IfErr, OnOk};
 ghost use Rattle.sqlite_trees.specs.Tree.{Trees};
 ghost use Rattle.sqlite_trees.specs.View.{doubt, IsClean};
 ghost use Rattle.enip_keep.specs.Kept.{Kept};
 ghost use Rattle.enip_keep_sqlite.specs.Pairs.{pairs_in};
-ghost use Rattle.enip_keep_sqlite.specs.Rows.{IsAtRest, IsCalm};
+ghost use Rattle.enip_keep_sqlite.specs.Causes.{IsRefused};
+ghost use Rattle.enip_keep_sqlite.specs.Rows.{IsAtRest, IsCalm, IsOnlyTable, Looks};
 ghost use Rattle.enip_keep_sqlite.specs.Laws.{settled_at, stays_at};
 
 use crate::check::check;
@@ -27,15 +28,18 @@ impl<S: Store + Drop> Rows<S> {
     /// # Errors
     ///
     /// `Foreign` if the first table has a row that is not an entry, or if there is no table or another one.
-    /// `Storage` if the storage
-    /// fails. `Memory` if memory is refused.
+    /// `Storage` if the storage fails, or did before. `Memory` if memory is refused.
     pub fn over(alloc: Global, store: S) -> Result<Rows<S>, KeepError>
         requires same { IsClean (S.Store.view store) → IsTrue (S.Store.view store).is_open
             → (S.Store.view store).trees ≡ (S.Store.view store).committed }
         ensures up { IfOk result (λ k. IsClean (S.Store.view k.store) → IsAtRest (S.Store.view k.store)) }
         ensures committed { IfOk result (λ k. IsClean (S.Store.view k.store)
             → (S.Store.view k.store).committed ≡ (S.Store.view store).committed) }
+        ensures only { IfOk result (λ k. IsClean (S.Store.view k.store) → IsOnlyTable (S.Store.view store)) }
+        ensures looks { IfOk result (λ k. IsClean (S.Store.view k.store)
+            → Looks (S.Store.view store) (S.Store.view k.store)) }
         ensures calm { IfOk result (λ k. IsCalm S.Store.view S.Store.faults S.Store.recovers store k.store) }
+        ensures cause { IfErr result (IsRefused S.Store.view S.Store.faults S.Store.recovers store) }
     {
         let mut store = store;
         check(alloc, &mut store)?;

@@ -38,7 +38,7 @@ own_key n h =
     (of_ledger n h)
     ∙ ap (λ k. Some k) same
 
-not_life : (n : ℕ) → (ledger_key (suc n) == ledger_key 0) ≡ false
+pub not_life : (n : ℕ) → (ledger_key (suc n) == ledger_key 0) ≡ false
 not_life n = ne_eqb (ledger_key (suc n)) (ledger_key 0) (λ same. omega (arith, same))
 
 -- The entry is put back as device_state does, if it isn't that of a free slot.
@@ -84,7 +84,7 @@ and_right false = refl
 
 -- ---- the life
 
-life_back : (life : ℕ) → life < 2 ^ 64 → number_at 0 8 (le 8 life) ≡ life
+pub life_back : (life : ℕ) → life < 2 ^ 64 → number_at 0 8 (le 8 life) ≡ life
 life_back life h = ap (number_at 0 8) (sym (append-nil (le 8 life))) ∙ little_number-reads_back 8 life [] h
 
 and_not : (a b c : Bool) → b ≡ true → a && not b && c ≡ false
@@ -123,7 +123,7 @@ taken_entry n content some =
     ap (λ t. is_ledger_key (ledger_key (suc n)) && not (ledger_key (suc n) == ledger_key 0) && t) some
     ∙ and_right (is_ledger_key (ledger_key (suc n)) && not (ledger_key (suc n) == ledger_key 0))
 
-not_empty : (slot : SlotState) → (length (slot_bytes slot) == 0) ≡ false
+pub not_empty : (slot : SlotState) → (length (slot_bytes slot) == 0) ≡ false
 not_empty slot =
     let state = state_bytes slot.reply slot.ticket in
     let size : length (slot_bytes slot) ≡ 12 + length state

@@ -10,6 +10,10 @@ pub mod QueueLeaves
 pub mod QueueBack
 pub mod LedgerBack
 pub mod Restarted
+pub mod Fitting
+pub mod Unhindered
+pub mod NewQueues
+pub mod PreparedValues
 pub mod LifeLemmas
 pub mod PendingStays
 pub mod StepLemmas

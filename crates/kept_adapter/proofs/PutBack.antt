@@ -11,7 +11,6 @@ use Rattle.cip_ledger.specs.declared.request.TheConstants.{LEDGER}
 use Rattle.cip_ledger.specs.Ledger.{LedgerState}
 use Rattle.cip_objects.specs.Contents.{Contents, with_value}
 use Rattle.cip_objects.specs.Kept.{name_of, kept_names, kept_kind, with_kept, restored as value_restored}
-use Rattle.cip_owner.specs.Queue.{QueueState}
 use Rattle.device_state.specs.Keys.{name_in}
 use Rattle.device_state.specs.Restored.{Done, with_objects, to_ledger, if_value, value_done, by_name}
 use Rattle.device_state.specs.Saved.{State, state_of, value_entry}
@@ -84,7 +83,7 @@ not_of_ledger key h = by (is_ledger_key key) refl
     by false e = refl
     by true e = let same = eqb-true (key / 2 ^ 32) (2 ^ 16 + 101) e in absurd (omega (arith, same, h))
 
-not_the_life : (key : ℕ) → key < 2 ^ 48 → (key == ledger_key 0) ≡ false
+pub not_the_life : (key : ℕ) → key < 2 ^ 48 → (key == ledger_key 0) ≡ false
 not_the_life key h = by (key == ledger_key 0) refl
   where
     by : (is : Bool) → (key == ledger_key 0) ≡ is → is ≡ false

@@ -19,7 +19,7 @@ use Rattle.kept_adapter.specs.Started.{empty_progress, queue_progressed, entry_t
 use Rattle.kept_adapter.specs.Started.{new_queue, queue_back_in, trusted_queue}
 use Rattle.kept_adapter.proofs.QueueLeaves.{of_queue, number_back, put_queue_two, all_queue_entries}
 
-abbrev progress_of : Option QueueState → Bool → QueueProgress
+abbrev pub progress_of : Option QueueState → Bool → QueueProgress
 progress_of queue lost = record { queue = queue; has_lost = lost }
 
 -- An entry of the queue goes to the queue.
@@ -70,7 +70,7 @@ queue_kept start m l queue names is same =
 -- ---- with any number of places
 
 -- An entry is lost, or the queue is as it was before the entry with this number.
-abbrev IsAtOrLost : QueueState → ℕ → ℕ → QueueProgress → Type 0
+abbrev pub IsAtOrLost : QueueState → ℕ → ℕ → QueueProgress → Type 0
 IsAtOrLost q limit n p =
     (p.has_lost ≡ true) ⊎ ((p ≡ progress_of (Some (before q limit n)) false) × IsBefore q limit n)
 
@@ -111,7 +111,7 @@ next_or_lost q limit n p is h (inr (at, fits)) =
         let now = progress_of (Some (before q limit n)) false in
         inr (goes ∙ ap (queue_progressed now) some, fits)
 
-first_or_lost : (q : QueueState) (limit count : ℕ) → IsQueue q → count ≤ 2 ^ 16
+pub first_or_lost : (q : QueueState) (limit count : ℕ) → IsQueue q → count ≤ 2 ^ 16
     → IsAtOrLost q limit count
     (put_queue_all_back (empty_progress (Some (empty_queue limit))) (first_queue_entries q count))
 first_or_lost q limit zero is h = inr (refl, tt)

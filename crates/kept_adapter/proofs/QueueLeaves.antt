@@ -32,7 +32,7 @@ of_queue n h = eq-eqb (queue_key n / 2 ^ 16) (2 ^ 33) (omega (arith, h))
 pub number_back : (n : ℕ) → n < 2 ^ 16 → queue_number (queue_key n) ≡ n
 number_back n h = omega (arith, h)
 
-not_of_ledger : (n : ℕ) → n < 2 ^ 16 → is_ledger_key (queue_key n) ≡ false
+pub not_of_ledger : (n : ℕ) → n < 2 ^ 16 → is_ledger_key (queue_key n) ≡ false
 not_of_ledger n h = ne_eqb (queue_key n / 2 ^ 32) (2 ^ 16 + 101) (λ same. omega (arith, h, same))
 
 not_the_life : (n : ℕ) → n < 2 ^ 16 → (queue_key n == ledger_key 0) ≡ false
@@ -49,7 +49,7 @@ no_device_key n h =
     ∙ ap (λ t. if t || (queue_key n / 2 ^ 32 == LEDGER) then None else Some (queue_key n))
     (above (2 ^ 48) (queue_key n) (omega (arith, h)))
 
-below_queue : (key : ℕ) → key < 2 ^ 49 → is_queue_key key ≡ false
+pub below_queue : (key : ℕ) → key < 2 ^ 49 → is_queue_key key ≡ false
 below_queue key h = ne_eqb (key / 2 ^ 16) (2 ^ 33) (λ same. omega (arith, h, same))
 
 -- ---- the entries of the queue

@@ -85,7 +85,7 @@ module _ (start : AdapterStart) (p : Progress) (q : QueueProgress) where
       ap (trusted_by start p.ledger)
       (second_fails p.has_life p.has_lost q.has_lost (has_given_all p.ledger q.queue) start.begins_life lost)
 
-  new_if_queue_lost : q.has_lost ≡ true → trusted_ledger start p q ≡ new_ledger start.ledger
+  pub new_if_queue_lost : q.has_lost ≡ true → trusted_ledger start p q ≡ new_ledger start.ledger
   new_if_queue_lost lost =
       ap (trusted_by start p.ledger)
       (third_fails p.has_life p.has_lost q.has_lost (has_given_all p.ledger q.queue) start.begins_life lost)
@@ -95,7 +95,7 @@ module _ (start : AdapterStart) (p : Progress) (q : QueueProgress) where
       ap (trusted_by start p.ledger)
       (fourth_fails p.has_life p.has_lost q.has_lost (has_given_all p.ledger q.queue) start.begins_life other)
 
-  new_if_wanted : start.begins_life ≡ true → trusted_ledger start p q ≡ new_ledger start.ledger
+  pub new_if_wanted : start.begins_life ≡ true → trusted_ledger start p q ≡ new_ledger start.ledger
   new_if_wanted wanted =
       ap (trusted_by start p.ledger)
       (last_fails p.has_life p.has_lost q.has_lost (has_given_all p.ledger q.queue) start.begins_life wanted)

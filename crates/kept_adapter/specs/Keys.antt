@@ -23,6 +23,13 @@ is_queue_key key = key / 2 ^ 16 == 2 ^ 33
 abbrev pub queue_number : ℕ → ℕ
 queue_number key = key % 2 ^ 16
 
+-- The key of the origin of a value, by the key of the value.
+abbrev pub origin_key : ℕ → ℕ
+origin_key key = 2 ^ 50 + key
+
+abbrev pub is_origin_key : ℕ → Bool
+is_origin_key key = key / 2 ^ 48 == 4
+
 -- The key is that of a value: it is none of the ledger, and not the one that says which device it is.
 abbrev pub is_value_key : ℕ → Bool
 is_value_key key = not (is_ledger_key key) && not (key == key_of IDENTITY 1 0)

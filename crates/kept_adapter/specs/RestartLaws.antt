@@ -1,5 +1,6 @@
 -- What holds of a device over restarts.
-use Rattle.std.specs.Prelude.{option_map, Some, None, ◌≡◌, ◌≢◌, ◌⊎◌, ℕ, List, [], ◌∷◌, map, Bool}
+use Rattle.std.specs.Prelude.{option_map, Option, Some, None, ◌≡◌, ◌≢◌, ◌⊎◌, ℕ, ◌-◌, ◌<◌, ◌^◌, List, [], ◌∷◌, map, Bool, true, false}
+use Rattle.std.specs.Prelude.{is_some, IfSome}
 use Rattle.std.specs.List.{AllByRecursion}
 use Rattle.cip_ledger.specs.Device.{Device}
 use Rattle.cip_ledger.specs.Laws.{HasNoDoubles, Rises, IsNotFreed, Succeeds}
@@ -19,11 +20,20 @@ use Rattle.enip_adapter.specs.DeviceRuns.{Requested, objects_after, objects_answ
 use Rattle.enip_adapter.specs.QueueLaws.{IsNoFinish}
 use Rattle.enip_adapter.specs.Runs.{after_calls}
 use Rattle.enip_keep.specs.declared.lives.Event.{Event}
-use Rattle.enip_keep.specs.Kept.{Kept}
+use Rattle.enip_keep.specs.Kept.{Kept, set_all}
 use Rattle.enip_keep.specs.Lives.{Step}
+use Rattle.kept_server.specs.Changes.{keys_of, rise, is_small}
 use Rattle.kept_server.specs.declared.round.RoundInput.{RoundInput}
 use Rattle.kept_server.specs.Rounds.{DeviceContents, RoundRequests, kept_of}
 use Rattle.kept_adapter.specs.declared.adapter_start.AdapterStart.{AdapterStart}
+use Rattle.kept_adapter.specs.declared.adapter_start.LedgerStart.{LedgerStart}
+use Rattle.kept_adapter.specs.declared.origins.ValueState.{ValueState}
+use Rattle.kept_adapter.specs.declared.origins.ValueState.TheVariants.{Missing, Configured, Written, Unfit}
+use Rattle.kept_adapter.specs.declared.preparing.Wishes.{Wishes}
+use Rattle.kept_adapter.specs.Keys.{ledger_key}
+use Rattle.kept_adapter.specs.Origins.{kept_at}
+use Rattle.kept_adapter.specs.Preparing.{is_reset, is_of_value, state_in, configured_values, preparation}
+use Rattle.kept_adapter.specs.Preparing.{life_of, ledger_in_later_life}
 use Rattle.kept_adapter.specs.Restarts.{LifeStep, Does, restarted, after_life_step, after_life_steps}
 use Rattle.kept_adapter.specs.Restarts.{journal_over_restarts}
 use Rattle.kept_adapter.specs.Restarts.{AdapterStep, adapter_after, steps_over_restarts, contents_after, adapter_step}
@@ -32,8 +42,9 @@ use Rattle.kept_adapter.specs.Restarts.{RestartsGoOn}
 use Rattle.kept_adapter.specs.Restarts.{HasValues, IsServing, KeepsTables, HasObjects, IsRestartable, IsConfiguration, IsStep}
 use Rattle.kept_adapter.specs.Restarts.{sizes_of, configured_sizes, GoesOn, IsGoingOn, queue_steps_over_restarts}
 use Rattle.kept_adapter.specs.Restarts.{IsLedgerAfter, IsQueueAfter, SettlesNothingOf, IsOnceInEachLife, BeginNewLives}
-use Rattle.kept_adapter.specs.Saved.{saved_adapter, saved_objects}
-use Rattle.kept_adapter.specs.Started.{started}
+use Rattle.kept_adapter.specs.Restarts.{Fits, IsUnhindered, resized_ledger, resized_queue}
+use Rattle.kept_adapter.specs.Saved.{saved_adapter, saved_device, saved_objects}
+use Rattle.kept_adapter.specs.Started.{started, new_ledger}
 
 -- ---- one restart
 
@@ -66,6 +77,55 @@ ledger_or_new_law = (start : AdapterStart) (device : Device) → IsRestartable d
 abbrev pub queue_or_new_law : Type 0
 queue_or_new_law = (start : AdapterStart) (device : Device) → IsRestartable device → IsConfiguration start →
     IsQueueAfter start device.router.queue (restarted start device).router.queue
+
+-- With room for all that is kept, the ledger goes on: in the same life, with as many slots as are configured.
+abbrev pub fitting_ledger_law : Type 0
+fitting_ledger_law =
+    (start : AdapterStart) (device : Device) → IsRestartable device → IsConfiguration start → Fits start device →
+    (restarted start device).ledger ≡ resized_ledger start device.ledger
+
+-- And so does the queue, with as many places as are configured.
+abbrev pub fitting_queue_law : Type 0
+fitting_queue_law =
+    (start : AdapterStart) (device : Device) → IsRestartable device → IsConfiguration start → Fits start device →
+    (restarted start device).router.queue ≡ resized_queue start device.router.queue
+
+-- A configuration that nothing hinders has room for all that is kept.
+abbrev pub no_hindrance_law : Type 0
+no_hindrance_law =
+    (start : AdapterStart) (device : Device) → IsRestartable device → IsUnhindered start device → Fits start device
+
+-- So a start that nothing hinders goes on with the ledger and the queue: no command is lost.
+abbrev pub unhindered_goes_on_law : Type 0
+unhindered_goes_on_law =
+    (start : AdapterStart) (device : Device) → IsRestartable device → IsConfiguration start →
+    IsUnhindered start device →
+    ((restarted start device).ledger ≡ resized_ledger start device.ledger)
+    × ((restarted start device).router.queue ≡ resized_queue start device.router.queue)
+
+-- With any configuration that has a queue exactly if the device has one, the queue goes on, or the ledger is new, in the
+-- configured life. So a queue that begins again with its first ticket comes with a new ledger.
+abbrev pub new_queue_new_life_law : Type 0
+new_queue_new_life_law =
+    (start : AdapterStart) (device : Device) → IsRestartable device →
+    is_some start.queue ≡ is_some device.router.queue →
+    ((restarted start device).router.queue ≡ resized_queue start device.router.queue)
+    ⊎ ((restarted start device).ledger ≡ new_ledger start.ledger)
+
+-- A ledger that starts empty has a life with a greater number than the one that is kept, unless that has the greatest of
+-- all.
+abbrev pub later_life_law : Type 0
+later_life_law =
+    (ledger : Option LedgerStart) (kept : Kept) → life_of (kept_at (ledger_key 0) kept) ≢ 2 ^ 64 - 1 →
+    IfSome (ledger_in_later_life ledger kept) (λ l. life_of (kept_at (ledger_key 0) kept) < l.life)
+
+-- What is kept of a device has the number of its life. So such a ledger has a later life than the device had.
+abbrev pub later_device_life_law : Type 0
+later_device_life_law =
+    (ledger : Option LedgerStart) (device : Device) → IsRestartable device →
+    IfSome device.ledger (λ old. old.life ≢ 2 ^ 64 - 1 → IfSome
+    (ledger_in_later_life ledger (saved_device device.router.objects device.ledger device.router.queue))
+    (λ l. old.life < l.life))
 
 -- Each value that is kept is as it was, if it is one that it can have.
 abbrev pub values_go_on_law : Type 0
@@ -212,3 +272,26 @@ final_bytes_over_restarts_law =
 abbrev pub each_life_once_law : Type 0
 each_life_once_law = (device : Device) (steps : List LifeStep) → IsRestartable device → AllByRecursion IsStep steps →
     BeginNewLives device steps → IsOnceInEachLife (journal_over_restarts device steps)
+
+-- ---- what a start changes before
+
+-- A value that is kept, after the changes: one that is as it was configured has the value that is configured now, and so
+-- has one that is reset. One that was written stays. One that is not allowed any more stays, too, unless the configuration
+-- is accepted.
+pub record IsPrepared (wishes : Wishes) (kept after : Kept) (value : ℕ × List ℕ) (state : ValueState) : Type 0 where
+  pub configured : state ≡ Configured → is_small value ≡ true → kept_at value.0 after ≡ Some value.1
+  pub written : state ≡ Written → is_reset wishes value.0 ≡ false → kept_at value.0 after ≡ kept_at value.0 kept
+  pub unfit : state ≡ Unfit → is_reset wishes value.0 ≡ false → wishes.accepts_config ≡ false →
+      kept_at value.0 after ≡ kept_at value.0 kept
+  pub accepted : state ≡ Unfit → wishes.accepts_config ≡ true → is_small value ≡ true →
+      kept_at value.0 after ≡ Some value.1
+  pub reset : state ≢ Missing → is_reset wishes value.0 ≡ true → is_small value ≡ true →
+      kept_at value.0 after ≡ Some value.1
+
+-- Each value is so, if the objects are configured in rising order, whatever else is kept or dropped.
+abbrev pub prepared_values_law : Type 0
+prepared_values_law =
+    (start : AdapterStart) (wishes : Wishes) (kept : Kept) → rise (keys_of (configured_values start)) ≡ true →
+    AllByRecursion
+    (λ value. is_of_value value.0 ≡ true → IsPrepared wishes kept (set_all (preparation start wishes kept) kept) value
+    (state_in start.objects kept value)) (configured_values start)

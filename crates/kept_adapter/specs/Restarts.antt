@@ -36,6 +36,7 @@ use Rattle.kept_server.specs.Changes.{keys_of, rise}
 use Rattle.kept_server.specs.declared.round.RoundInput.{RoundInput}
 use Rattle.kept_server.specs.Rounds.{DeviceContents, RoundRequests, after_round, contents_with, kept_of}
 use Rattle.kept_adapter.specs.declared.adapter_start.AdapterStart.{AdapterStart}
+use Rattle.kept_adapter.specs.Hindrances.{slots_in, places_in, of_commands}
 use Rattle.kept_adapter.specs.Saved.{saved_device, saved_adapter, adapter_keys}
 use Rattle.kept_adapter.specs.Started.{started, new_ledger, new_queue, has_given_all, waiting_keys}
 
@@ -261,6 +262,37 @@ IsGoingOn sizes (Restarts start) = GoesOn sizes start
 abbrev pub RestartsGoOn : Sizes → AdapterStep → Type 0
 RestartsGoOn sizes (Executed calls) = ⊤
 RestartsGoOn sizes (Restarted start) = GoesOn sizes start
+
+-- The configuration has room for all that is kept, and wants no new life: it has a ledger and a queue exactly if the device
+-- has them, at least as many slots as are taken, and at least as many places as commands wait.
+pub record Fits (start : AdapterStart) (device : Device) : Type 0 where
+  pub same_life : start.begins_life ≡ false
+  pub ledger : is_some start.ledger ≡ is_some device.ledger
+  pub queue : is_some start.queue ≡ is_some device.router.queue
+  pub slots : IfSome device.ledger (λ l. length l.taken ≤ slots_in start)
+  pub places : IfSome device.router.queue (λ q. length q.waiting ≤ places_in start)
+
+-- The configuration has a ledger and a queue exactly if the device has them, wants no new life, and nothing hinders it from
+-- going on with the commands.
+pub record IsUnhindered (start : AdapterStart) (device : Device) : Type 0 where
+  pub same_life : start.begins_life ≡ false
+  pub ledger : is_some start.ledger ≡ is_some device.ledger
+  pub queue : is_some start.queue ≡ is_some device.router.queue
+  pub none : of_commands start (saved_device device.router.objects device.ledger device.router.queue) ≡ []
+
+abbrev pub with_slots : ℕ → LedgerState → LedgerState
+with_slots slots l = record l { slots = slots }
+
+-- The ledger with as many slots as are configured.
+abbrev pub resized_ledger : AdapterStart → Option LedgerState → Option LedgerState
+resized_ledger start ledger = option_map (with_slots (slots_in start)) ledger
+
+abbrev pub with_places : ℕ → QueueState → QueueState
+with_places places q = record q { limit = places }
+
+-- The queue with as many places as are configured.
+abbrev pub resized_queue : AdapterStart → Option QueueState → Option QueueState
+resized_queue start queue = option_map (with_places (places_in start)) queue
 
 -- The ledger after a restart: a new one, or that before, with as many slots as are configured.
 abbrev pub IsLedgerAfter : AdapterStart → Option LedgerState → Option LedgerState → Type 0

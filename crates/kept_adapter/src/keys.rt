@@ -1,7 +1,7 @@
 //! The keys under which entries are kept.
 ghost use Rattle.std.specs.Prelude.{◌≡◌, ◌<◌, ◌^◌};
 ghost use Rattle.kept_adapter.specs.Keys.{ledger_key, is_ledger_key, is_value_key, device_key};
-ghost use Rattle.kept_adapter.specs.Keys.{queue_key, is_queue_key, queue_number};
+ghost use Rattle.kept_adapter.specs.Keys.{queue_key, is_queue_key, queue_number, origin_key, is_origin_key};
 
 use cip_ledger::LEDGER;
 use device_state::identity_key;
@@ -11,6 +11,9 @@ const LEDGER_KEYS: u64 = 0x1_0000_0000_0000;
 
 /// The entries of the queue have keys from this one on.
 const QUEUE_KEYS: u64 = 0x2_0000_0000_0000;
+
+/// The origins of values have keys from this one on.
+const ORIGIN_KEYS: u64 = 0x4_0000_0000_0000;
 
 /// The key of an entry of the ledger: that of the life is number 0, and those of the slots are numbered from 1.
 ///
@@ -56,6 +59,26 @@ pub(crate) fn is_ledger_key(key: u64) -> bool
     ensures { result ≡ is_ledger_key key }
 {
     key / 0x1_0000_0000 == 0x1_0000 + u64::from(LEDGER)
+}
+
+/// The key of the origin of a value, by the key of the value.
+///
+/// ```
+/// let origin = origin_key(0x64_0001_0001); // 0x4_0064_0001_0001
+/// ```
+pub fn origin_key(key: u64) -> u64
+    requires { key < 2 ^ 48 }
+    ensures key { result ≡ origin_key key }
+    ensures small { result < 2 ^ 63 }
+{
+    ORIGIN_KEYS + key
+}
+
+/// Whether what is kept under this key is the origin of a value.
+pub fn is_origin_key(key: u64) -> bool
+    ensures { result ≡ is_origin_key key }
+{
+    key / LEDGER_KEYS == 4
 }
 
 /// Whether an entry with this key is a value: it is none of the ledger, and not the one that says which device it is.

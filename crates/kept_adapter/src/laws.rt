@@ -7,6 +7,9 @@
 
 ghost use Rattle.kept_adapter.specs.RestartLaws.{new_adapter_law, ledger_goes_on_law, ledger_or_new_law, values_go_on_law};
 ghost use Rattle.kept_adapter.specs.RestartLaws.{queue_goes_on_law, queue_or_new_law, queue_over_restarts_law, values_stay_law};
+ghost use Rattle.kept_adapter.specs.RestartLaws.{fitting_ledger_law, fitting_queue_law};
+ghost use Rattle.kept_adapter.specs.RestartLaws.{no_hindrance_law, unhindered_goes_on_law, new_queue_new_life_law, later_life_law};
+ghost use Rattle.kept_adapter.specs.RestartLaws.{later_device_life_law, prepared_values_law};
 ghost use Rattle.kept_adapter.specs.RestartLaws.{others_begin_again_law, first_device_law, device_stays_law};
 ghost use Rattle.kept_adapter.specs.RestartLaws.{device_over_restarts_law, server_law, server_kept_law, crash_law};
 ghost use Rattle.kept_adapter.specs.RestartLaws.{once_over_restarts_law, rising_over_restarts_law};
@@ -33,6 +36,35 @@ pub fn queue_goes_on()
     ensures same { queue_goes_on_law }
     ensures any { queue_or_new_law }
     ensures steps { queue_over_restarts_law }
+{}
+
+/// A restart whose configuration has room for the slots that are taken and the commands that wait, and wants no new life,
+/// goes on with the ledger and the queue, with as many slots and places as are configured.
+pub fn fitting_restarts_go_on()
+    ensures ledger { fitting_ledger_law }
+    ensures queue { fitting_queue_law }
+{}
+
+/// A configuration that nothing hinders has room for the slots that are taken and the commands that wait, so the start goes
+/// on with the ledger and the queue, if it wants no new life and has both as the device has.
+pub fn unhindered_restarts_go_on()
+    ensures fit { no_hindrance_law }
+    ensures go_on { unhindered_goes_on_law }
+{}
+
+/// A restart with any configuration goes on with the queue, or the ledger is new, in the configured life, if the
+/// configuration has a queue exactly if the device has one. `in_later_life` gives that life a greater number than that of the
+/// device, unless that has the greatest of all.
+pub fn new_queues_begin_lives()
+    ensures queue { new_queue_new_life_law }
+    ensures later { later_life_law }
+    ensures device { later_device_life_law }
+{}
+
+/// By the changes before a start, each value that is as it was configured follows the configuration, and each one that was
+/// written stays, unless it is reset, if the objects are configured in rising order.
+pub fn values_are_prepared()
+    ensures { prepared_values_law }
 {}
 
 /// Each value that is kept is as it was before the restart, and each other value is as it is configured. A value stays

@@ -80,7 +80,7 @@ impl AdapterStart {
     }
 
     /// The objects as they are configured.
-    fn new_objects(&self, alloc: Global) -> Result<Objects, AllocError>
+    pub(crate) fn new_objects(&self, alloc: Global) -> Result<Objects, AllocError>
         ensures { IfOk result (λ objects. objects ≡ contents_of_config self.now.objects) }
     {
         match Objects::new(alloc, &self.objects) {
@@ -120,7 +120,7 @@ impl AdapterStart {
     }
 
     /// The device once all entries are put back that can be.
-    fn put_back(&self, alloc: Global, entries: &[Entry]) -> Result<Progress, AllocError>
+    pub(crate) fn put_back(&self, alloc: Global, entries: &[Entry]) -> Result<Progress, AllocError>
         ensures { IfOk result (λ p. p ≡ put_back_in self.now (pairs_of entries.now)) }
     {
         let objects = self.new_objects(alloc)?;

@@ -6,7 +6,7 @@ use crate::idle::IdleOption;
 use crate::owner_options::OwnerOptions;
 use clap::ArgMatches;
 use config_file::ConfigFile;
-use device_start::{KeptFile, ReportedAddress, fill_from_system};
+use device_start::{KeptFile, ReportedAddress, StartWishes, are_attributes, fill_from_system};
 use enip_adapter::Listen;
 use enip_common::{ArgumentError, CommandError, NumberArgument};
 use enip_config::Configuration;
@@ -25,6 +25,8 @@ pub struct ServeOptions<'a> {
     idle: IdleOption,
     /// Where its state is kept.
     keep: Option<KeptFile<'a>>,
+    /// What is wanted of what is kept.
+    wishes: StartWishes<'a>,
     /// Where it listens for its owner, and who that may be.
     owner: Option<OwnerOptions<'a>>,
     /// The address at which it listens for its owner.
@@ -43,6 +45,7 @@ impl<'a> ServeOptions<'a> {
         let idle = IdleOption::from_matches(matches)?;
         let accepts_older = matches.get_flag("accept-older");
         let owner = OwnerOptions::from_matches(matches)?;
+        let wishes = wishes_from(matches)?;
         Ok(ServeOptions {
             address: matches.get_str("ADDRESS").unwrap_or(""),
             discovery: matches.get_flag("discovery"),
@@ -55,6 +58,7 @@ impl<'a> ServeOptions<'a> {
                 Some(name) => Some(KeptFile::new(name, accepts_older)),
                 None => None,
             },
+            wishes,
             owner,
             owner_at: None,
             reported: None,
@@ -96,6 +100,13 @@ impl<'a> ServeOptions<'a> {
         ensures { result ≡ self.entry.keep }
     {
         self.keep
+    }
+
+    /// What is wanted of what is kept.
+    pub fn wishes(self) -> StartWishes<'a>
+        ensures { result ≡ self.entry.wishes }
+    {
+        self.wishes
     }
 
     /// Where the device listens for its owner, and who that may be.
@@ -163,5 +174,22 @@ impl<'a> ServeOptions<'a> {
             owner_at: Some(address),
             ..self
         }
+    }
+}
+
+/// What the arguments want of what is kept.
+///
+/// # Errors
+///
+/// If `--reset-value` names no attributes.
+fn wishes_from<'a>(matches: &ArgMatches<'a>) -> Result<StartWishes<'a>, ArgumentError<'a>> {
+    let resets = matches.get_str("reset-value");
+    match resets {
+        Some(text) if !are_attributes(text) => Err(ArgumentError::Attributes(text)),
+        _ => Ok(StartWishes {
+            drops_commands: matches.get_flag("drop-commands"),
+            accepts_config: matches.get_flag("accept-config"),
+            resets,
+        }),
     }
 }
