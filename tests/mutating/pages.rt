@@ -2,7 +2,8 @@
 #![tactic(auto)]
 
 use clap::ArgMatches;
-use enip_cli::{OsArg, PROGRAM, os_args, program, program_table};
+use enip_cli::{PROGRAM, program, program_table};
+use enip_common::{OsArg, os_args};
 use enip_shell::{write_bash, write_fish, write_man, write_zsh};
 use std::io::{self, BufWriter, Write};
 use std::process::ExitCode;

@@ -20,7 +20,7 @@ from mutating.sources import TOP
 
 # The part of the program, and what it is made of.
 PAGES = TOP / "tests/mutating/pages.rt"
-OF_PAGES = "cip_names clap enip_cli enip_shell libc os"
+OF_PAGES = "clap enip_cli enip_common enip_shell"
 # The part of ./check that notices an error here, and the part of its script that needs nothing else of the program.
 TEST, TEST_PART = "shells", "covered"
 MAN = "crates/enip_shell/src/man.rt"

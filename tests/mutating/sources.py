@@ -15,9 +15,15 @@ PRODUCTS = ("enip_cmd",)
 
 
 def listed_crates(top=TOP):
-    """The crates of crates.txt in their order, each with the libraries that it depends on."""
-    lines = (it.partition(":") for it in (top / "crates.txt").read_text().splitlines() if not it.startswith("#"))
-    return {name.split()[0]: libraries.split() for name, _, libraries in lines if name}
+    """The crates of crates.txt in their order, each with the libraries that it depends on, lowest first."""
+    found = {}
+    for line in (top / "crates.txt").read_text().splitlines():
+        name, colon, libraries = line.partition(":")
+        if not colon or line.startswith("#"):
+            continue
+        below = (it for library in libraries.split() for it in (*found.get(library, ()), library))
+        found[name.split()[0]] = list(dict.fromkeys(below))
+    return found
 
 
 def libraries_of(crate, top=TOP):

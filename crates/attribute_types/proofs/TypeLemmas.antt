@@ -68,16 +68,3 @@ bytes_from : (e : ElementaryType) (vs : List Value) (i : ℕ) (v : Value) → i 
     ≡ option_and_then (λ bytes. option_map (λ rest. bytes ++ rest) (all_bytes e (items_view (drop (i + 1) vs))))
     (option_map (λ bits. le (width_of e) bits) (element_bits e (view v)))
 bytes_from e vs i v inside at = rw (items_view-drop vs i v inside, at) refl
-
-pub bytes_more : (e : ElementaryType) (vs : List Value) (i : ℕ) (v : Value) (bits width : ℕ) (done : List ℕ) (all : Option (List ℕ))
-    → i < length vs → get_or vs i v ≡ v → element_bits e (view v) ≡ Some bits → width ≡ width_of e
-    → option_map (λ rest. done ++ rest) (all_bytes e (items_view (drop i vs))) ≡ all
-    → option_map (λ rest. (done ++ le width bits) ++ rest) (all_bytes e (items_view (drop (i + 1) vs))) ≡ all
-bytes_more e vs i v bits width done all inside at reads same before =
-    joined done (le width bits) (all_bytes e (items_view (drop (i + 1) vs)))
-    ∙ ap (option_map (λ rest. done ++ rest)) (sym (bytes_from e vs i v inside at ∙ rw (reads, same) refl)) ∙ before
-
-pub bytes_none : (e : ElementaryType) (vs : List Value) (i : ℕ) (v : Value) (done : List ℕ) (all : Option (List ℕ))
-    → i < length vs → get_or vs i v ≡ v → element_bits e (view v) ≡ None
-    → option_map (λ rest. done ++ rest) (all_bytes e (items_view (drop i vs))) ≡ all → all ≡ None
-bytes_none e vs i v done all inside at unread before = sym before ∙ rw (bytes_from e vs i v inside at, unread) refl

@@ -13,5 +13,5 @@ mod typed;
 mod value;
 
 pub use attribute_type::{AttributeType, width_of};
-pub use typed::{TypedValue, bound, number_type, typed_in, value_bytes};
+pub use typed::{TypedFault, TypedValue, number_type, typed_in};
 pub use value::{BAD_VALUE, number_in, value_of};

@@ -25,19 +25,42 @@ pub struct TypedValue {
     pub value: Vec<u8>,
 }
 
+/// Why an attribute has no bytes of its type.
+#[derive(Clone, Copy, Debug)]
+pub enum TypedFault {
+    /// There is no type of this name.
+    NoType,
+    /// There is a bound, and the type has no numbers.
+    NoNumbers,
+    /// The key `min` is not of the type.
+    Least,
+    /// The key `max` is not of the type.
+    Greatest,
+    /// The key `value` is not of the type.
+    Value,
+}
+
 /// Reads the keys `type`, `value`, `min` and `max` of a table `object.attribute`. A type that does not exist, and a
-/// value or a bound that is not of the type, give an attribute of no bytes. The objects refuse it.
-pub fn typed_in(alloc: Global, table: &Table) -> Result<TypedValue, LoadFault>
+/// value or a bound that is not of the type, give an attribute of no bytes. The objects refuse it, and `fault` says why.
+pub fn typed_in(
+    alloc: Global,
+    table: &Table,
+    fault: &mut Option<TypedFault>,
+) -> Result<TypedValue, LoadFault>
     ensures read { IfOk result (λ typed. typed_in (table_view table.now) ≡ Some (typed_seen typed)) }
     ensures refused { IfErr result (IsBadOrMemory (typed_in (table_view table.now))) }
 {
     let Some(Value::String(name)) = value_of(table, "type") else {
         return Err(BAD_VALUE);
     };
-    match typed_by(alloc, table, name.as_str()) {
+    let mut looked_for = TypedFault::NoType;
+    match typed_by(alloc, table, name.as_str(), &mut looked_for) {
         Ok(typed) => Ok(typed),
         Err(LoadFault::Memory) => Err(LoadFault::Memory),
-        Err(LoadFault::Refused(_)) => Ok(untyped(alloc)),
+        Err(LoadFault::Refused(_)) => {
+            *fault = Some(looked_for);
+            Ok(untyped(alloc))
+        }
     }
 }
 
@@ -54,23 +77,40 @@ fn untyped(alloc: Global) -> TypedValue
     }
 }
 
-/// Reads the value and the bounds of an attribute whose type has this name.
-fn typed_by(alloc: Global, table: &Table, name: &str) -> Result<TypedValue, LoadFault>
+/// Reads the value and the bounds of an attribute whose type has this name. If it is refused, `fault` says why.
+fn typed_by(
+    alloc: Global,
+    table: &Table,
+    name: &str,
+    fault: &mut TypedFault,
+) -> Result<TypedValue, LoadFault>
     ensures read { IfOk result (λ typed. typed_by (table_view table.now) name.now ≡ Some (typed_seen typed)) }
     ensures refused { IfErr result (IsBadOrMemory (typed_by (table_view table.now) name.now)) }
 {
+    *fault = TypedFault::NoType;
     let Some(of_type) = AttributeType::from_name(name) else {
         return Err(BAD_VALUE);
     };
-    typed_as(alloc, table, of_type)
+    typed_as(alloc, table, of_type, fault)
 }
 
 /// Reads the value and the bounds of an attribute of this type.
-fn typed_as(alloc: Global, table: &Table, of_type: AttributeType) -> Result<TypedValue, LoadFault>
+fn typed_as(
+    alloc: Global,
+    table: &Table,
+    of_type: AttributeType,
+    fault: &mut TypedFault,
+) -> Result<TypedValue, LoadFault>
     ensures read { IfOk result (λ typed. typed_as (table_view table.now) of_type ≡ Some (typed_seen typed)) }
     ensures refused { IfErr result (IsBadOrMemory (typed_as (table_view table.now) of_type)) }
 {
-    let range = range_of(of_type, value_of(table, "min"), value_of(table, "max"))?;
+    let range = range_of(
+        of_type,
+        value_of(table, "min"),
+        value_of(table, "max"),
+        fault,
+    )?;
+    *fault = TypedFault::Value;
     let value = first_value(alloc, of_type, value_of(table, "value"))?;
     Ok(TypedValue {
         kind: of_type.kind(range),
@@ -95,11 +135,7 @@ fn first_value(
 }
 
 /// Reads a value of this type, and returns its bytes.
-pub fn value_bytes(
-    alloc: Global,
-    of_type: AttributeType,
-    value: &Value,
-) -> Result<Vec<u8>, LoadFault>
+fn value_bytes(alloc: Global, of_type: AttributeType, value: &Value) -> Result<Vec<u8>, LoadFault>
     ensures read { IfOk result (λ bytes. value_bytes of_type (view value.now) ≡ Some bytes.items) }
     ensures refused { IfErr result (IsBadOrMemory (value_bytes of_type (view value.now))) }
 {
@@ -145,6 +181,7 @@ fn range_of(
     of_type: AttributeType,
     min: Option<&Value>,
     max: Option<&Value>,
+    fault: &mut TypedFault,
 ) -> Result<Option<NumberRange>, LoadFault>
     ensures read { IfOk result (λ range. range_of of_type (option_map (λ v. view v.now) min.entry)
         (option_map (λ v. view v.now) max.entry) ≡ Some range) }
@@ -154,9 +191,10 @@ fn range_of(
     if min.is_none() && max.is_none() {
         return Ok(None);
     }
+    *fault = TypedFault::NoNumbers;
     match of_type {
         AttributeType::One(element) | AttributeType::Array(element, _) => {
-            Ok(Some(element_range(element, min, max)?))
+            Ok(Some(element_range(element, min, max, fault)?))
         }
         AttributeType::Bytes(_) | AttributeType::ShortString(_) => Err(BAD_VALUE),
     }
@@ -167,24 +205,30 @@ fn element_range(
     element: ElementaryType,
     min: Option<&Value>,
     max: Option<&Value>,
+    fault: &mut TypedFault,
 ) -> Result<NumberRange, LoadFault>
     ensures read { IfOk result (λ range. element_range element (option_map (λ v. view v.now) min.entry)
         (option_map (λ v. view v.now) max.entry) ≡ Some range) }
     ensures refused { IfErr result (IsBad (element_range element (option_map (λ v. view v.now) min.entry)
         (option_map (λ v. view v.now) max.entry))) }
 {
+    *fault = TypedFault::NoNumbers;
     let Some(number) = number_type(element) else {
         return Err(BAD_VALUE);
     };
+    *fault = TypedFault::Least;
+    let least = bound(element, min, least_bits(number))?;
+    *fault = TypedFault::Greatest;
+    let greatest = bound(element, max, greatest_bits(number))?;
     Ok(NumberRange {
         number,
-        least: bound(element, min, least_bits(number))?,
-        greatest: bound(element, max, greatest_bits(number))?,
+        least,
+        greatest,
     })
 }
 
 /// The bits of a bound, or these if it is left out.
-pub fn bound(element: ElementaryType, value: Option<&Value>, default: u64) -> Result<u64, LoadFault>
+fn bound(element: ElementaryType, value: Option<&Value>, default: u64) -> Result<u64, LoadFault>
     ensures read { IfOk result (λ bits. bound_bits element (option_map (λ v. view v.now) value.entry) default
         ≡ Some bits) }
     ensures refused { IfErr result (IsBad (bound_bits element (option_map (λ v. view v.now) value.entry) default)) }

@@ -11,7 +11,7 @@ ghost use Rattle.cip_class3.specs.Deliveries.{router_after_requests, answers_onc
 ghost use Rattle.cip_class3.specs.OriginatorRule.{originator_at_opening, MOST_UNACCEPTED};
 ghost use Rattle.cip_class3.specs.Calls.{OriginatorCall, events_of, counts_taken, taken_since_accepted, AcceptedOnce};
 
-use cip_objects::Router;
+use cip_message::Router;
 
 /// A target executes each request that reaches it once, however often it arrives, and answers it with the same
 /// bytes each time.

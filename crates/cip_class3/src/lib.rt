@@ -5,7 +5,7 @@
 //! request, and accepts only the reply to that request. [`laws`] states what follows for whole lists of items and
 //! calls.
 //!
-//! A target works with any router that keeps the laws of `cip_objects::Router`. Only `Originator::new` allocates.
+//! A target works with any router that keeps the laws of `cip_message::Router`. Only `Originator::new` allocates.
 //! Bytes come in and go out as slices: this crate has no sockets and no clock.
 //!
 //! ```

@@ -13,7 +13,7 @@ use cip_bytes::protocol::{
     LARGEST_CONNECTION_SIZE, REPLY_LIMIT, SEQUENCE_COUNT_SIZE, SMALLEST_O_TO_T_SIZE,
     SMALLEST_REQUEST, SMALLEST_T_TO_O_SIZE,
 };
-use cip_objects::{ReplyBuf, Router};
+use cip_message::{ReplyBuf, Router};
 use std::marker::Model;
 
 /// What a target did with an item.

@@ -3,8 +3,8 @@ use Rattle.std.specs.Prelude.{⊤, ℕ, ◌+◌, ◌^◌, ◌<◌, ◌≤◌, �
 use Rattle.std.specs.Prelude.{Option, Some, None, option_map, MatchOption}
 use Rattle.std.specs.Prelude.{List, ◌∷◌, ◌++◌, length, slice_index}
 use Rattle.cip_bytes.specs.Numbers.{le}
-use Rattle.cip_ledger.specs.Requests.{Command}
-use Rattle.cip_ledger.specs.declared.service.TheConstants as services
+use Rattle.cip_message.specs.LedgerCommand.{Command}
+use Rattle.cip_message.specs.declared.ledger_services.TheConstants as services
 use Rattle.cip_commander.specs.declared.refusal.CommandRefused.{CommandRefused}
 use Rattle.cip_commander.specs.declared.refusal.CommandRefused.TheVariants as refusals
 use Rattle.cip_commander.specs.Outcome.{Outcome, Done, StillPending, InDoubt, Withdrawn, Refused, Malformed, NotPending}
@@ -86,6 +86,15 @@ command_refusal commander request =
 abbrev pub with_command : CommanderState → List ℕ → CommanderState
 with_command commander request =
     record commander { last_number = commander.last_number + 1; pending = Some request }
+
+-- after a command that is refused for this reason, or is not
+abbrev pub after_given : CommanderState → List ℕ → Option CommandRefused → CommanderState
+after_given commander request None = with_command commander request
+after_given commander request (Some why) = commander
+
+-- after it gave a command, if it may
+abbrev pub after_command : CommanderState → List ℕ → CommanderState
+after_command commander request = after_given commander request (command_refusal commander request)
 
 -- why a file's pending request is not one
 abbrev pub resume_refusal : Option (List ℕ) → Option CommandRefused

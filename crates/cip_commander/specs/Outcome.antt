@@ -2,7 +2,7 @@
 use Rattle.std.specs.Prelude.{⊤, ℕ, ◌==◌, if◌then◌else◌, List, [], ◌∷◌, Result, Ok, Err}
 use Rattle.cip_message.specs.Reply.{Reply, reply_of, reply_service}
 use Rattle.cip_message.specs.declared.reply.ReplyFault.{ReplyFault}
-use Rattle.cip_ledger.specs.declared.service.TheConstants as services
+use Rattle.cip_message.specs.declared.ledger_services.TheConstants as services
 use Rattle.cip_commander.specs.declared.outcome.CommandOutcome.{CommandOutcome}
 use Rattle.cip_commander.specs.declared.outcome.CommandOutcome.TheVariants as outcomes
 

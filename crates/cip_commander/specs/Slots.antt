@@ -4,7 +4,7 @@ use Rattle.std.specs.Prelude.{List, ◌∷◌, ◌++◌, length, drop, slice_get
 use Rattle.cip_bytes.specs.Numbers.{le, number_at}
 use Rattle.cip_message.specs.Reply.{Reply, reply_service}
 use Rattle.cip_message.specs.declared.reply.ReplyFault.{ReplyFault}
-use Rattle.cip_ledger.specs.declared.service.TheConstants as services
+use Rattle.cip_message.specs.declared.ledger_services.TheConstants as services
 use Rattle.cip_commander.specs.declared.slots.CommandState.{CommandState}
 use Rattle.cip_commander.specs.declared.slots.CommandState.TheVariants as states
 use Rattle.cip_commander.specs.declared.slots.LedgerSlot.{LedgerSlot}

@@ -3,7 +3,7 @@ use Rattle.std.specs.Prelude.{ℕ, ◌==◌, if◌then◌else◌, List, [], ◌�
 use Rattle.cip_bytes.specs.Numbers.{le}
 use Rattle.cip_message.specs.Reply.{Reply, reply_of, reply_service}
 use Rattle.cip_message.specs.declared.reply.ReplyFault.{ReplyFault}
-use Rattle.cip_ledger.specs.declared.service.TheConstants as services
+use Rattle.cip_message.specs.declared.ledger_services.TheConstants as services
 use Rattle.cip_commander.specs.declared.withdrawal.WithdrawalOutcome.{WithdrawalOutcome}
 use Rattle.cip_commander.specs.declared.withdrawal.WithdrawalOutcome.TheVariants as outcomes
 

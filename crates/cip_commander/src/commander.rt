@@ -15,7 +15,7 @@ use crate::withdrawal::{WithdrawRequest, WithdrawalOutcome, read_withdrawal, wit
 use arrayvec::ArrayVec;
 use cip_bytes::protocol::{SMALLEST_REQUEST, UNCONNECTED_LIMIT};
 use cip_bytes::{append, append_u32};
-use cip_ledger::DO_ONCE;
+use cip_message::DO_ONCE;
 use std::marker::Model;
 
 /// The service and the path of Do_Once: two words, class 0x65, instance 1.

@@ -1,8 +1,8 @@
 //! The originator's side of commands that are executed once, even if connections are lost and opened anew.
 //!
 //! A [`Commander`] has at most one pending command. It lends the request to send, and the same bytes again after a new
-//! connection, until a reply says that the command is done, or the command is withdrawn or abandoned. [`laws`] states
-//! what follows for both ends: a commander, and a device with a ledger.
+//! connection, until a reply says that the command is done, or the command is withdrawn or abandoned.
+//! `commander_laws` of `enip_reconnect` states what follows for both ends: a commander, and a device with a ledger.
 //!
 //! No call takes memory. Bytes come in and go out as slices: this crate has no sockets, no files and no clock.
 //!
@@ -16,7 +16,6 @@
 #![tactic(auto)]
 
 mod commander;
-pub mod laws;
 mod outcome;
 mod refusal;
 mod slots;

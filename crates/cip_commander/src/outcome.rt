@@ -2,8 +2,7 @@
 ghost use Rattle.std.specs.Prelude.{◌≡◌};
 ghost use Rattle.cip_commander.specs.Outcome.{outcome_in, outcome_of_data, outcome_of_text};
 
-use cip_ledger::DO_ONCE;
-use cip_message::{ReplyView, reply_service};
+use cip_message::{DO_ONCE, ReplyView, reply_service};
 
 /// What a reply says about the pending command.
 #[derive(Clone, Copy, Debug, PartialEq, Eq)]

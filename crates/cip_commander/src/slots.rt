@@ -9,8 +9,7 @@ ghost use Rattle.cip_commander.specs.Slots.{content_of, state_of, last_of, count
 use arrayvec::ArrayVec;
 use byteorder::{ByteOrder, LittleEndian};
 use cip_bytes::{append, append_u16, append_u32};
-use cip_ledger::{FORGET, GET_LAST, GET_SLOTS};
-use cip_message::{ReplyView, reply_service};
+use cip_message::{FORGET, GET_LAST, GET_SLOTS, ReplyView, reply_service};
 use thiserror::Error;
 
 /// Get_Attribute_List. (Volume 1, common services.)

@@ -6,8 +6,7 @@ ghost use Rattle.cip_commander.specs.Withdrawing.{withdraw, withdrawing_in, with
 use crate::outcome::{DONE, IN_DOUBT, TAKEN, WITHDRAWN};
 use arrayvec::ArrayVec;
 use cip_bytes::{append, append_u32};
-use cip_ledger::WITHDRAW;
-use cip_message::{ReplyView, reply_service};
+use cip_message::{ReplyView, WITHDRAW, reply_service};
 
 /// The bytes of Withdraw: a service, a path of two words, a life, an originator and a number.
 pub const WITHDRAW_REQUEST_SIZE: usize = 26;

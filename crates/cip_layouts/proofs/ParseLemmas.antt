@@ -1,19 +1,17 @@
 -- Parsing a layout: texts that are cut, types by their names, and fields that are added.
-use Rattle.std.proofs.Common.{◌≡◌, ℕ, ◌+◌, ◌<◌, ◌≤◌, Bool, true, false, not, suc, cond, ltb, add-one, List, [], ◌∷◌, ◌++◌, length, map, take, drop, get_or, set, Option, Some, None, Result, Ok, Err, refl, sym, ap, subst, ◌∙◌, arith}
-use Rattle.std.specs.Prelude.{IfSome, MatchOption, option_map, is_some}
+use Rattle.std.proofs.Common.{◌≡◌, ℕ, ◌+◌, ◌<◌, ◌≤◌, Bool, true, false, not, suc, cond, ltb, List, [], ◌∷◌, ◌++◌, length, map, Option, Some, None, Result, Ok, Err, refl, sym, ap, subst, ◌∙◌, arith}
+use Rattle.std.specs.Prelude.{IfSome, MatchOption, option_map}
 use Rattle.std.specs.Borrow.{Bor}
-use Rattle.std.specs.List.{position_or_len, before_first, after_first, slice_split, list_any, find, onto_first, flat_map}
+use Rattle.std.specs.List.{position_or_len, before_first, after_first, slice_split, list_any, find, onto_first}
 use Rattle.std.specs.Str.{bytes_eq}
-use lib.Seq.{take-suc-set}
 use Rattle.std.proofs.lemmas.Bool.{le-ltb, lt-ltb, ltb-true, ltb-false}
-use Rattle.std.proofs.lemmas.List.{map-append, length-map, length-take-le}
 use Rattle.std.proofs.lemmas.List.Splits.{slice_split_first}
 use Rattle.cip_bytes.specs.Reading.{◌>>=◌}
 use Rattle.std.proofs.lemmas.Slice.Eq.{bytes_eq-Decides}
 use Rattle.cip_values.specs.Types.{name_of as type_name}
 use Rattle.cip_values.specs.declared.element.ElementaryType.{ElementaryType}
 use Rattle.cip_values.specs.declared.element.ElementaryType.TheVariants as types
-use Rattle.cip_layouts.specs.Layouts.{Field, field_in, is_byte, has_byte, cut_in, cut_seen, elements, element_named, differ, mixes, with_text, with_texts, has_names, field_text, other_text, layout_text}
+use Rattle.cip_layouts.specs.Layouts.{Field, is_byte, has_byte, cut_in, cut_seen, elements, element_named, with_text, with_texts}
 use Rattle.cip_layouts.specs.declared.field.Field.{Field as FieldInCode}
 use Rattle.cip_layouts.specs.declared.fault.LayoutFault.{LayoutFault}
 
@@ -86,24 +84,6 @@ pub any_map : {X Y : Type 0} (p : Y → Bool) (f : X → Y) (xs : List X) → li
 any_map p f [] = refl
 any_map p f (x ∷ xs) = rw (any_map p f xs) refl
 
-pub mixes_first : (xs : List FieldInCode) (d : FieldInCode) (field : Field) → 0 < length xs
-    → mixes (map field_in xs) field ≡ differ (field_in (get_or xs 0 d)).name field.name
-mixes_first [] d field some = absurd (omega (arith, some))
-mixes_first (x ∷ xs) d field some = refl
-
-pub mixes_none : (xs : List FieldInCode) (field : Field) → length xs ≡ 0 → mixes (map field_in xs) field ≡ false
-mixes_none [] field none = refl
-mixes_none (x ∷ xs) field none = absurd (omega (arith, none))
-
-pub fields_length : (xs : List FieldInCode) (n : ℕ) → n ≤ length xs → length (map field_in (take n xs)) ≡ n
-fields_length xs n fits = length-map (take n xs) field_in ∙ length-take-le n xs fits
-
-pub fields_more : (xs : List FieldInCode) (n : ℕ) (field : FieldInCode) → n < length xs
-    → map field_in (take (n + 1) (set xs n field)) ≡ map field_in (take n xs) ++ field_in field ∷ []
-fields_more xs n field inside =
-    ap (λ (k : ℕ). map field_in (take k (set xs n field))) (add-one n)
-    ∙ ap (map field_in) (take-suc-set xs n field inside) ∙ map-append field_in (take n xs) (field ∷ [])
-
 -- ---- the texts between commas
 
 only_by : (t : Bool) (p : ℕ → Bool) (x : ℕ) (xs : List ℕ) → p x ≡ t → suc (length xs) ≤ cond (not t) (1 + position_or_len p xs) 0
@@ -161,20 +141,3 @@ fails_first fields text first rest why e cut =
     ∙ ap (λ (r : Result (List Field) LayoutFault). r >>= λ longer. with_texts longer (slice_split (is_byte 44) rest)) (sym e)
 
 -- ---- the first field
-
-pub names_of_first : (xs : List FieldInCode) (d : FieldInCode) → 0 < length xs → has_names xs ≡ is_some (get_or xs 0 d).name
-names_of_first [] d some = absurd (omega (arith, some))
-names_of_first (x ∷ xs) d some = refl
-
-pub names_of_none : (xs : List FieldInCode) → length xs ≡ 0 → has_names xs ≡ false
-names_of_none [] none = refl
-names_of_none (x ∷ xs) none = absurd (omega (arith, none))
-
-pub text_of_first : (xs others : List FieldInCode) (first : FieldInCode) → 0 < length xs → first ≡ get_or xs 0 first → others ≡ drop 1 xs
-    → layout_text xs ≡ field_text first ++ flat_map other_text others
-text_of_first [] others first some is rest = absurd (omega (arith, some))
-text_of_first (x ∷ xs) others first some is rest = rw (is, rest) refl
-
-pub text_of_none : (xs : List FieldInCode) → length xs ≡ 0 → layout_text xs ≡ []
-text_of_none [] none = refl
-text_of_none (x ∷ xs) none = absurd (omega (arith, none))

@@ -20,9 +20,6 @@ pub left_is : (fields : List Field) (index : ℕ) (field : Field) → index < le
 left_is fields index field inside is =
     drop_more fields index field inside ∙ ap (λ (f : Field). f ∷ drop (index + 1) fields) (sym is)
 
-pub read_none : (fields : List Field) (bytes : List ℕ) → ReadSoFar fields bytes 0 [] bytes
-read_none fields bytes = record { read = λ others h. h; refused = λ fault h. h }
-
 pub read_more : (fields : List Field) (bytes : List ℕ) (index : ℕ) (field : Field) (old new : List Value) (rest behind : List ℕ)
     → index < length fields → field ≡ get_or fields index field → ReadSoFar fields bytes index old rest
     → FieldFollows field rest behind old new → ReadSoFar fields bytes (index + 1) new behind
@@ -55,13 +52,6 @@ all_read fields bytes index values rest all none h =
     let left : AreBytesOfFields (drop index fields) rest [] =
     subst (λ (fs : List Field). AreBytesOfFields fs rest []) (sym (nothing_left fields index all)) (no_bytes rest none, refl) in
     subst (λ (vs : List Value). AreBytesOfFields fields bytes vs) (append-nil values) (h.read [] left)
-
-pub trailing_left : (fields : List Field) (bytes : List ℕ) (index : ℕ) (values : List Value) (rest : List ℕ) → length fields ≡ index
-    → 0 < length rest → ReadSoFar fields bytes index values rest → IsReadFaultFrom 1 fields bytes (faults.Trailing (length rest))
-trailing_left fields bytes index values rest all some h =
-    let left : IsReadFaultFrom (index + 1) (drop index fields) rest (faults.Trailing (length rest)) =
-    subst (λ (fs : List Field). IsReadFaultFrom (index + 1) fs rest (faults.Trailing (length rest))) (sym (nothing_left fields index all)) (some, refl) in
-    h.refused (faults.Trailing (length rest)) left
 
 unread_left : (fields : List Field) (bytes : List ℕ) (index : ℕ) (field : Field) (values : List Value) (rest : List ℕ)
     (fault : FieldsFault) → index < length fields → field ≡ get_or fields index field → ReadSoFar fields bytes index values rest

@@ -1,16 +1,16 @@
 -- Fields written one after another.
 use Rattle.std.proofs.Common.{◌≡◌, ℕ, ◌+◌, ◌<◌, ◌≤◌, List, [], ◌∷◌, ◌++◌, length, drop, get_or, Result, Ok, Err, inl, inr, refl, sym, ap, subst, ◌∙◌, append_assoc, arith}
 use Rattle.std.specs.Prelude.{OnOk}
-use Rattle.std.proofs.lemmas.List.{append-nil, length-append}
+use Rattle.std.proofs.lemmas.List.{append-nil}
 use Rattle.cip_values.specs.Types.{form_of}
 use Rattle.cip_values.specs.Values.{Value, joined}
 use Rattle.cip_values.specs.Parsing.{AllParseAs}
 use Rattle.cip_values.specs.declared.element.ValueType.{ValueType}
-use Rattle.cip_layouts.specs.Fields.{FieldBegins, FieldParses, AreFieldsWritten, FieldIsWritten, AreAppended, AreRefusedFrom, IsWriteFaultFrom, IsFieldRefused, IsFieldsWriteFault, count_of, total, list_type}
+use Rattle.cip_layouts.specs.Fields.{FieldBegins, FieldParses, AreFieldsWritten, FieldIsWritten, AreAppended, AreRefusedFrom, IsWriteFaultFrom, IsFieldRefused, IsFieldsWriteFault, total, list_type}
 use Rattle.cip_layouts.specs.declared.fault.FieldsFault.{FieldsFault}
 use Rattle.cip_layouts.specs.declared.fault.FieldsFault.TheVariants as faults
 use Rattle.cip_layouts.specs.declared.field.Field.{Field}
-use Rattle.cip_layouts.proofs.ReadLemmas.{nothing_left, left_is}
+use Rattle.cip_layouts.proofs.ReadLemmas.{left_is}
 
 parse_length : (value_type : ValueType) (words : List (List ℕ)) (values : List Value) → AllParseAs value_type words values
     → length values ≡ length words
@@ -47,17 +47,6 @@ with_one field fields words rest old new back one h = record {
   bytes_of = (one.written.values, (h.values, (back, (field_begins field words rest old new back one, refl, h.bytes_of))));
 }
 
-no_fields : (words : List (List ℕ)) → length words ≡ 0 → AreFieldsWritten [] words []
-no_fields [] none = record { values = []; parses = (refl, refl); bytes_of = (refl, refl) }
-no_fields (word ∷ words) none = absurd (omega (arith, none))
-
-pub none_appended : (fields : List Field) (index : ℕ) (words : List (List ℕ)) (old : List ℕ) → length fields ≡ index
-    → length words ≡ total (drop index fields) → AreAppended (drop index fields) words old old
-none_appended fields index words old all enough =
-    let none : drop index fields ≡ [] = nothing_left fields index all in
-    subst (λ (fs : List Field). AreAppended fs words old old) (sym none)
-    (record { bytes = []; written = no_fields words (enough ∙ ap total none); appended = sym (append-nil old) })
-
 pub one_appended : (fields : List Field) (index : ℕ) (field : Field) (words rest : List (List ℕ)) (old mid new : List ℕ)
     → index < length fields → field ≡ get_or fields index field → FieldIsWritten field words rest old mid
     → AreAppended (drop (index + 1) fields) rest mid new → AreAppended (drop index fields) words old new
@@ -75,21 +64,6 @@ ok_appended (Ok done) fields index field words rest old mid new inside is one h 
     one_appended fields index field words rest old mid new inside is one h
 ok_appended (Err why) fields index field words rest old mid new inside is one h = h
 
--- enough words are left for a field, and for those behind it
-pub field_fits : (fields : List Field) (index : ℕ) (field : Field) (words : List (List ℕ)) → index < length fields
-    → field ≡ get_or fields index field → length words ≡ total (drop index fields) → count_of field ≤ length words
-field_fits fields index field words inside is enough =
-    let counts : length words ≡ count_of field + total (drop (index + 1) fields) = enough ∙ ap total (left_is fields index field inside is) in
-    omega (arith, counts)
-
-pub enough_left : (fields : List Field) (index : ℕ) (field : Field) (words rest : List (List ℕ)) (old new : List ℕ) → index < length fields
-    → field ≡ get_or fields index field → length words ≡ total (drop index fields) → FieldIsWritten field words rest old new
-    → length rest ≡ total (drop (index + 1) fields)
-enough_left fields index field words rest old new inside is enough one =
-    let counts : length words ≡ count_of field + total (drop (index + 1) fields) = enough ∙ ap total (left_is fields index field inside is) in
-    let parts : length words ≡ length one.mine + length rest = ap length one.split ∙ length-append one.mine rest in
-    omega (arith, counts, parts, one.counted)
-
 -- a fault of a field, and of the fields behind it
 pub field_refused : (fields : List Field) (index : ℕ) (field : Field) (words : List (List ℕ)) (fault : FieldsFault) → index < length fields
     → field ≡ get_or fields index field → IsFieldRefused (index + 1) field words fault → AreRefusedFrom (index + 1) (drop index fields) words fault
@@ -106,17 +80,6 @@ behind fields index field words rest old new fault inside is one h =
     subst (λ (fs : List Field). IsWriteFaultFrom (index + 1) fs words fault) (sym (left_is fields index field inside is))
     (inr (one.written.values, (rest, (field_parses field words rest old new one, h))))
 
-pub others_refused : (fields : List Field) (index : ℕ) (field : Field) (words rest : List (List ℕ)) (old new : List ℕ) (fault : FieldsFault)
-    → index < length fields → field ≡ get_or fields index field → FieldIsWritten field words rest old new
-    → AreRefusedFrom (index + 1 + 1) (drop (index + 1) fields) rest fault → AreRefusedFrom (index + 1) (drop index fields) words fault
-others_refused fields index field words rest old new faults.Memory inside is one h = tt
-others_refused fields index field words rest old new (faults.Trailing count) inside is one h =
-    behind fields index field words rest old new (faults.Trailing count) inside is one h
-others_refused fields index field words rest old new (faults.Count wanted given) inside is one h =
-    behind fields index field words rest old new (faults.Count wanted given) inside is one h
-others_refused fields index field words rest old new (faults.Field number fault) inside is one h =
-    behind fields index field words rest old new (faults.Field number fault) inside is one h
-
 -- a fault of a field is never one of the number of words
 no_count : (number : ℕ) (fields : List Field) (words : List (List ℕ)) (wanted given : ℕ)
     → IsWriteFaultFrom number fields words (faults.Count wanted given) → ⊥
@@ -132,10 +95,3 @@ all_refused fields words (faults.Field number fault) enough h = (enough, h)
 all_refused fields words (faults.Count wanted given) enough h = absurd (no_count 1 fields words wanted given h)
 
 -- ---- how many values the fields have
-
-pub total_more : (fields : List Field) (index : ℕ) (field : Field) → index < length fields → field ≡ get_or fields index field
-    → total (drop index fields) ≡ count_of field + total (drop (index + 1) fields)
-total_more fields index field inside is = ap total (left_is fields index field inside is)
-
-pub total_end : (fields : List Field) (index : ℕ) → length fields ≡ index → total (drop index fields) ≡ 0
-total_end fields index all = ap total (nothing_left fields index all)

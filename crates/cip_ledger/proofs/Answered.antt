@@ -3,13 +3,14 @@ use Rattle.std.proofs.Common.{◌≡◌, ◌≢◌, ◌⊎◌, inl, inr, ℕ, �
 use Rattle.std.specs.Prelude.{option_map}
 use Rattle.std.proofs.lemmas.Bool.{eqb-true, ltb-false}
 use Rattle.cip_message.specs.Reply.{reply_service}
-use Rattle.cip_objects.specs.Router.{general_status}
+use Rattle.cip_message.specs.Router.{general_status}
 use Rattle.cip_ledger.specs.Status.{status_number}
 use Rattle.cip_ledger.specs.declared.router.LedgerRouter.{LedgerRouter}
-use Rattle.cip_ledger.specs.declared.service.TheConstants as services
+use Rattle.cip_message.specs.declared.ledger_services.TheConstants as services
 use Rattle.cip_ledger.specs.declared.target.Standing.{Standing}
 use Rattle.cip_ledger.specs.Ledger.{LedgerState, SlotState, slot_of}
-use Rattle.cip_ledger.specs.Requests.{LedgerRequest, Command, command_of, ledger_request}
+use Rattle.cip_ledger.specs.Requests.{LedgerRequest, command_of, ledger_request}
+use Rattle.cip_message.specs.LedgerCommand.{Command}
 use Rattle.cip_ledger.specs.Services.{Action, Replies, Executes, Queues, Frees, success, reply_to, last_content}
 use Rattle.cip_ledger.specs.Turn.{Fate, Passed, Served, fate, turn_by, with_taken, slot_done, slot_queued, embedded_reply}
 use Rattle.cip_ledger.specs.Runs.{Request, slot_in, command_by, command_given, Event, Executed, Freed}

@@ -91,12 +91,6 @@ completed_front zero ticket reply taken = taken
 completed_front (suc n) ticket reply [] = []
 completed_front (suc n) ticket reply (slot ∷ taken) = completed_slot ticket reply slot ∷ completed_front n ticket reply taken
 
-pub length-front : (n ticket : ℕ) (reply : List ℕ) (taken : List SlotState) →
-    length (completed_front n ticket reply taken) ≡ length taken
-length-front zero ticket reply taken = refl
-length-front (suc n) ticket reply [] = refl
-length-front (suc n) ticket reply (slot ∷ taken) = ap suc (length-front n ticket reply taken)
-
 -- the next one is as it was
 pub front-at : (n ticket : ℕ) (reply : List ℕ) (taken : List SlotState) (d : SlotState) → n < length taken →
     get_or (completed_front n ticket reply taken) n d ≡ get_or taken n d

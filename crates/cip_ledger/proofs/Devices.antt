@@ -1,7 +1,7 @@
 -- The objects with a ledger before them: every reply is well-formed, and which requests change nothing.
 use Rattle.std.proofs.Common.{◌≡◌, ℕ, ◌≤◌, ◌==◌, Bool, true, false, if◌then◌else◌, None, Option, Some, option_map, inr, List, [], ◌∷◌, ◌++◌, length, slice_index, Ok, refl, ap, ◌∙◌, arith}
 use Rattle.std.proofs.lemmas.Bool.{eqb-true}
-use Rattle.cip_objects.specs.Router.{IsReplyTo, RepliesWellFormed}
+use Rattle.cip_message.specs.Router.{IsReplyTo, RepliesWellFormed}
 use Rattle.cip_objects.specs.OwnRequests.{Asked, own_request}
 use Rattle.cip_owner.specs.Owned.{OwnedState, exec_owned, asks}
 use Rattle.cip_owner.specs.Queue.{QueueState}
@@ -13,7 +13,7 @@ use Rattle.cip_message.specs.PathReading.{path_of}
 use Rattle.cip_message.specs.Request.{Request as Spelled, request_of}
 use Rattle.cip_ledger.specs.declared.status.Status.TheVariants as statuses
 use Rattle.cip_ledger.specs.declared.target.Standing.TheVariants as standings
-use Rattle.cip_ledger.specs.declared.request.TheConstants.{LEDGER}
+use Rattle.cip_message.specs.declared.ledger_services.TheConstants.{LEDGER}
 use Rattle.cip_ledger.specs.Requests.{LedgerRequest, ledger_request, request_by_path, request_by_parts, is_barred}
 use Rattle.cip_ledger.specs.Services.{Replies, Executes, Queues, Frees, KEPT_LIMIT, reply_to, refusal}
 use Rattle.cip_ledger.specs.Turn.{Fate, Passed, Served, fate, Turn, turn_by}

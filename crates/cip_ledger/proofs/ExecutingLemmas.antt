@@ -4,7 +4,8 @@ use Rattle.std.specs.Prelude.{slice_get, nat_lt}
 use Rattle.std.proofs.lemmas.Bool.{eq-eqb, ne_eqb, eqb-true}
 use Rattle.std.proofs.lemmas.Bool.Decides.{nat_tests}
 use Rattle.cip_ledger.specs.declared.doubt.DoubtfulCommand.{DoubtfulCommand}
-use Rattle.cip_ledger.specs.declared.service.TheConstants as services
+use Rattle.cip_message.specs.declared.ledger_services.TheConstants as services
+use Rattle.cip_ledger.specs.declared.service.TheConstants as common
 use Rattle.cip_ledger.specs.declared.target.Standing.{Standing}
 use Rattle.cip_ledger.specs.declared.target.Standing.TheVariants as standings
 use Rattle.cip_ledger.specs.declared.status.Status.{Status}
@@ -12,7 +13,8 @@ use Rattle.cip_ledger.specs.declared.status.Status.TheVariants as statuses
 use Rattle.cip_ledger.specs.Doubt.{can_doubt, can_doubt_at, doubted, with_last, is_in_doubt, is_in_doubt_at}
 use Rattle.cip_ledger.specs.Executing.{name_of, new_command, executed_by, executed_in, command_of, doubtful, IsDoubtedAt}
 use Rattle.cip_ledger.specs.Ledger.{SlotState, LedgerState, slot_of, is_pending}
-use Rattle.cip_ledger.specs.Requests.{LedgerRequest, Command, ledger_request}
+use Rattle.cip_ledger.specs.Requests.{LedgerRequest, ledger_request}
+use Rattle.cip_message.specs.LedgerCommand.{Command}
 use Rattle.cip_ledger.specs.Requests as requests
 use Rattle.cip_ledger.specs.Runs.{Request}
 use Rattle.cip_bytes.specs.Numbers.{number_at}
@@ -184,10 +186,10 @@ module _ (ledger : LedgerState) (max_size : ℕ) (request : LedgerRequest) where
   after_slots = if request.service == services.GET_SLOTS then Replies slots else after_withdraw
 
   abbrev after_list : Action
-  after_list = if request.service == services.GET_ATTRIBUTE_LIST then Replies list else after_slots
+  after_list = if request.service == common.GET_ATTRIBUTE_LIST then Replies list else after_slots
 
   abbrev after_one : Action
-  after_one = if request.service == services.GET_ATTRIBUTE_SINGLE then Replies one else after_list
+  after_one = if request.service == common.GET_ATTRIBUTE_SINGLE then Replies one else after_list
 
   abbrev after_forget : Action
   after_forget = if request.service == services.FORGET then forget ledger request.data else after_one
@@ -205,8 +207,8 @@ module _ (ledger : LedgerState) (max_size : ℕ) (request : LedgerRequest) where
       (replied_or ledger (request.service == services.GET_LAST) last after_forget
       (either ledger (request.service == services.FORGET) (forget ledger request.data) after_one
       (by_forgetting ledger request.data)
-      (replied_or ledger (request.service == services.GET_ATTRIBUTE_SINGLE) one after_list
-      (replied_or ledger (request.service == services.GET_ATTRIBUTE_LIST) list after_slots
+      (replied_or ledger (request.service == common.GET_ATTRIBUTE_SINGLE) one after_list
+      (replied_or ledger (request.service == common.GET_ATTRIBUTE_LIST) list after_slots
       (replied_or ledger (request.service == services.GET_SLOTS) slots after_withdraw
       (replied_or ledger (request.service == services.WITHDRAW) withdrawn (refuses statuses.ServiceNotSupported)
       (by_reply ledger (refusal statuses.ServiceNotSupported))))))))

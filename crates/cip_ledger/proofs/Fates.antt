@@ -5,12 +5,14 @@ use Rattle.std.proofs.lemmas.Bool.{eq-eqb, eqb-true, eqb-false, ltb-true, ltb-fa
 use Rattle.cip_bytes.specs.Numbers.{le, number_at, words_of}
 use Rattle.cip_ledger.specs.declared.status.Status.{Status}
 use Rattle.cip_ledger.specs.declared.status.Status.TheVariants as statuses
-use Rattle.cip_ledger.specs.declared.service.TheConstants as services
+use Rattle.cip_message.specs.declared.ledger_services.TheConstants as services
+use Rattle.cip_ledger.specs.declared.service.TheConstants as common
 use Rattle.cip_ledger.specs.declared.target.Standing.{Standing}
 use Rattle.cip_ledger.specs.declared.target.Standing.TheVariants as standings
 use Rattle.cip_ledger.specs.Status.{status_number}
 use Rattle.cip_ledger.specs.Ledger.{LedgerState, SlotState, slot_of, is_pending}
-use Rattle.cip_ledger.specs.Requests.{LedgerRequest, Command, command_of, ledger_request}
+use Rattle.cip_ledger.specs.Requests.{LedgerRequest, command_of, ledger_request}
+use Rattle.cip_message.specs.LedgerCommand.{Command}
 use Rattle.cip_ledger.specs.Standings.{embedded_standing, by_standing, at_router}
 use Rattle.cip_ledger.specs.SlotList.{slot_list}
 use Rattle.cip_ledger.specs.Services.{Answer, Action, Replies, Executes, Queues, Frees, refusal, refuses, success, within, size_fault, unless, last_content, KEPT_LIMIT, HEAD_SIZE, do_once, do_command, do_by_slot, do_greater, do_new, get_last, last_in, forget, forget_in, get_slots, withdraw, withdraw_of, withdraw_in, single, value_named, class_answer, class_values, get_attribute_list, list_answer, ledger_values, instance_action, action_of}
@@ -328,10 +330,10 @@ module _ (ledger : LedgerState) (max_size : ℕ) (request : LedgerRequest) where
       let zero = eqb-true request.instance 0 h in let one = eqb-true request.instance 1 i in absurd (omega (arith, zero, one))
   instance_means true false h i =
       no_command_of ledger max_size None None (class_answer max_size request) refl
-      (λ least. class-fits (request.service == services.GET_ATTRIBUTE_SINGLE) least)
+      (λ least. class-fits (request.service == common.GET_ATTRIBUTE_SINGLE) least)
   instance_means false true h i =
       service_means (request.service == services.DO_ONCE) (request.service == services.GET_LAST) (request.service == services.FORGET)
-      (request.service == services.GET_ATTRIBUTE_SINGLE) (request.service == services.GET_ATTRIBUTE_LIST)
+      (request.service == common.GET_ATTRIBUTE_SINGLE) (request.service == common.GET_ATTRIBUTE_LIST)
       (request.service == services.GET_SLOTS) (request.service == services.WITHDRAW) refl refl
   instance_means false false h i =
       refused_of ledger max_size None None statuses.PathDestinationUnknown (λ e. absurd (omega (arith, e))) (λ e. absurd (omega (arith, e)))

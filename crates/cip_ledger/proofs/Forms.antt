@@ -6,7 +6,7 @@ use Rattle.cip_message.specs.declared.request.RequestFault.TheVariants.{PathSize
 use Rattle.cip_message.specs.PathReading.{path_of}
 use Rattle.cip_message.specs.Request.{Request as Spelled, request_of}
 use Rattle.cip_message.specs.Reply.{reply_service}
-use Rattle.cip_objects.specs.Router.{IsReplyTo, RepliesWellFormed}
+use Rattle.cip_message.specs.Router.{IsReplyTo, RepliesWellFormed}
 use Rattle.cip_ledger.specs.declared.router.LedgerRouter.{LedgerRouter}
 use Rattle.cip_ledger.specs.declared.target.Standing.{Standing}
 use Rattle.cip_ledger.specs.Ledger.{LedgerState}

@@ -3,7 +3,7 @@ use Rattle.std.proofs.Common.{◌≢◌, ℕ, List, [], ◌∷◌, refl, sym, �
 use Rattle.std.specs.Prelude.{map}
 use Rattle.std.specs.List.{AllByRecursion}
 use Rattle.cip_ledger.specs.declared.target.Standing.{Standing}
-use Rattle.cip_ledger.specs.Requests.{Command}
+use Rattle.cip_message.specs.LedgerCommand.{Command}
 use Rattle.cip_ledger.specs.Runs.{Event, Executed, Freed}
 use Rattle.cip_ledger.specs.Laws.{AreOfLife, IsNotExecuted, AreApart, IsOnceInAll, Life, begun, HaveOwnNumbers, journal_of}
 use Rattle.cip_ledger.proofs.Settled.{journal-life, journal-rises}

@@ -3,14 +3,15 @@ use Rattle.std.proofs.Common.{◌≡◌, ◌≢◌, ℕ, ◌<◌, ◌==◌, ◌&
 use Rattle.std.specs.Prelude.{◌||◌, map, option_map, is_some}
 use Rattle.std.proofs.lemmas.Bool.{eq-eqb, eqb-true, eqb-false, le-ltb, ne_eqb, and_parts}
 use Rattle.cip_ledger.specs.declared.router.LedgerRouter.{LedgerRouter}
-use Rattle.cip_ledger.specs.declared.service.TheConstants as services
+use Rattle.cip_message.specs.declared.ledger_services.TheConstants as services
 use Rattle.cip_ledger.specs.declared.status.Status.TheVariants as statuses
 use Rattle.cip_ledger.specs.declared.target.Standing.{Standing}
 use Rattle.cip_ledger.specs.Doubt.{is_doubtful, is_in_doubt_at, is_in_doubt, is_kept_reply, can_settle, with_last, settled}
 use Rattle.cip_ledger.specs.Ledger.{LedgerState, SlotState, slot_of, with_slot, is_pending}
 use Rattle.cip_ledger.specs.Pending.{is_pending_at, any_pending, completed_slot, done_with, with_completed, completed}
 use Rattle.cip_ledger.specs.PendingLaws.{IsPending, Step, Asks, Completes, Changes, Withdraws, completed_if, result_in, IsNotWithdrawn, node_step, node_after_steps}
-use Rattle.cip_ledger.specs.Requests.{LedgerRequest, Command, ledger_request}
+use Rattle.cip_ledger.specs.Requests.{LedgerRequest, ledger_request}
+use Rattle.cip_message.specs.LedgerCommand.{Command}
 use Rattle.cip_ledger.specs.Runs.{Request, slot_in, command_by, command_given, turn_at, Event, Executed, events_by, journal}
 use Rattle.cip_ledger.specs.Standings.{at_router}
 use Rattle.cip_ledger.specs.Services.{Replies, Executes, Queues, Frees, refuses, reply_to, refusal, do_command, do_by_slot, action_of}

@@ -3,7 +3,7 @@ use Rattle.std.proofs.Common.{◌≡◌, ◌≢◌, inl, inr, ℕ, ◌+◌, ◌�
 use Rattle.std.specs.Prelude.{option_map, is_some}
 use Rattle.std.proofs.lemmas.Bool.{eq-eqb, eqb-true, eqb-false, ltb-true, and_parts}
 use Rattle.cip_ledger.specs.declared.router.LedgerRouter.{LedgerRouter}
-use Rattle.cip_ledger.specs.declared.service.TheConstants as services
+use Rattle.cip_message.specs.declared.ledger_services.TheConstants as services
 use Rattle.cip_ledger.specs.declared.target.Standing.{Standing}
 use Rattle.cip_ledger.specs.declared.withdrawal.Withdrawal.{Withdrawal}
 use Rattle.cip_ledger.specs.Doubt.{is_kept_reply}
@@ -12,7 +12,7 @@ use Rattle.cip_ledger.specs.Laws.{IsNotFreed, Succeeds}
 use Rattle.cip_ledger.specs.Ledger.{LedgerState, SlotState, slot_of, is_pending, slot_withdrawn}
 use Rattle.cip_ledger.specs.Pending.{has_ticket, is_pending_at, any_pending, done_with, completed_slot, can_complete, with_completed, completed}
 use Rattle.cip_ledger.specs.PendingLaws.{IsPending, Step, Asks, Completes, Changes, Withdraws, completed_if, withdrawn_if, slot_after, result_in, IsNotWithdrawn, content_by, node_step, node_after_steps, journal_of_step, journal_of_steps, AreAnswersOf}
-use Rattle.cip_ledger.specs.Requests.{Command}
+use Rattle.cip_message.specs.LedgerCommand.{Command}
 use Rattle.cip_ledger.specs.Runs.{Request, slot_in, turn_at, next, events_by}
 use Rattle.cip_ledger.specs.Services.{success, reply_to, state_content, last_content, DONE, PENDING, WITHDRAWN, HEAD_SIZE}
 use Rattle.cip_ledger.specs.Turn.{fate, turn_of}

@@ -3,7 +3,8 @@ use Rattle.std.proofs.Common.{◌≡◌, ℕ, Bool, true, false, if◌then◌els
 use Rattle.cip_ledger.specs.declared.router.LedgerRouter.{LedgerRouter}
 use Rattle.cip_ledger.specs.declared.target.Standing.{Standing}
 use Rattle.cip_ledger.specs.Ledger.{LedgerState}
-use Rattle.cip_ledger.specs.Requests.{LedgerRequest, Command, ledger_request, is_barred}
+use Rattle.cip_ledger.specs.Requests.{LedgerRequest, ledger_request, is_barred}
+use Rattle.cip_message.specs.LedgerCommand.{Command}
 use Rattle.cip_ledger.specs.Executing.{new_command, executed_by, executed_in, command_of}
 use Rattle.cip_ledger.specs.Services.{Action, Replies, Executes, Queues, Frees, KEPT_LIMIT, action_of}
 use Rattle.cip_ledger.specs.Standings.{new_at_router, at_router}
@@ -46,17 +47,6 @@ module _ {M : Type 0} (standing : M → List ℕ → Standing) (router : M) wher
   executed_some (Queues new ticket) command some =
       ap (λ o. executed_by (new_at_router standing router (unwrap_or o command))) some
   executed_some (Frees originator) command some = absurd (cc)
-
-  -- the command that a request would execute
-  pub command_without : (ledger : Option LedgerState) (request : Request) → ledger ≡ None
-      → command_of standing ledger router request ≡ None
-  command_without ledger request is = ap (λ l. command_of standing l router request) is
-
-  pub command_other : (ledger : Option LedgerState) (request : Request) → ledger_request request.1 ≡ None
-      → command_of standing ledger router request ≡ None
-  command_other None request other = refl
-  command_other (Some ledger) request other =
-      ap (λ own. executed_in (fate_of standing ledger router request.0 own)) other
 
   command_read : (ledger : Option LedgerState) (state : LedgerState) (request : Request) (own : LedgerRequest)
       → ledger ≡ Some state → ledger_request request.1 ≡ Some own
@@ -108,12 +98,6 @@ module _ {M : Type 0} (after : M → ℕ → List ℕ → M) (answer : M → ℕ
   pub reached_other : (node : LedgerRouter M) (request : Request) → ledger_request request.1 ≡ None
       → reached after answer standing node (request ∷ []) ≡ request ∷ []
   reached_other node request other = passed node request node.ledger refl other
-
-  -- and so does each one if there is no ledger
-  pub reached_without : (node : LedgerRouter M) (request : Request) → node.ledger ≡ None
-      → reached after answer standing node (request ∷ []) ≡ request ∷ []
-  reached_without node request is =
-      ap (λ l. reached_by after answer (fate standing l node.router request.0 request.1) request ++ []) is
 
   reached_read : (node : LedgerRouter M) (request : Request) (ledger : LedgerState) (own : LedgerRequest)
       → node.ledger ≡ Some ledger → ledger_request request.1 ≡ Some own

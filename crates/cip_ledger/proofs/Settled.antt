@@ -5,7 +5,8 @@ use Rattle.std.specs.List.{AllByRecursion}
 use Rattle.std.proofs.lemmas.Bool.{eqb-true, eqb-false}
 use Rattle.cip_ledger.specs.declared.router.LedgerRouter.{LedgerRouter}
 use Rattle.cip_ledger.specs.Ledger.{LedgerState, SlotState, slot_of, without_slot, is_pending}
-use Rattle.cip_ledger.specs.Requests.{Command, is_barred}
+use Rattle.cip_ledger.specs.Requests.{is_barred}
+use Rattle.cip_message.specs.LedgerCommand.{Command}
 use Rattle.cip_ledger.specs.declared.target.Standing.{Standing}
 use Rattle.cip_ledger.specs.Services.{Replies, Executes, Queues, Frees, last_content, KEPT_LIMIT, DONE, PENDING}
 use Rattle.cip_ledger.specs.Turn.{Fate, Passed, Served, fate, turn_by, with_taken, with_freed, slot_done, slot_queued, embedded_reply}

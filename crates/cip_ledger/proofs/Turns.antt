@@ -1,10 +1,12 @@
 -- Turns of services that no router takes part in.
 use Rattle.std.proofs.Common.{◌≡◌, ℕ, Option, Some, None, List, [], ◌∷◌, ap, sym, ◌∙◌, subst}
-use Rattle.cip_ledger.specs.declared.service.TheConstants as services
+use Rattle.cip_message.specs.declared.ledger_services.TheConstants as services
+use Rattle.cip_ledger.specs.declared.service.TheConstants as common
 use Rattle.cip_ledger.specs.declared.target.Standing.{Standing}
 use Rattle.cip_ledger.specs.Ledger.{LedgerState, SlotState, with_slot}
-use Rattle.cip_ledger.specs.Requests.{LedgerRequest, Command}
-use Rattle.cip_ledger.specs.Standings.{embedded_standing, by_standing, new_at_router, at_router}
+use Rattle.cip_ledger.specs.Requests.{LedgerRequest}
+use Rattle.cip_message.specs.LedgerCommand.{Command}
+use Rattle.cip_ledger.specs.Standings.{at_router}
 use Rattle.cip_ledger.specs.Services.{Action, Replies, Executes, Queues, Frees, forget, get_attribute_list, ledger_values, instance_action, reply_to, success, DONE, PENDING}
 use Rattle.cip_ledger.specs.Turn.{turn_of, acted, ActsAlone, with_freed, with_executed, with_queued, embedded_reply, after_embedded}
 
@@ -34,8 +36,8 @@ module _ {M : Type 0} (after : M → ℕ → List ℕ → M) (answer : M → ℕ
         (acts-acted (forget old bytes) services.FORGET new text acts)
 
     -- Get_Attribute_List
-    pub list_turn : service ≡ services.GET_ATTRIBUTE_LIST → (text : List ℕ) →
-        text ≡ reply_to services.GET_ATTRIBUTE_LIST (get_attribute_list (ledger_values old) max_size bytes) →
+    pub list_turn : service ≡ common.GET_ATTRIBUTE_LIST → (text : List ℕ) →
+        text ≡ reply_to common.GET_ATTRIBUTE_LIST (get_attribute_list (ledger_values old) max_size bytes) →
         turn_of (Some old) router text
         ≡ acted after answer
         (at_router standing router (instance_action old max_size (record { service = service; instance = instance; attribute = attribute; «data» = bytes })))
@@ -77,11 +79,3 @@ module _ {M : Type 0} (after : M → ℕ → List ℕ → M) (answer : M → ℕ
       ∙ ap (λ l. turn_of (Some (with_queued command ticket l)) router_left text) old_is
       ∙ ap (λ m. turn_of (Some (with_queued command ticket old)) m text) router_is
       ∙ ap (λ t. turn_of (Some (with_queued command ticket old)) (after_embedded after answer router command.request) t) text_is
-
-  -- a command that is new, by what the router makes of it
-  pub taken_turn : (command : Command) (is : Standing) (new : LedgerState) (router_left : M) (text : List ℕ) →
-      is ≡ embedded_standing standing router command.request →
-      turn_of (Some new) router_left text ≡ acted after answer (by_standing is command) services.DO_ONCE (Some old) router →
-      turn_of (Some new) router_left text ≡ acted after answer (new_at_router standing router command) services.DO_ONCE (Some old) router
-  taken_turn command is new router_left text is_so turn =
-      turn ∙ ap (λ s. acted after answer (by_standing s command) services.DO_ONCE (Some old) router) is_so

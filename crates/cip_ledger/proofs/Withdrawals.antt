@@ -4,15 +4,15 @@ use Rattle.std.specs.Prelude.{option_map, is_some}
 use Rattle.std.specs.Option.{option_and_then}
 use Rattle.std.proofs.lemmas.Bool.{eqb-true, eqb-false, ltb-true, ne_eqb, le-ltb}
 use Rattle.cip_bytes.specs.Numbers.{number_at}
-use Rattle.cip_ledger.specs.declared.service.TheConstants as services
+use Rattle.cip_message.specs.declared.ledger_services.TheConstants as services
 use Rattle.cip_ledger.specs.declared.withdrawal.Withdrawal.{Withdrawal}
 use Rattle.cip_ledger.specs.Device.{Device}
 use Rattle.cip_ledger.specs.Ledger.{LedgerState, SlotState, slot_of, is_pending, is_withdrawn, slot_withdrawn}
-use Rattle.cip_ledger.specs.Requests.{LedgerRequest, ledger_request, do_once_with}
+use Rattle.cip_ledger.specs.Requests.{LedgerRequest, ledger_request}
 use Rattle.cip_ledger.specs.Runs.{slot_in}
 use Rattle.cip_ledger.specs.Turn.{with_taken}
 use Rattle.cip_ledger.specs.Services.{last_content, state_content, WITHDRAWN}
-use Rattle.cip_ledger.specs.Withdrawing.{of_command, of_pending, of_unused, withdraw_by_slot, by_withdraw, forget_by_slot, by_forget, withdrawal_by, withdrawal_of, can_withdraw, has_place, with_withdrawn, withdrawn, left_device, with_withdrawal, withdrawn_from, found_by}
+use Rattle.cip_ledger.specs.Withdrawing.{of_command, of_pending, of_unused, withdraw_by_slot, by_withdraw, forget_by_slot, by_forget, withdrawal_by, withdrawal_of, can_withdraw, has_place, with_withdrawn, withdrawn, withdrawn_from, found_by}
 use Rattle.cip_ledger.proofs.Fates.{IsNewAt, HasEnded}
 use Rattle.cip_ledger.proofs.SlotLemmas.{slot_of-with_slot, slot_of-with_other}
 
@@ -140,12 +140,6 @@ module _ (ledger : LedgerState) (w : Withdrawal) where
       go None e = absurd (none-some w e)
       go (Some request) e = request-facts request e
 
--- if the originator has no slot, one is free
-pub withdraws-free : (ledger : LedgerState) (w : Withdrawal) → Withdraws ledger w → slot_of w.originator ledger.taken ≡ None
-    → length ledger.taken < ledger.slots
-withdraws-free ledger w (inl is) none = absurd (none-some is.slot (sym none ∙ is.found))
-withdraws-free ledger w (inr is) none = is.free none
-
 -- ---- the slots afterwards
 
 pub withdrawn-own : (ledger : LedgerState) (originator number : ℕ) → has_place ledger originator ≡ true
@@ -246,31 +240,6 @@ forget-named originator number (Some slot) w e = go (is_pending slot) e
 
 -- ---- the device as a request finds it
 
--- by what the request withdraws
-pub by-withdrawal : (P : Device → Type 0) (device : Device) (text : List ℕ) → P device
-    → ((ledger : LedgerState) (w : Withdrawal) (left : Device) → device.ledger ≡ Some ledger → Withdraws ledger w
-    → left_device w.ticket device ≡ Some left → P (with_withdrawal w left))
-    → P (found_by text device)
-by-withdrawal P device text same more = go device.ledger refl
-  where
-    of_left : (ledger : LedgerState) (w : Withdrawal) (left : Option Device) → device.ledger ≡ Some ledger
-        → Withdraws ledger w → left_device w.ticket device ≡ left
-        → P (unwrap_or (option_map (with_withdrawal w) left) device)
-    of_left ledger w None is facts e = same
-    of_left ledger w (Some left) is facts e = more ledger w left is facts e
-
-    of_withdrawal : (ledger : LedgerState) (found : Option Withdrawal) → device.ledger ≡ Some ledger
-        → withdrawal_of (Some ledger) text ≡ found
-        → P (unwrap_or (option_and_then (withdrawn_from device) found) device)
-    of_withdrawal ledger None is e = same
-    of_withdrawal ledger (Some w) is e =
-        of_left ledger w (left_device w.ticket device) is (withdraws ledger w text e) refl
-
-    go : (ledger : Option LedgerState) → device.ledger ≡ ledger
-        → P (unwrap_or (option_and_then (withdrawn_from device) (withdrawal_of ledger text)) device)
-    go None is = same
-    go (Some ledger) is = of_withdrawal ledger (withdrawal_of (Some ledger) text) is refl
-
 -- without a ledger, and of a request that is not to the ledger's class, it is as it was
 pub unasked : (device : Device) (text : List ℕ) → ledger_request text ≡ None → found_by text device ≡ device
 unasked device text none = go device.ledger
@@ -280,34 +249,6 @@ unasked device text none = go device.ledger
     go None = refl
     go (Some ledger) =
         ap (λ o. unwrap_or (option_and_then (withdrawn_from device) (option_and_then (withdrawal_by ledger) o)) device) none
-
--- nor does one of another service
-other-service : (ledger : LedgerState) (asked : LedgerRequest) → (asked.service == services.WITHDRAW) ≡ false
-    → (asked.service == services.FORGET) ≡ false → withdrawal_by ledger asked ≡ None
-other-service ledger asked no_withdraw no_forget = go (asked.instance == 1)
-  where
-    go : (own : Bool) → (if own then (if asked.service == services.WITHDRAW then by_withdraw ledger asked.data
-        else (if asked.service == services.FORGET then by_forget ledger asked.data else None)) else None) ≡ None
-    go true = rw (no_withdraw, no_forget) refl
-    go false = refl
-
-pub other-unasked : (node : Device) (text : List ℕ) (asked : LedgerRequest) → ledger_request text ≡ Some asked
-    → (asked.service == services.WITHDRAW) ≡ false → (asked.service == services.FORGET) ≡ false
-    → found_by text node ≡ node
-other-unasked node text asked is no_withdraw no_forget = go node.ledger
-  where
-    go : (ledger : Option LedgerState)
-        → unwrap_or (option_and_then (withdrawn_from node) (withdrawal_of ledger text)) node ≡ node
-    go None = refl
-    go (Some ledger) =
-        ap (λ o. unwrap_or (option_and_then (withdrawn_from node) (option_and_then (withdrawal_by ledger) o)) node) is
-        ∙ ap (λ o. unwrap_or (option_and_then (withdrawn_from node) o) node)
-        (other-service ledger asked no_withdraw no_forget)
-
--- Do_Once withdraws nothing
-pub once-unasked : (node : Device) (text bytes : List ℕ) → ledger_request text ≡ Some (do_once_with bytes)
-    → found_by text node ≡ node
-once-unasked node text bytes is = other-unasked node text (do_once_with bytes) is refl refl
 
 -- ---- a command that was withdrawn
 

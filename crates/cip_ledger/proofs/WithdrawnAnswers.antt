@@ -4,7 +4,7 @@ use Rattle.std.specs.Prelude.{option_map, is_some}
 use Rattle.std.specs.Option.{option_and_then}
 use Rattle.std.proofs.lemmas.Bool.{eq-eqb, eqb-true, le-ltb, lt-ltb, and_parts}
 use Rattle.cip_bytes.specs.Numbers.{number_at}
-use Rattle.cip_ledger.specs.declared.service.TheConstants as services
+use Rattle.cip_message.specs.declared.ledger_services.TheConstants as services
 use Rattle.cip_ledger.specs.Device.{Device, owned_standing, exec_device, FinishedCommand, finished_of, finished_in, finished_text, with_finished}
 use Rattle.cip_ledger.specs.Doubt.{is_kept_reply}
 use Rattle.cip_ledger.specs.Pending.{with_completed, completed}

@@ -1,11 +1,11 @@
 -- What holds of commands in doubt over every list of requests, in whatever order they come.
 use Rattle.std.specs.Prelude.{◌≡◌, ℕ, ◌+◌, ◌<◌, ◌≤◌, true, false, Some, List, [], ◌∷◌, length, option_map}
 use Rattle.cip_ledger.specs.declared.router.LedgerRouter.{LedgerRouter}
-use Rattle.cip_ledger.specs.declared.service.TheConstants as services
+use Rattle.cip_message.specs.declared.ledger_services.TheConstants as services
 use Rattle.cip_ledger.specs.declared.target.Standing.{Standing}
 use Rattle.cip_ledger.specs.Doubt.{is_in_doubt, can_settle, settled}
 use Rattle.cip_ledger.specs.Ledger.{LedgerState, SlotState, slot_of}
-use Rattle.cip_ledger.specs.Requests.{Command}
+use Rattle.cip_message.specs.LedgerCommand.{Command}
 use Rattle.cip_ledger.specs.Services.{reply_to, success, DONE, IN_DOUBT, HEAD_SIZE}
 use Rattle.cip_ledger.specs.Turn.{turn_of}
 use Rattle.cip_ledger.specs.Laws.{UntilFreed}

@@ -4,7 +4,7 @@ use Rattle.cip_ledger.specs.declared.doubt.DoubtfulCommand.{DoubtfulCommand}
 use Rattle.cip_ledger.specs.declared.target.Standing.{Standing}
 use Rattle.cip_ledger.specs.Doubt.{doubted, is_in_doubt}
 use Rattle.cip_ledger.specs.Ledger.{SlotState, LedgerState}
-use Rattle.cip_ledger.specs.Requests.{Command}
+use Rattle.cip_message.specs.LedgerCommand.{Command}
 use Rattle.cip_ledger.specs.Runs.{Request}
 use Rattle.cip_ledger.specs.Services.{Action, Replies, Executes, Queues, Frees}
 use Rattle.cip_ledger.specs.Turn.{Fate, Passed, Served, fate}

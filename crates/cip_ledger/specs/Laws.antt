@@ -2,13 +2,14 @@
 use Rattle.std.specs.Prelude.{◌≡◌, ◌≢◌, ◌⊎◌, ⊤, ℕ, ◌+◌, ◌<◌, ◌≤◌, Option, Some, None, option_map, List, [], ◌∷◌, ◌++◌}
 use Rattle.std.specs.Prelude.{length, map, false}
 use Rattle.std.specs.List.{AllByRecursion}
-use Rattle.cip_objects.specs.Router.{general_status, RepliesWellFormed}
+use Rattle.cip_message.specs.Router.{general_status, RepliesWellFormed}
 use Rattle.cip_ledger.specs.declared.router.LedgerRouter.{LedgerRouter}
-use Rattle.cip_ledger.specs.declared.service.TheConstants as services
+use Rattle.cip_message.specs.declared.ledger_services.TheConstants as services
 use Rattle.cip_ledger.specs.declared.target.Standing.{Standing}
 use Rattle.cip_ledger.specs.declared.target.Standing.TheVariants as standings
 use Rattle.cip_ledger.specs.Ledger.{LedgerState, SlotState, empty_ledger, is_pending}
-use Rattle.cip_ledger.specs.Requests.{Command, ledger_request}
+use Rattle.cip_ledger.specs.Requests.{ledger_request}
+use Rattle.cip_message.specs.LedgerCommand.{Command}
 use Rattle.cip_ledger.specs.Services.{reply_to, success, DONE, PENDING, KEPT_LIMIT, HEAD_SIZE}
 use Rattle.cip_ledger.specs.Standings.{embedded_standing, new_at_router}
 use Rattle.cip_ledger.specs.Turn.{turn_of, acted, embedded_reply}

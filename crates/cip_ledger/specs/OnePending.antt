@@ -1,12 +1,12 @@
 -- An originator has one pending command at most.
 use Rattle.std.specs.Prelude.{◌≡◌, ℕ, ◌<◌, false, Some, None, List, [], ◌∷◌}
 use Rattle.cip_ledger.specs.declared.router.LedgerRouter.{LedgerRouter}
-use Rattle.cip_ledger.specs.declared.service.TheConstants as services
+use Rattle.cip_message.specs.declared.ledger_services.TheConstants as services
 use Rattle.cip_ledger.specs.declared.status.Status.TheVariants as statuses
 use Rattle.cip_ledger.specs.declared.target.Standing.{Standing}
 use Rattle.cip_ledger.specs.Ledger.{LedgerState, SlotState, is_pending}
 use Rattle.cip_ledger.specs.PendingLaws.{IsPending, Step, result_in, IsNotWithdrawn, node_after_steps}
-use Rattle.cip_ledger.specs.Requests.{Command}
+use Rattle.cip_message.specs.LedgerCommand.{Command}
 use Rattle.cip_ledger.specs.Runs.{Request, slot_in, command_given, turn_at, Executed, journal}
 use Rattle.cip_ledger.specs.Services.{reply_to, refusal}
 use Rattle.cip_ledger.specs.Turn.{turn_of}

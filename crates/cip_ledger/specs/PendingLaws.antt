@@ -2,14 +2,14 @@
 use Rattle.std.specs.Prelude.{◌≡◌, ⊤, ℕ, ◌+◌, ◌==◌, ◌&&◌, true, false, if◌then◌else◌, Option, Some, None, List, [], ◌∷◌}
 use Rattle.std.specs.Prelude.{◌++◌, length, option_map}
 use Rattle.cip_ledger.specs.declared.router.LedgerRouter.{LedgerRouter}
-use Rattle.cip_ledger.specs.declared.service.TheConstants as services
+use Rattle.cip_message.specs.declared.ledger_services.TheConstants as services
 use Rattle.cip_ledger.specs.declared.target.Standing.{Standing}
 use Rattle.cip_ledger.specs.Doubt.{is_kept_reply}
 use Rattle.cip_ledger.specs.DoubtLaws.{IsGiven}
 use Rattle.cip_ledger.specs.Laws.{IsNotFreed, Succeeds}
 use Rattle.cip_ledger.specs.Ledger.{LedgerState, SlotState, slot_of, is_pending, slot_withdrawn}
 use Rattle.cip_ledger.specs.Pending.{completed_slot, can_complete, completed}
-use Rattle.cip_ledger.specs.Requests.{Command}
+use Rattle.cip_message.specs.LedgerCommand.{Command}
 use Rattle.cip_ledger.specs.Runs.{Request, Event, slot_in, turn_at, answer_to, next, journal}
 use Rattle.cip_ledger.specs.Services.{reply_to, success, last_content, DONE, PENDING, HEAD_SIZE}
 use Rattle.cip_ledger.specs.Turn.{turn_of}

@@ -1,6 +1,7 @@
 -- What of one request would reach the router behind a ledger.
 use Rattle.std.specs.Prelude.{ℕ, if◌then◌else◌, Option, Some, None, List, [], ◌∷◌}
-use Rattle.cip_ledger.specs.Requests.{Command, is_barred}
+use Rattle.cip_ledger.specs.Requests.{is_barred}
+use Rattle.cip_message.specs.LedgerCommand.{Command}
 use Rattle.cip_ledger.specs.Services.{Action, Replies, Executes, Queues, Frees}
 
 -- What may be none, as a list.

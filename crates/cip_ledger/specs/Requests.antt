@@ -8,8 +8,9 @@ use Rattle.cip_message.specs.declared.path.PathFault.{PathFault}
 use Rattle.cip_message.specs.declared.request.RequestFault.{RequestFault}
 use Rattle.cip_message.specs.PathReading.{path_of}
 use Rattle.cip_message.specs.Request.{Request, request_of}
-use Rattle.cip_ledger.specs.declared.request.TheConstants.{LEDGER}
-use Rattle.cip_ledger.specs.declared.service.TheConstants.{DO_ONCE}
+use Rattle.cip_message.specs.LedgerCommand.{Command}
+use Rattle.cip_message.specs.declared.ledger_services.TheConstants.{LEDGER}
+use Rattle.cip_message.specs.declared.ledger_services.TheConstants.{DO_ONCE}
 
 -- a request to the ledger's class; the member of its path is ignored
 pub record LedgerRequest : Type 0 where
@@ -47,13 +48,6 @@ pub record IsShort (text : List ℕ) : Type 0 where
 -- Do_Once at the instance, with these data
 abbrev pub do_once_with : List ℕ → LedgerRequest
 do_once_with bytes = record { service = DO_ONCE; instance = 1; attribute = None; «data» = bytes }
-
--- a command: the device's life that it is for, who gives it, its number, and the request that it embeds
-pub record Command : Type 0 where
-  pub life : ℕ
-  pub originator : ℕ
-  pub number : ℕ
-  pub request : List ℕ
 
 -- the command in the data of Do_Once: ULINT, ULINT, UDINT, a router request
 abbrev pub command_of : List ℕ → Command

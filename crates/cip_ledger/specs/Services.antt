@@ -9,10 +9,12 @@ use Rattle.cip_objects.specs.Entries.{Attributes, attribute_in, class_attributes
 use Rattle.cip_objects.specs.ReadServices.{list_entry_of}
 use Rattle.cip_ledger.specs.declared.status.Status.{Status}
 use Rattle.cip_ledger.specs.declared.status.Status.TheVariants as statuses
-use Rattle.cip_ledger.specs.declared.service.TheConstants as services
+use Rattle.cip_message.specs.declared.ledger_services.TheConstants as services
+use Rattle.cip_ledger.specs.declared.service.TheConstants as common
 use Rattle.cip_ledger.specs.Status.{status_number}
 use Rattle.cip_ledger.specs.Ledger.{SlotState, LedgerState, slot_of, is_pending}
-use Rattle.cip_ledger.specs.Requests.{LedgerRequest, Command, command_of}
+use Rattle.cip_ledger.specs.Requests.{LedgerRequest, command_of}
+use Rattle.cip_message.specs.LedgerCommand.{Command}
 use Rattle.cip_ledger.specs.SlotList.{slot_list}
 
 -- the bytes of a reply before its data
@@ -231,7 +233,7 @@ get_attribute_list attributes max_size bytes =
 
 abbrev pub class_answer : ℕ → LedgerRequest → Answer
 class_answer max_size request =
-    if request.service == services.GET_ATTRIBUTE_SINGLE
+    if request.service == common.GET_ATTRIBUTE_SINGLE
     then single max_size request.data (value_named class_values request.attribute)
     else refusal statuses.ServiceNotSupported
 
@@ -240,9 +242,9 @@ instance_action ledger max_size request =
     if request.service == services.DO_ONCE then do_once ledger max_size request.data
     else (if request.service == services.GET_LAST then Replies (get_last ledger max_size request.data)
     else (if request.service == services.FORGET then forget ledger request.data
-    else (if request.service == services.GET_ATTRIBUTE_SINGLE
+    else (if request.service == common.GET_ATTRIBUTE_SINGLE
     then Replies (single max_size request.data (value_named (ledger_values ledger) request.attribute))
-    else (if request.service == services.GET_ATTRIBUTE_LIST
+    else (if request.service == common.GET_ATTRIBUTE_LIST
     then Replies (get_attribute_list (ledger_values ledger) max_size request.data)
     else (if request.service == services.GET_SLOTS then Replies (get_slots ledger max_size request.data)
     else (if request.service == services.WITHDRAW then Replies (withdraw ledger max_size request.data)

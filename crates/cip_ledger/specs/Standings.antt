@@ -3,7 +3,8 @@ use Rattle.std.specs.Prelude.{ℕ, if◌then◌else◌, List}
 use Rattle.cip_ledger.specs.declared.status.Status.TheVariants as statuses
 use Rattle.cip_ledger.specs.declared.target.Standing.{Standing}
 use Rattle.cip_ledger.specs.declared.target.Standing.TheVariants as standings
-use Rattle.cip_ledger.specs.Requests.{Command, is_barred}
+use Rattle.cip_ledger.specs.Requests.{is_barred}
+use Rattle.cip_message.specs.LedgerCommand.{Command}
 use Rattle.cip_ledger.specs.Services.{Action, Replies, Executes, Queues, Frees, refuses}
 
 -- What the ledger does with a new command: it executes it, executes it and keeps the ticket under which the router

@@ -1,7 +1,7 @@
 -- A reply "reply data too large" goes with an unchanged ledger and router.
 use Rattle.std.specs.Prelude.{◌≡◌, ℕ, ◌≤◌, Option, List, refl}
 use Rattle.std.proofs.Common.{arith, ap}
-use Rattle.cip_objects.specs.Router.{general_status, REPLY_TOO_LARGE}
+use Rattle.cip_message.specs.Router.{general_status, REPLY_TOO_LARGE}
 use Rattle.cip_ledger.specs.Ledger.{LedgerState}
 use Rattle.cip_ledger.specs.declared.target.Standing.{Standing}
 use Rattle.cip_ledger.specs.Services.{Replies, Executes, Queues, Frees}

@@ -3,7 +3,8 @@ use Rattle.std.specs.Prelude.{◌≡◌, ℕ, Option, Some, None, option_map, Li
 use Rattle.cip_ledger.specs.declared.status.Status.TheVariants as statuses
 use Rattle.cip_ledger.specs.declared.target.Standing.{Standing}
 use Rattle.cip_ledger.specs.Ledger.{SlotState, LedgerState, with_slot, without_slot}
-use Rattle.cip_ledger.specs.Requests.{LedgerRequest, Command, ledger_request, is_barred}
+use Rattle.cip_ledger.specs.Requests.{LedgerRequest, ledger_request, is_barred}
+use Rattle.cip_message.specs.LedgerCommand.{Command}
 use Rattle.cip_ledger.specs.Services.{Action, Replies, Executes, Queues, Frees, action_of, refusal, success, reply_to}
 use Rattle.cip_ledger.specs.Services.{KEPT_LIMIT, DONE, PENDING}
 use Rattle.cip_ledger.specs.Standings.{at_router}

@@ -1,6 +1,6 @@
 -- What a verdict on a command stands for.
 use Rattle.std.specs.Prelude.{ℕ, ◌≤◌, ◌∷◌, ◌+◌, length}
-use Rattle.cip_ledger.specs.Requests.{Command}
+use Rattle.cip_message.specs.LedgerCommand.{Command}
 use Rattle.cip_ledger.specs.Services.{Action, Replies, Executes, refuses, within, success, KEPT_LIMIT, HEAD_SIZE}
 use Rattle.cip_ledger.specs.declared.ledger.Verdict.{Verdict}
 use Rattle.cip_ledger.specs.declared.ledger.Verdict.TheVariants as verdicts

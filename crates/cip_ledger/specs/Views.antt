@@ -1,9 +1,10 @@
 -- What a contract sees of a command and of a request to the ledger.
+use Rattle.cip_message.specs.LedgerCommand as commands
 use Rattle.cip_ledger.specs.Requests as requests
 use Rattle.cip_ledger.specs.declared.request.Command.{Command}
 use Rattle.cip_ledger.specs.declared.request.LedgerRequest.{LedgerRequest}
 
-abbrev pub command_in : Command → requests.Command
+abbrev pub command_in : Command → commands.Command
 command_in command = record {
   life = command.life;
   originator = command.originator;

@@ -1,12 +1,12 @@
 -- What holds of withdrawn commands.
 use Rattle.std.specs.Prelude.{◌≡◌, ◌⊎◌, ℕ, ◌+◌, ◌≤◌, true, false, Option, Some, List, [], ◌∷◌}
 use Rattle.cip_ledger.specs.declared.router.LedgerRouter.{LedgerRouter}
-use Rattle.cip_ledger.specs.declared.service.TheConstants as services
+use Rattle.cip_message.specs.declared.ledger_services.TheConstants as services
 use Rattle.cip_ledger.specs.declared.target.Standing.{Standing}
 use Rattle.cip_ledger.specs.Device.{Device, exec_device}
 use Rattle.cip_ledger.specs.DoubtLaws.{IsGiven}
 use Rattle.cip_ledger.specs.Ledger.{LedgerState, SlotState, slot_of, is_withdrawn}
-use Rattle.cip_ledger.specs.Requests.{Command}
+use Rattle.cip_message.specs.LedgerCommand.{Command}
 use Rattle.cip_ledger.specs.Runs.{Request, turn_at}
 use Rattle.cip_ledger.specs.Services.{reply_to, success, WITHDRAWN, HEAD_SIZE}
 use Rattle.cip_ledger.specs.Turn.{turn_of}

@@ -8,7 +8,7 @@ use Rattle.std.specs.Option.{option_and_then}
 use Rattle.cip_bytes.specs.Numbers.{number_at}
 use Rattle.cip_owner.specs.Queue.{QueueState}
 use Rattle.cip_owner.specs.Replies.{Reply}
-use Rattle.cip_ledger.specs.declared.service.TheConstants as services
+use Rattle.cip_message.specs.declared.ledger_services.TheConstants as services
 use Rattle.cip_ledger.specs.declared.withdrawal.Withdrawal.{Withdrawal}
 use Rattle.cip_ledger.specs.Device.{Device, finished_in}
 use Rattle.cip_ledger.specs.Ledger.{SlotState, LedgerState, slot_of, is_pending, slot_withdrawn}

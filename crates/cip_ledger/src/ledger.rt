@@ -3,7 +3,7 @@ ghost use Rattle.std.specs.Prelude.{◌≡◌, ◌≤◌, ◌∷◌, length, map
 ghost use Rattle.std.specs.Prelude.{unwrap_or, is_some, slice_get};
 ghost use Rattle.cip_ledger.specs.Kept.{kept_in, with_life, restored, IsLedger};
 ghost use Rattle.cip_ledger.specs.Ledger.{empty_ledger};
-ghost use Rattle.cip_ledger.specs.Requests as requests;
+ghost use Rattle.cip_message.specs.LedgerCommand as commands;
 ghost use Rattle.cip_ledger.specs.Doubt.{doubtful_in, command_name, can_settle, settled, can_doubt, doubted};
 ghost use Rattle.cip_ledger.specs.Doubt.{is_kept_reply};
 ghost use Rattle.cip_ledger.specs.Pending.{can_complete, completed};
@@ -27,14 +27,13 @@ use crate::reply::{
     DONE, HEAD_SIZE, IN_DOUBT, LONGEST_DONE, PENDING, WITHDRAWN, answer, begin, size_fault,
 };
 use crate::request::{Command, LedgerRequest, SHORT_SIZE, is_do_once};
-use crate::service::{
-    DO_ONCE, FORGET, GET_ATTRIBUTE_LIST, GET_ATTRIBUTE_SINGLE, GET_LAST, GET_SLOTS, WITHDRAW,
-};
+use crate::service::{GET_ATTRIBUTE_LIST, GET_ATTRIBUTE_SINGLE};
 use crate::slot::{KEPT_LIMIT, Slot};
-use crate::slots::{MOST_ORIGINATORS, Slots};
+use crate::slots::Slots;
 use crate::status::Status;
 use crate::target::Target;
 use byteorder::{ByteOrder, LittleEndian};
+use cip_message::{DO_ONCE, FORGET, GET_LAST, GET_SLOTS, MOST_ORIGINATORS, WITHDRAW};
 use cip_objects::{REPLY_LIMIT, ReplyBuf};
 pub(crate) use commands::embedded_standing;
 use std::alloc::{AllocError, Global};
@@ -551,7 +550,7 @@ fn last_state(slot: &Slot) -> (u8, &[u8])
 
 /// What is to be done with a command that is new.
 fn verdict_on_new(max_size: usize) -> Verdict<'static>
-    ensures action { (command : requests.Command) →
+    ensures action { (command : commands.Command) →
         action_in max_size command result ≡ services.do_new max_size command }
     ensures fits { Fits max_size result }
 {

@@ -38,12 +38,10 @@ mod target;
 mod withdrawal;
 mod withdrawing;
 
+pub use cip_message::{DO_ONCE, FORGET, GET_LAST, GET_SLOTS, LEDGER, MOST_ORIGINATORS, WITHDRAW};
 pub use doubt::DoubtfulCommand;
 pub use ledger::{KeptCommand, Ledger};
-pub use request::LEDGER;
 pub use router::LedgerRouter;
-pub use service::{DO_ONCE, FORGET, GET_LAST, GET_SLOTS, WITHDRAW};
 pub use slot::KEPT_LIMIT;
-pub use slots::MOST_ORIGINATORS;
 pub use target::{Standing, Target};
 pub use withdrawal::Withdrawal;

@@ -3,11 +3,10 @@ ghost use Rattle.std.specs.Prelude.{◌≡◌, ◌≤◌, ◌+◌, ◌∷◌, �
 ghost use Rattle.cip_ledger.specs.Status.{status_number};
 ghost use Rattle.cip_ledger.specs.Services.{reply_to, refusal, success, within, size_fault};
 
-use crate::service::DO_ONCE;
 use crate::slot::KEPT_LIMIT;
 use crate::status::Status;
 use cip_bytes::append;
-use cip_message::reply_service;
+use cip_message::{DO_ONCE, reply_service};
 use cip_objects::{REPLY_LIMIT, ReplyBuf};
 
 /// The bytes of a reply before its data.

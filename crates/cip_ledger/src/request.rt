@@ -3,13 +3,9 @@ ghost use Rattle.std.specs.Prelude.{◌≡◌, ◌≤◌, length, true, false, o
 ghost use Rattle.cip_message.specs.PathReading.{path_of};
 ghost use Rattle.cip_ledger.specs.Requests.{ledger_request, do_once_with, IsShort, command_of, is_barred, bars_class};
 
-use crate::service::DO_ONCE;
 use byteorder::{ByteOrder, LittleEndian};
 use cip_bytes::protocol::CONNECTION_MANAGER;
-use cip_message::{RequestView, read_path};
-
-/// The class of the ledger, in the range of the vendor's own (ours).
-pub const LEDGER: u16 = 0x65;
+use cip_message::{DO_ONCE, LEDGER, RequestView, read_path};
 
 /// The first bytes of segments: a class of 8 bits, a class of 16 bits, an instance of 8 bits. (Volume 1, logical
 /// segment.)

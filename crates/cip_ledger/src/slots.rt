@@ -10,11 +10,9 @@ ghost use Rattle.cip_ledger.specs.Slots.{slots_in, IsKeptAt, IsFound};
 
 use crate::doubt::DoubtfulCommand;
 use crate::slot::Slot;
+use cip_message::MOST_ORIGINATORS;
 use std::alloc::{AllocError, Global};
 use std::marker::Model;
-
-/// The most originators that a ledger has slots for.
-pub const MOST_ORIGINATORS: u16 = 64;
 
 /// So many slots, in the order in which those that are taken were taken.
 #[derive(Drop)]

@@ -8,7 +8,7 @@ use Rattle.cip_message.specs.declared.open.LengthFault.{LengthFault}
 use Rattle.cip_message.specs.declared.open.LengthFault.TheVariants.{Short, Long}
 use Rattle.cip_message.specs.Open.{Layout, Open}
 use Rattle.cip_message.specs.Close.{Close, close_of}
-use Rattle.cip_objects.specs.Router.{general_status}
+use Rattle.cip_message.specs.Router.{general_status}
 use Rattle.cip_manager.specs.Replies.{SUCCESS, failure_reply, length_reply}
 use Rattle.cip_manager.specs.declared.connection.Connection.{Connection}
 use Rattle.cip_manager.specs.declared.connection.Opener.{Opener}

@@ -11,7 +11,7 @@ use Rattle.cip_bytes.specs.declared.protocol.ExtendedStatus.TheVariants.{OutOfCo
 use Rattle.cip_bytes.specs.Reading.{◌>>◌}
 use Rattle.cip_message.specs.declared.key.Device.{Device}
 use Rattle.cip_message.specs.Open.{Layout, small, large, Open}
-use Rattle.cip_objects.specs.Router.{general_status}
+use Rattle.cip_message.specs.Router.{general_status}
 use Rattle.cip_manager.specs.declared.connection.Connection.{Connection}
 use Rattle.cip_manager.specs.declared.connection.Opener.{Opener}
 use Rattle.cip_manager.specs.declared.opening.Opening.{Opening}

@@ -2,7 +2,7 @@
 use Rattle.std.proofs.Common.{◌≡◌, ◌≢◌, ℕ, zero, suc, ◌<◌, List, [], ◌∷◌, ◌++◌, length, get_or, set, map, Option, Some, None, refl, ap, subst, sym, ◌∙◌, arith}
 use Rattle.std.specs.Prelude.{slice_index, is_some, cond}
 use Rattle.std.specs.List.{AllByRecursion, remove, cons_option}
-use Rattle.std.proofs.lemmas.List.{get_or-map, set-get_or}
+use Rattle.std.proofs.lemmas.List.{get_or-map}
 use Rattle.std.proofs.lemmas.List.Sums.{sum_by-set}
 use Rattle.std.proofs.lemmas.List.Elements.{recursion_from_All}
 use Rattle.slab.specs.Slab.{Slab, get, ContainsKey, slab_len, with_value, Updates}
@@ -77,11 +77,6 @@ module _ (slab : Slab Connection) where
   pub slab_len-with_value : (key : ℕ) (connection : Connection) → ContainsKey slab key → slab_len (with_value slab key connection) ≡ slab_len slab
   slab_len-with_value key connection has =
       omega (arith, sum_by-set (λ o. cond (is_some o) 1 0) slab.slots key (Some connection) None (ContainsKey-within slab key has), ap {B = ℕ} (λ b. cond b 1 0) has)
-
-  -- writing back what a key has changes nothing
-  pub with_value-same : (key : ℕ) (connection : Connection) → get slab key ≡ Some connection → with_value slab key connection ≡ slab
-  with_value-same key connection found =
-      λ j. record slab { slots = (ap (set slab.slots key) (sym found) ∙ set-get_or slab.slots key None) j }
 
   -- entries with other IDs have other keys
   apart : (a b : Entry) → Names slab a → Names slab b → a.id < b.id → a.key ≢ b.key

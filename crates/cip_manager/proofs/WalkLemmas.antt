@@ -2,7 +2,7 @@
 use Rattle.std.proofs.Common.{◌≡◌, ℕ, zero, suc, ◌+◌, ◌-◌, ◌<◌, ◌≤◌, List, [], ◌∷◌, Bool, true, false, cond, get_or, length, drop, refl, ap, sym, ◌∙◌, arith}
 use Rattle.std.specs.Prelude.{filter}
 use Rattle.std.specs.List.{remove}
-use Rattle.std.proofs.lemmas.List.{drop_more, drop_all}
+use Rattle.std.proofs.lemmas.List.{drop_more}
 use Rattle.std.proofs.lemmas.List.Edits.{length-remove}
 
 module _ {X : Type 0} where
@@ -23,13 +23,6 @@ module _ {X : Type 0} where
     pub within : position ≤ length now
     pub same : filter p now ≡ filter p old
     pub passes : filter p (drop position now) ≡ drop position now
-
-  pub IsKeptFrom-end : (p : X → Bool) (xs : List X) → IsKeptFrom p xs xs (length xs)
-  IsKeptFrom-end p xs = record {
-    within = omega arith;
-    same = refl;
-    passes = ap (filter p) (drop_all (length xs) xs (omega arith)) ∙ sym (drop_all (length xs) xs (omega arith));
-  }
 
   -- one that passes stays
   pub IsKeptFrom-kept : (p : X → Bool) (old now : List X) (position : ℕ) (d : X) → 0 < position → p (get_or now (position - 1) d) ≡ true

@@ -5,7 +5,7 @@ use Rattle.std.specs.List.{list_all, list_any}
 use Rattle.cip_message.specs.declared.open.LengthFault.{LengthFault}
 use Rattle.cip_message.specs.Close.{Close, close_of}
 use Rattle.cip_message.specs.Open.{Layout}
-use Rattle.cip_objects.specs.Router.{general_status}
+use Rattle.cip_message.specs.Router.{general_status}
 use Rattle.cip_manager.specs.declared.connection.Connection.{Connection}
 use Rattle.cip_manager.specs.declared.connection.Opener.{Opener}
 use Rattle.cip_manager.specs.Connection.{is_of_session, is_of_session_with, is_of_group, is_named, is_open_at}

@@ -34,8 +34,7 @@ use crate::manager::KeptAnswer;
 use crate::opening::Opening;
 use cip_bytes::protocol::{LARGEST_CONNECTION_SIZE, REPLY_LIMIT, SEQUENCE_COUNT_SIZE};
 use cip_class3::{Received, Target};
-use cip_message::CloseRequest;
-use cip_objects::Router;
+use cip_message::{CloseRequest, Router};
 
 /// The least time from an opening to the deadline, in microseconds.
 const LEAST_FIRST_TIMEOUT: u64 = 10_000_000;

@@ -7,7 +7,7 @@ ghost use Rattle.std.specs.List.{list_all, AllByRecursion, Any, Contains};
 ghost use Rattle.std.specs.Option.{MatchOption};
 ghost use Rattle.cip_message.specs.declared.key.Device.{Device};
 ghost use Rattle.cip_message.specs.Open.{Layout, Open};
-ghost use Rattle.cip_objects.specs.Router.{general_status};
+ghost use Rattle.cip_message.specs.Router.{general_status};
 ghost use Rattle.cip_manager.specs.declared.connection.Connection.{Connection};
 ghost use Rattle.cip_manager.specs.declared.connection.Opener.{Opener};
 ghost use Rattle.cip_manager.specs.declared.opening.Opening.{Opening};
@@ -21,7 +21,7 @@ ghost use Rattle.cip_manager.specs.Table.{AreOpenUntil};
 ghost use Rattle.cip_manager.specs.Runs.{ManagerCall, State, state_after, ids_drawn, CountsFrom, IsOfOther, of_session};
 ghost use Rattle.cip_manager.specs.Runs.{is_open_after_all, is_spared, AreApart, is_of_one_of};
 
-use cip_objects::Router;
+use cip_message::Router;
 
 /// Calls of other sessions, and timeouts, leave a session exactly those of its connections whose deadline no moment
 /// reached. Each keeps its count, kept reply and deadline.

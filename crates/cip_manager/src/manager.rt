@@ -22,8 +22,7 @@ use crate::table::Table;
 use cip_bytes::protocol::{
     ExtendedStatus, LARGEST_CONNECTION_SIZE, ManagerService, REPLY_LIMIT, SEQUENCE_COUNT_SIZE,
 };
-use cip_message::{CloseRequest, Device, OpenRequest};
-use cip_objects::{ReplyBuf, Router};
+use cip_message::{CloseRequest, Device, OpenRequest, ReplyBuf, Router};
 use std::alloc::{AllocError, Global};
 use std::marker::Model;
 
@@ -86,7 +85,7 @@ impl Manager {
     ghost use Rattle.cip_manager.specs.Opening.{OpensNext};
     ghost use Rattle.cip_manager.specs.Closing.{close_turn, closing_turn, without_overdue, without_session};
     ghost use Rattle.cip_manager.specs.contracts.manager.Manager.{the_row};
-    ghost use Rattle.cip_objects.specs.Router.{general_status};
+    ghost use Rattle.cip_message.specs.Router.{general_status};
     ghost use Rattle.cip_manager.specs.Replies.{SUCCESS};
 
     /// A manager with `places` slots and no connection. The first O->T ID is `first_id`. A group may have all

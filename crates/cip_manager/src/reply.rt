@@ -11,8 +11,7 @@ use crate::connection::Triad;
 use crate::opening::Opening;
 use cip_bytes::protocol::{ExtendedStatus, GeneralStatus, ManagerService, REPLY_LIMIT};
 use cip_bytes::{append, append_u16, append_u32};
-use cip_message::{LengthFault, write_reply};
-use cip_objects::ReplyBuf;
+use cip_message::{LengthFault, ReplyBuf, write_reply};
 
 /// Begins a reply with this status and no data.
 fn begin(service: ManagerService, status: GeneralStatus, reply: &mut ReplyBuf)

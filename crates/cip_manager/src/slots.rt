@@ -12,7 +12,7 @@ ghost use Rattle.cip_manager.specs.declared.connection.Connection.{Connection as
 use crate::connection::Connection;
 use crate::manager::KeptAnswer;
 use cip_bytes::protocol::{LARGEST_CONNECTION_SIZE, SEQUENCE_COUNT_SIZE};
-use cip_objects::Router;
+use cip_message::Router;
 use slab::Slab;
 use std::alloc::{AllocError, Global};
 use std::marker::Model;

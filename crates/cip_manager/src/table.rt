@@ -20,7 +20,7 @@ use crate::search::position_of;
 use crate::selection::Selection;
 use crate::slots::Slots;
 use cip_bytes::protocol::{LARGEST_CONNECTION_SIZE, REPLY_LIMIT, SEQUENCE_COUNT_SIZE};
-use cip_objects::Router;
+use cip_message::Router;
 use std::alloc::{AllocError, Global};
 use std::marker::Model;
 

@@ -7,3 +7,5 @@ pub mod Key
 pub mod Open
 pub mod Close
 pub mod OpenPath
+pub mod Router
+pub mod LedgerCommand

@@ -46,16 +46,3 @@ unique text a b (inr (ds, p)) (inr (es, q)) =
 pub none_within : (least most : ℕ) (text : List ℕ) → most < 2 ^ 64 → ((number : ℕ) → Gives text number → number < 2 ^ 64 → ⊥)
     → (number : ℕ) → GivesWithin least most text number → ⊥
 none_within least most text fits none number (gives, low, high) = none number gives (omega (arith, fits, high))
-
--- nor does one whose number is out of the range
-pub too_low : (least most : ℕ) (text : List ℕ) (given : ℕ) → Gives text given → given < least
-    → (number : ℕ) → GivesWithin least most text number → ⊥
-too_low least most text given gives below number (also, low, high) =
-    let same = unique text given number gives also in
-    omega (arith, same, below, low)
-
-pub too_high : (least most : ℕ) (text : List ℕ) (given : ℕ) → Gives text given → most < given
-    → (number : ℕ) → GivesWithin least most text number → ⊥
-too_high least most text given gives above number (also, low, high) =
-    let same = unique text given number gives also in
-    omega (arith, same, above, high)

@@ -1,5 +1,5 @@
 -- What a set that the owner approved leaves, and which requests the owner is never asked about.
-use Rattle.std.proofs.Common.{◌≡◌, ℕ, ◌⊎◌, inl, inr, eqb, Bool, true, false, cond, ◌&&◌, ◌||◌, List, [], length, unwrap_or, Option, Some, None, option_map, is_some, Result, Ok, Err, refl, sym, ap, ◌∙◌, arith}
+use Rattle.std.proofs.Common.{◌≡◌, ℕ, ◌⊎◌, inl, inr, eqb, Bool, true, false, cond, ◌&&◌, ◌||◌, List, [], length, unwrap_or, Option, Some, None, option_map, is_some, Result, Ok, Err, refl, sym, ap, ◌∙◌}
 use Rattle.std.proofs.lemmas.Bool.{eqb-true}
 use Rattle.std.specs.Prelude.{is_ok}
 use Rattle.std.specs.Option.{option_and_then}
@@ -12,13 +12,12 @@ use Rattle.cip_message.specs.declared.request.RequestFault.{RequestFault}
 use Rattle.cip_message.specs.PathReading.{path_of}
 use Rattle.cip_message.specs.Request.{Request, request_of}
 use Rattle.cip_objects.specs.declared.status.Refusal.{Refusal}
-use Rattle.cip_objects.specs.Contents.{Contents, value_at, udint_at, with_change}
+use Rattle.cip_objects.specs.Contents.{Contents, value_at, with_change}
 use Rattle.cip_objects.specs.Members.{AreWhole}
 use Rattle.cip_objects.specs.OwnRequests.{Asked, own_object, own_service, if_checked, checked_attribute, check_set, ask_set, ask_service, asked_by_path, asked_by_request, own_request, stored_in, with_stored, approved_is_stored_law, approved_leaves_others_law}
-use Rattle.cip_objects.specs.Run.{IsCounter}
 use Rattle.cip_objects.specs.Tables.{AttributeShape, ObjectShape, shape_at, attribute_at}
 use Rattle.cip_objects.proofs.OwnRequests.{nothing_asked, read_at}
-use Rattle.cip_objects.proofs.ReadAfterSet.{value_at-other, udint_at-elsewhere}
+use Rattle.cip_objects.proofs.ReadAfterSet.{value_at-other}
 
 -- the set is stored in an application object, or nothing changes
 pub record Stores (m : Contents) (class instance attribute : ℕ) (content : List ℕ) : Type 0 where
@@ -70,13 +69,6 @@ stored_shapes m class instance attribute content = go (stored_or_not m class ins
     go (inl e) = ap (λ x. x.shapes) e
     go (inr s) = ap (λ x. x.shapes) s.leaves
 
-pub stored_device : (m : Contents) (class instance attribute : ℕ) (content : List ℕ) → (with_stored m class instance attribute content).device ≡ m.device
-stored_device m class instance attribute content = go (stored_or_not m class instance attribute content)
-  where
-    go : IsStoredOrNot m class instance attribute content → (with_stored m class instance attribute content).device ≡ m.device
-    go (inl e) = ap (λ x. x.device) e
-    go (inr s) = ap (λ x. x.device) s.leaves
-
 -- no other attribute changes
 not_same : (a b c d e f : ℕ) → ((a ≡ b) × (c ≡ d) × (e ≡ f) → ⊥) → (t u v : Bool) → eqb a b ≡ t → eqb c d ≡ u → eqb e f ≡ v → t && (u && v) ≡ false
 not_same a b c d e f h true true true x y z = absurd (h (eqb-true a b x, eqb-true c d y, eqb-true e f z))
@@ -111,30 +103,6 @@ whole_stays m class instance attribute content w i s e =
     let there : shape_at i m.shapes.assemblies ≡ Some s =
     ap (λ x. shape_at i x.assemblies) (sym (stored_shapes m class instance attribute content)) ∙ e in
     ap (λ o. length (unwrap_or o [])) (leaves_taken m class instance attribute content 4 i 3 refl) ∙ w i s there
-
--- the counter stays as it is
-pub leaves_counter : (m : Contents) (class instance attribute : ℕ) (content : List ℕ) (a : ℕ) → m.shapes.has_counter ≡ true → udint_at (with_stored m class instance attribute content) 100 1 a ≡ udint_at m 100 1 a
-leaves_counter m class instance attribute content a there = go (stored_or_not m class instance attribute content)
-  where
-    go : IsStoredOrNot m class instance attribute content → udint_at (with_stored m class instance attribute content) 100 1 a ≡ udint_at m 100 1 a
-    go (inl e) = ap (λ x. udint_at x 100 1 a) e
-    go (inr s) =
-        ap (λ x. udint_at x 100 1 a) s.leaves
-        ∙ udint_at-elsewhere m class instance attribute content 100 1 a
-        (not_same 100 class 1 instance a attribute (λ p. taken_other m.shapes.has_counter 100 class (ap (λ t. is_taken_class t 100) there) s.free p.0)
-        (eqb 100 class) (eqb 1 instance) (eqb a attribute) refl refl refl)
-
-pub counter_stays : (m : Contents) (class instance attribute : ℕ) (content : List ℕ) → IsCounter m → IsCounter (with_stored m class instance attribute content)
-counter_stays m class instance attribute content c =
-    let value = leaves_counter m class instance attribute content 1 c.there in
-    let limit = leaves_counter m class instance attribute content 2 c.there in
-    let additions = leaves_counter m class instance attribute content 3 c.there in
-    record {
-      there = ap (λ s. s.has_counter) (stored_shapes m class instance attribute content) ∙ c.there;
-      within = let w = c.within in omega (arith, value, limit, w);
-      limit = let w = c.limit in omega (arith, limit, w);
-      additions = let w = c.additions in omega (arith, additions, w);
-    }
 
 -- the owner is not asked about a class that the adapter has itself
 taken_none : (t z : Bool) (o : Option ObjectShape) → t ≡ true → ◌≡◌ {A = Option ObjectShape} (cond (t || z) None o) None

@@ -24,7 +24,7 @@ use Rattle.cip_objects.specs.ReadServices.{service_at, get_attribute_single, get
 use Rattle.cip_objects.specs.ChangeServices.{Change, after_add, is_allowed_limit, is_allowed, set_attribute_single, set_member, add, clear}
 use Rattle.cip_objects.specs.Execution.{Outcome, perform, outcome, Executed, with_reply, or_refusal, exec, reply_to, run}
 use Rattle.cip_objects.specs.Run.{value_of, limit_of, additions_of, IsCounter, is_counter, to_counter, addition, sum_after, sum_since_cleared, number_of_additions, counter_law}
-use Rattle.cip_objects.specs.Router.{general_status}
+use Rattle.cip_message.specs.Router.{general_status}
 use Rattle.cip_bytes.specs.Protocol.{general_status_number}
 use Rattle.cip_objects.specs.Status.{completion_status, refusal_status}
 use Rattle.cip_objects.specs.ExecutionLaws.{reply_of_outcome}

@@ -218,11 +218,6 @@ fronted shapes class instance n bytes first read e =
     let both = fronted_by first rest (sym (ap is_ok split) ∙ read) in
     record { read = both.0; settings = ap settings_or_none split ∙ both.1 }
 
-pub not_unread : (shapes : Shapes) (class instance n : ℕ) (bytes : List ℕ) (s : Refusal)
-    → is_ok (settings_of shapes class instance (suc n) bytes) ≡ true → first_setting shapes class instance bytes ≡ Err s → ⊥
-not_unread shapes class instance n bytes s read e =
-    let f : false ≡ true = sym (ap is_ok (front_unread shapes class instance n bytes s e)) ∙ read in cc
-
 -- ---- the reply
 
 entries_length : (m : Contents) (p : Path) (settings : List Setting)

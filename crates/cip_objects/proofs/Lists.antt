@@ -21,7 +21,7 @@ use Rattle.cip_objects.specs.ReadServices.{Answer, service_at, list_entry_of, li
 use Rattle.cip_objects.specs.Execution.{Outcome, outcome_of_read, perform, outcome, with_reply, or_refusal, exec, reply_to}
 use Rattle.cip_objects.specs.Laws.{IsRequestWith}
 use Rattle.cip_objects.specs.Lists.{IsGet, AreGets, entries_of_replies, list_law}
-use Rattle.cip_objects.specs.Router.{general_status}
+use Rattle.cip_message.specs.Router.{general_status}
 use Rattle.cip_objects.specs.Service.{service_code}
 use Rattle.cip_objects.specs.Status.{completion_status, refusal_status}
 use Rattle.std.specs.List.{list_any}

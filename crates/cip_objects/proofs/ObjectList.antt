@@ -79,10 +79,6 @@ or_true : (a b : Bool) → a || (true || b) ≡ true
 or_true true b = refl
 or_true false b = refl
 
-or_front : (a b : Bool) → (a || true) || b ≡ true
-or_front true b = refl
-or_front false b = refl
-
 implied : (g y l : Bool) → (y ≡ true → g ≡ true) → g || l ≡ (g || y) || l
 implied true y l h = refl
 implied false true l h = absurd (let e = h refl in cc)

@@ -30,7 +30,7 @@ use Rattle.cip_objects.specs.Execution.{outcome, outcome_of_change, perform, req
 use Rattle.cip_objects.specs.ObjectRef.{IsFree, IsObjectIndex, object_in as shape_in}
 use Rattle.cip_objects.specs.OwnRequests.{Asked, own_object, own_service, is_own_service, if_checked, checked_attribute, check_set, ask_set, ask_service, asked_of, asked_by_path, asked_by_request, own_request, stored_in, with_stored, IsOwnAt, own_is_refused_law}
 use Rattle.cip_objects.specs.ReadServices.{service_at}
-use Rattle.cip_objects.specs.Router.{general_status}
+use Rattle.cip_message.specs.Router.{general_status}
 use Rattle.cip_objects.specs.Service.{service_in as offered_in}
 use Rattle.cip_objects.specs.Status.{refusal_status, set_refusal}
 use Rattle.cip_objects.specs.Tables.{AttributeShape, ObjectShape, Shapes, object_at, attribute_at as shape_at_number, services_of, services_of_object, settable_kind, kind_in, kind_of_settable}

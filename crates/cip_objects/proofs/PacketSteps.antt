@@ -6,7 +6,7 @@ use Rattle.cip_bytes.specs.Numbers.{le}
 use Rattle.cip_objects.specs.Contents.{Contents}
 use Rattle.cip_objects.specs.Execution.{exec}
 use Rattle.cip_objects.specs.Packets.{LEAST_ROOM, run_packet, offsets_from, numbers_size, any_refused}
-use Rattle.cip_objects.specs.Router.{general_status}
+use Rattle.cip_message.specs.Router.{general_status}
 use Rattle.cip_objects.specs.PacketReplies.{Gathered, none_of, pushed, all_pushed}
 
 -- What the run of the first request leaves to the others.

@@ -16,7 +16,7 @@ use Rattle.cip_objects.specs.OwnRequests.{own_request, is_own_service}
 use Rattle.cip_objects.specs.PacketLaws.{run_by, routed_if, exec_routed_plain, IsRefusal, routed_refused_law}
 use Rattle.cip_bytes.specs.Numbers.{words_of}
 use Rattle.cip_objects.specs.Packets.{AreLong, in_front, request_at, requests_at, end_at, LEAST_ROOM, is_path_to_router, packet_by_path, packet_by_request, packet_of, any_refused, front_size, run_packet, run_within, requests_of, has_router, routed_by, exec_routed}
-use Rattle.cip_objects.specs.Router.{general_status}
+use Rattle.cip_message.specs.Router.{general_status}
 use Rattle.cip_objects.proofs.OwnRequests.{own_is_refused, other_request}
 use Rattle.cip_objects.proofs.Refused.{refused}
 

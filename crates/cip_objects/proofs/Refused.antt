@@ -19,7 +19,7 @@ use Rattle.cip_objects.specs.ReadServices.{get_attribute_single, get_attributes_
 use Rattle.cip_objects.specs.Execution.{Outcome, perform, outcome, Executed, with_reply, or_refusal, exec}
 use Rattle.cip_objects.specs.ExecutionLaws.{reply_of_outcome, is_outcome}
 use Rattle.cip_objects.specs.Laws.{Fits, refused_law, any_max_size_law}
-use Rattle.cip_objects.specs.Router.{general_status, REPLY_TOO_LARGE}
+use Rattle.cip_message.specs.Router.{general_status, REPLY_TOO_LARGE}
 use Rattle.cip_objects.specs.Service.{service_code}
 use Rattle.cip_bytes.specs.Protocol.{general_status_number}
 use Rattle.cip_objects.specs.Status.{completion_status}

@@ -7,7 +7,7 @@ use Rattle.cip_objects.specs.declared.status.Refusal.TheVariants.{PathSegmentErr
 use Rattle.cip_objects.specs.Contents.{Contents}
 use Rattle.cip_objects.specs.Execution.{Outcome, outcome, Executed, with_reply, or_refusal, exec}
 use Rattle.cip_objects.specs.ExecutionLaws.{IsOutcome, is_outcome}
-use Rattle.cip_objects.specs.Router.{general_status}
+use Rattle.cip_message.specs.Router.{general_status}
 use Rattle.cip_bytes.specs.Protocol.{general_status_number}
 use Rattle.cip_objects.specs.Status.{refusal_status}
 

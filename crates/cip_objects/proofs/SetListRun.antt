@@ -23,7 +23,7 @@ use Rattle.cip_objects.specs.Execution.{Outcome, outcome_of_change, perform, out
 use Rattle.cip_objects.specs.Laws.{IsRequestWith}
 use Rattle.cip_objects.specs.Lists.{is_success}
 use Rattle.cip_objects.specs.ReadServices.{service_at, list_completion}
-use Rattle.cip_objects.specs.Router.{general_status}
+use Rattle.cip_message.specs.Router.{general_status}
 use Rattle.cip_objects.specs.Service.{service_code}
 use Rattle.cip_objects.specs.SetListLaws.{IsSet, AreSets, statuses_of, set_list_law}
 use Rattle.cip_objects.specs.SetLists.{Setting, set_one, contents_after, set_status, set_all}

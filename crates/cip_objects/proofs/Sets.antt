@@ -17,7 +17,7 @@ use Rattle.cip_objects.specs.ChangeServices.{set_attribute_single, set_member, a
 use Rattle.cip_objects.specs.Execution.{Outcome, perform, outcome, with_reply, or_refusal, exec, reply_to}
 use Rattle.cip_objects.specs.ExecutionLaws.{exec_too_large}
 use Rattle.cip_objects.specs.Laws.{IsRequestWith, too_large_law, changes_fit_law, get_after_set_law, set_leaves_others_law}
-use Rattle.cip_objects.specs.Router.{general_status}
+use Rattle.cip_message.specs.Router.{general_status}
 use Rattle.cip_objects.specs.Service.{service_code}
 use Rattle.std.specs.List.{list_any}
 use Rattle.cip_objects.specs.Tables.{Shape, shape_at, services_of, ObjectShape, Shapes, object_at, is_counter_class}

@@ -12,7 +12,7 @@ use Rattle.cip_objects.specs.Changes.{changes_at}
 use Rattle.cip_objects.specs.Contents.{Contents}
 use Rattle.cip_objects.specs.Execution.{run}
 use Rattle.cip_objects.specs.ObjectMap.{Key}
-use Rattle.cip_objects.specs.Router.{general_status}
+use Rattle.cip_message.specs.Router.{general_status}
 use Rattle.cip_objects.specs.SetLists.{Setting, settings_of, settings_or_none}
 use Rattle.cip_objects.specs.Tables.{Shapes}
 

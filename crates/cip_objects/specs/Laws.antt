@@ -12,7 +12,7 @@ use Rattle.cip_objects.specs.declared.service.Service.TheVariants.{SetMember, Ad
 use Rattle.cip_bytes.specs.declared.protocol.GeneralStatus.TheVariants.{Success}
 use Rattle.cip_objects.specs.Contents.{Contents, value_at}
 use Rattle.cip_objects.specs.Execution.{Outcome, perform, reply_to, exec, run}
-use Rattle.cip_objects.specs.Router.{general_status, REPLY_TOO_LARGE}
+use Rattle.cip_message.specs.Router.{general_status, REPLY_TOO_LARGE}
 use Rattle.cip_objects.specs.Run.{to_counter}
 use Rattle.cip_objects.specs.Status.{completion_status}
 use Rattle.cip_objects.specs.Tables.{settable_kind}

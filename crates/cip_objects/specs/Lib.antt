@@ -1,4 +1,3 @@
-pub mod Router
 pub mod Status
 pub mod Service
 pub mod Limits

@@ -8,7 +8,7 @@ use Rattle.cip_objects.specs.Contents.{Contents}
 use Rattle.cip_objects.specs.Execution.{reply_to, exec}
 use Rattle.cip_objects.specs.Laws.{IsRequestWith}
 use Rattle.cip_objects.specs.ReadServices.{list_completion}
-use Rattle.cip_objects.specs.Router.{general_status}
+use Rattle.cip_message.specs.Router.{general_status}
 use Rattle.cip_objects.specs.Status.{completion_status}
 
 -- The bytes are a Get_Attribute_Single of this attribute, of the instance that the path names.

@@ -6,7 +6,7 @@ use Rattle.cip_bytes.specs.declared.protocol.GeneralStatus.TheVariants.{Success}
 use Rattle.cip_objects.specs.Contents.{Contents, bytes_at}
 use Rattle.cip_objects.specs.Execution.{reply_to, exec, run}
 use Rattle.cip_objects.specs.Laws.{IsRequestWith}
-use Rattle.cip_objects.specs.Router.{general_status}
+use Rattle.cip_message.specs.Router.{general_status}
 use Rattle.cip_objects.specs.Tables.{Shape, shape_at}
 use Rattle.cip_bytes.specs.declared.protocol.TheConstants.{ASSEMBLY}
 

@@ -23,7 +23,7 @@ use Rattle.cip_objects.specs.Check.{demand, check_size}
 use Rattle.cip_objects.specs.Contents.{Contents, value_at, with_change}
 use Rattle.cip_objects.specs.Execution.{exec}
 use Rattle.cip_objects.specs.ObjectRef.{IsObjectIndex, object_in}
-use Rattle.cip_objects.specs.Router.{general_status}
+use Rattle.cip_message.specs.Router.{general_status}
 use Rattle.cip_objects.specs.Tables.{AttributeShape, ObjectShape, Shapes, object_at, attribute_at}
 
 -- What the owner is asked: the object, the service, the attribute if the path names one, the service's data, the most

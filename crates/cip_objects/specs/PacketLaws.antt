@@ -13,7 +13,7 @@ use Rattle.cip_objects.specs.ExecutionLaws.{exec_too_large, exec_begins, exec_wi
 use Rattle.cip_objects.specs.Packets.{LEAST_ROOM, run_packet, offsets_from, numbers_size, any_refused, status_of}
 use Rattle.cip_objects.specs.Packets.{packet_reply, front_size, run_within, requests_of, exec_packet, has_router}
 use Rattle.cip_objects.specs.Packets.{packet_of, routed_by, exec_routed}
-use Rattle.cip_objects.specs.Router.{general_status, IsReplyTo, REPLY_TOO_LARGE}
+use Rattle.cip_message.specs.Router.{general_status, IsReplyTo, REPLY_TOO_LARGE}
 
 -- ---- a packet is its requests, one after another
 

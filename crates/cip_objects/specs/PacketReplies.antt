@@ -3,7 +3,7 @@ use Rattle.std.specs.Prelude.{ℕ, ◌+◌, ◌==◌, ◌||◌, not, Bool, false
 use Rattle.cip_bytes.specs.Numbers.{le}
 use Rattle.cip_objects.specs.declared.packet_replies.PacketReplies.{PacketReplies}
 use Rattle.cip_objects.specs.Packets.{numbers_size}
-use Rattle.cip_objects.specs.Router.{general_status}
+use Rattle.cip_message.specs.Router.{general_status}
 
 -- How many requests the packet has, the offsets and the replies so far, and whether one of these is a refusal.
 pub record Gathered : Type 0 where

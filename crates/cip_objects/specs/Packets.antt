@@ -20,7 +20,7 @@ use Rattle.cip_objects.specs.declared.status.Refusal.TheVariants.{NotEnoughData,
 use Rattle.cip_objects.specs.Check.{demand}
 use Rattle.cip_objects.specs.Contents.{Contents}
 use Rattle.cip_objects.specs.Execution.{Executed, Ran, exec, or_refusal}
-use Rattle.cip_objects.specs.Router.{general_status}
+use Rattle.cip_message.specs.Router.{general_status}
 use Rattle.cip_objects.specs.Tables.{Shapes, services_of}
 
 -- ---- which requests are packets

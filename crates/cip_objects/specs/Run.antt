@@ -10,7 +10,7 @@ use Rattle.cip_message.specs.PathReading.{path_of}
 use Rattle.cip_message.specs.Request.{Request, request_of}
 use Rattle.cip_objects.specs.Contents.{Contents, udint_at}
 use Rattle.cip_objects.specs.Execution.{run, Ran}
-use Rattle.cip_objects.specs.Router.{general_status}
+use Rattle.cip_message.specs.Router.{general_status}
 use Rattle.cip_bytes.specs.declared.protocol.TheConstants.{COUNTER}
 
 abbrev pub value_of : Contents → ℕ

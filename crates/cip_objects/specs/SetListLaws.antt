@@ -10,7 +10,7 @@ use Rattle.cip_objects.specs.Execution.{reply_to, exec, run, Ran}
 use Rattle.cip_objects.specs.Laws.{IsRequestWith}
 use Rattle.cip_objects.specs.Lists.{is_success}
 use Rattle.cip_objects.specs.ReadServices.{list_completion}
-use Rattle.cip_objects.specs.Router.{general_status}
+use Rattle.cip_message.specs.Router.{general_status}
 use Rattle.cip_objects.specs.SetLists.{Setting, settings_of}
 use Rattle.cip_objects.specs.Status.{completion_status}
 

@@ -15,11 +15,10 @@ use crate::objects::Objects;
 use crate::packet::{MULTIPLE_SERVICE_PACKET, NUMBER_SIZE, PacketRequests, packet_data};
 use crate::packet_replies::PacketReplies;
 use crate::reply::append;
-use crate::router::{ReplyBuf, Router};
 use crate::service::Service;
 use crate::status::{Completion, Refusal};
 use cip_bytes::protocol::{GeneralStatus, MESSAGE_ROUTER, REPLY_LIMIT};
-use cip_message::{RequestView, read_path, reply_service};
+use cip_message::{ReplyBuf, RequestView, Router, read_path, reply_service};
 
 /// The bytes of a reply before its data.
 const HEAD_SIZE: usize = 4;

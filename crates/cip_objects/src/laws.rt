@@ -5,7 +5,7 @@ ghost use Rattle.cip_objects.specs.Laws.{get_after_set_law, set_leaves_others_la
 ghost use Rattle.cip_objects.specs.Lists.{list_law};
 ghost use Rattle.cip_objects.specs.SetListLaws.{set_list_law};
 ghost use Rattle.cip_objects.specs.Members.{member_after_set_law, set_member_leaves_others_law, whole_law};
-ghost use Rattle.cip_objects.specs.Router.{RepliesWellFormed};
+ghost use Rattle.cip_message.specs.Router.{RepliesWellFormed};
 ghost use Rattle.cip_objects.specs.Contents.{Contents};
 ghost use Rattle.cip_objects.specs.Execution.{exec};
 ghost use Rattle.cip_objects.specs.PacketLaws.{packet_law, singles_law, routed_refused_law, others_law};

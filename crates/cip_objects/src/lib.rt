@@ -1,6 +1,6 @@
-//! The objects of the adapter (Identity, Assembly and a counter), and the trait by which a connection reaches them.
+//! The objects of the adapter: Identity, Assembly and a counter.
 //!
-//! [`Objects`] is made from a [`Config`] and executes router requests, as its trait [`Router`] says. Contracts see
+//! [`Objects`] is made from a [`Config`] and executes router requests, as the trait [`Router`] says. Contracts see
 //! it as the object map, from class, instance and attribute to bytes, and the constant tables that the
 //! configuration fixed. `exec` in `specs/Execution.antt` defines the object map after a request, and its reply, and
 //! `exec_routed` in `specs/Packets.antt` those of a packet of several requests. In memory the objects are typed structs.
@@ -37,7 +37,6 @@ mod packet;
 mod packet_replies;
 mod read_services;
 mod reply;
-mod router;
 mod service;
 mod set_list;
 mod status;
@@ -45,9 +44,9 @@ mod value;
 
 pub use cip_application::{AttributeName, ServiceKind};
 pub use cip_bytes::protocol::{GeneralStatus, REPLY_LIMIT};
+pub use cip_message::{ReplyBuf, Router};
 pub use config::{AssemblyConfig, Config, ConfigFault, CounterConfig};
 pub use objects::Objects;
 pub use own_request::OwnRequest;
 pub use packet::{PacketRequests, packet_data};
-pub use router::{ReplyBuf, Router};
 pub use status::Refusal;

@@ -7,10 +7,9 @@ ghost use Rattle.cip_objects.specs.Packets.{numbers_size, status_of};
 ghost use Rattle.cip_objects.specs.PacketReplies.{seen, none_of, pushed};
 
 use crate::packet::NUMBER_SIZE;
-use crate::router::ReplyBuf;
 use arrayvec::ArrayVec;
 use cip_bytes::protocol::REPLY_LIMIT;
-use cip_message::reply_service;
+use cip_message::{ReplyBuf, reply_service};
 
 /// A request of a packet was refused: embedded service error (Volume 1, general status codes).
 pub(crate) const EMBEDDED_SERVICE_ERROR: u8 = 0x1e;

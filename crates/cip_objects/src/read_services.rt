@@ -18,11 +18,11 @@ use crate::check::check_size;
 use crate::object_ref::{Member, ObjectRef, ResolvedPath};
 use crate::objects::Objects;
 use crate::reply::append;
-use crate::router::ReplyBuf;
 use crate::status::{Completion, Refusal};
 use crate::value::AttributeValue;
 use byteorder::{ByteOrder, LittleEndian};
 use cip_bytes::protocol::{GeneralStatus, REPLY_LIMIT};
+use cip_message::ReplyBuf;
 
 impl Objects {
     /// Get_Attribute_Single: the value of the attribute.

@@ -2,9 +2,9 @@
 ghost use Rattle.std.specs.Prelude.{◌≡◌, ◌≤◌, ◌++◌, [], ◌∷◌};
 ghost use Rattle.cip_objects.specs.ReplyWriting.{Writes};
 
-use crate::router::ReplyBuf;
 use crate::status::Refusal;
 use cip_bytes::protocol::REPLY_LIMIT;
+use cip_message::ReplyBuf;
 
 /// Appends bytes to a reply, if it then has at most `max_size` bytes.
 #[inline(always)]

@@ -14,10 +14,10 @@ use crate::object_ref::{ObjectRef, ResolvedPath};
 use crate::objects::Objects;
 use crate::read_services::append_head;
 use crate::reply::append;
-use crate::router::ReplyBuf;
 use crate::status::{Completion, Refusal};
 use byteorder::{ByteOrder, LittleEndian};
 use cip_bytes::protocol::{GeneralStatus, REPLY_LIMIT};
+use cip_message::ReplyBuf;
 
 /// An attribute of a list and the value that it is to have, and the bytes behind it.
 #[derive(Clone, Copy)]

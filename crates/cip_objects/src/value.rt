@@ -3,9 +3,9 @@ ghost use Rattle.std.specs.Prelude.{◌≡◌, ◌≤◌, ◌++◌};
 ghost use Rattle.cip_objects.specs.ReplyWriting.{Writes};
 
 use crate::reply::append;
-use crate::router::ReplyBuf;
 use crate::status::Refusal;
 use cip_bytes::protocol::REPLY_LIMIT;
+use cip_message::ReplyBuf;
 
 /// The value of an attribute, by its type (Volume 1, elementary data types).
 #[derive(Clone, Copy)]

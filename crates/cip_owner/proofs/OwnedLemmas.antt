@@ -9,19 +9,18 @@ use Rattle.cip_objects.specs.declared.status.Refusal.{Refusal}
 use Rattle.cip_objects.specs.Contents.{Contents}
 use Rattle.cip_objects.specs.Packets.{exec_routed}
 use Rattle.cip_objects.specs.OwnRequests.{Asked, own_request}
-use Rattle.cip_objects.specs.Router.{general_status, REPLY_TOO_LARGE}
+use Rattle.cip_message.specs.Router.{general_status, REPLY_TOO_LARGE}
 use Rattle.cip_objects.proofs.Packets.{own_routed, refused_routed}
 use Rattle.cip_owner.specs.Replies.{Reply}
 use Rattle.cip_owner.specs.Owned.{OwnedState, exec_owned, by_owner, own_executed, is_left, IsDone, IsTaken, is_fit, given}
 use Rattle.cip_owner.specs.Owned.{answered, after_reply, answer_with, refused_with, NOT_PREPARED, RESOURCE_UNAVAILABLE}
-use Rattle.cip_owner.specs.Owned.{ticket_by, queued, of_kind, is_reset, IsReset, reset_by, by_reset}
+use Rattle.cip_owner.specs.Owned.{queued, of_kind, is_reset, IsReset, reset_by, by_reset}
 use Rattle.cip_owner.specs.OwnedLaws.{exec_owned_plain, exec_owned_unreset, own_is_not_reset, reset_is_not_own}
 use Rattle.cip_owner.specs.declared.reset.ResetType.{ResetType}
 use Rattle.cip_owner.specs.Reset.{ResetState, reset_data, reset_type}
 use Rattle.cip_owner.specs.Queue.{QueueState, takes, pushed, after_push}
 use Rattle.cip_owner.specs.QueueLaws.{queue_law}
 use Rattle.cip_owner.specs.QueueRuns.{after_steps, steps_of_kind, steps_of_own}
-use Rattle.cip_owner.proofs.QueueLemmas.{ticket_is, no_ticket, push_taken, push_refused}
 
 -- A request to the owner is executed by its own definition.
 pub exec_owned_own : (w : OwnedState) (max_size : ℕ) (text : List ℕ) (own : Result Asked Refusal)
@@ -219,27 +218,6 @@ queue_reset w max_size text (Some r) (Some content) e =
 pub queue : queue_law
 unfolding exec_owned
 queue w max_size text = queue_reset w max_size text w.reset (reset_data text) refl
-
--- A request of a queued service, by the ticket that it would have.
-pub queued_some : (w : OwnedState) (service : ℕ) (asked : Asked) (queue : Option QueueState) (ticket : ℕ) → w.queue ≡ queue → ticket_by queue asked ≡ Some ticket
-    → queued w service asked queue
-    ≡ answered (record w { queue = option_map (λ q. after_push q asked) queue }) (answer_with service 0 (le 4 ticket))
-queued_some w service asked None ticket e f = absurd (cc)
-queued_some w service asked (Some q) ticket e f =
-    let is = ticket_is q asked ticket f in
-    ap (λ taken. if taken then answered (record w { queue = Some (pushed q asked) }) (answer_with service 0 (le 4 q.next)) else refused_with w service RESOURCE_UNAVAILABLE) is.0
-    ∙ ap (λ p. answered (record w { queue = Some p }) (answer_with service 0 (le 4 q.next))) (sym (push_taken q asked is.0))
-    ∙ ap (λ n. answered (record w { queue = Some (after_push q asked) }) (answer_with service 0 (le 4 n))) (sym is.1)
-
-pub queued_none : (w : OwnedState) (service : ℕ) (asked : Asked) (queue : Option QueueState) → w.queue ≡ queue → ticket_by queue asked ≡ None
-    → (queued w service asked queue ≡ refused_with w service RESOURCE_UNAVAILABLE)
-    × (option_map (λ q. after_push q asked) queue ≡ queue)
-queued_none w service asked None e f = (refl, refl)
-queued_none w service asked (Some q) e f =
-    let refused = no_ticket q asked f in (
-      ap (λ taken. if taken then answered (record w { queue = Some (pushed q asked) }) (answer_with service 0 (le 4 q.next)) else refused_with w service RESOURCE_UNAVAILABLE) refused,
-      ap (λ p. Some p) (push_refused q asked refused),
-    )
 
 -- ---- a Reset
 

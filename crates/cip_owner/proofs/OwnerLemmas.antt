@@ -5,7 +5,7 @@ use Rattle.cip_application.specs.declared.config.ServiceKind.TheVariants as kind
 use Rattle.cip_bytes.specs.Numbers.{le}
 use Rattle.cip_objects.specs.declared.status.Refusal.{Refusal}
 use Rattle.cip_objects.specs.OwnRequests.{Asked, own_request}
-use Rattle.cip_objects.specs.Router.{RepliesWellFormed, REPLY_TOO_LARGE}
+use Rattle.cip_message.specs.Router.{RepliesWellFormed, REPLY_TOO_LARGE}
 use Rattle.cip_owner.specs.Owned.{OwnedState, Executed, answered, answer_with, exec_owned, is_asked, asks, asked_within, given as given_to, queued, of_kind, by_owner, refused_with, reset_by, by_reset, RESOURCE_UNAVAILABLE}
 use Rattle.cip_owner.specs.Queue.{QueueState, takes, pushed}
 use Rattle.cip_owner.specs.OwnedLaws.{exec_owned_begins, exec_owned_within, exec_owned_unreset, own_is_not_reset, asks_own}

@@ -65,19 +65,8 @@ no_ticket q asked e = no_ticket_if (takes q asked) q.next e
 pub push_taken : (q : QueueState) (asked : Asked) → takes q asked ≡ true → after_push q asked ≡ pushed q asked
 push_taken q asked e = ap (λ is. if is then pushed q asked else q) e
 
-pub push_refused : (q : QueueState) (asked : Asked) → takes q asked ≡ false → after_push q asked ≡ q
-push_refused q asked e = ap (λ is. if is then pushed q asked else q) e
-
 pub push_passes : (q : QueueState) (asked : Asked) → takes q asked ≡ true → (after_step q (Pushes asked)).next ≡ q.next + 1
 push_passes q asked e = ap (λ p. p.next) (push_taken q asked e)
-
--- a finish, by the command that is found
-pub finish_missing : (q : QueueState) (ticket : ℕ) (reply : Reply) → command_of ticket q.waiting ≡ None → finished q ticket reply ≡ None
-finish_missing q ticket reply e = ap (finished_by q ticket reply) e
-
-pub finish_refused : (q : QueueState) (ticket : ℕ) (reply : Reply) (c : QueuedCommand) → command_of ticket q.waiting ≡ Some c → can_be_reply c reply ≡ false → finished q ticket reply ≡ None
-finish_refused q ticket reply c e f =
-    ap (finished_by q ticket reply) e ∙ ap (λ is. if is then Some (with_finished q ticket c reply) else None) f
 
 pub finish_done : (q : QueueState) (ticket : ℕ) (reply : Reply) (c : QueuedCommand) → command_of ticket q.waiting ≡ Some c → can_be_reply c reply ≡ true → finished q ticket reply ≡ Some (with_finished q ticket c reply)
 finish_done q ticket reply c e f =

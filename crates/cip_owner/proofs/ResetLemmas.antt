@@ -6,7 +6,7 @@ use Rattle.cip_application.specs.declared.config.ServiceKind.TheVariants as kind
 use Rattle.cip_bytes.specs.Numbers.{le}
 use Rattle.cip_objects.specs.declared.status.Refusal.{Refusal}
 use Rattle.cip_objects.specs.OwnRequests.{Asked, own_request}
-use Rattle.cip_objects.specs.Router.{REPLY_TOO_LARGE}
+use Rattle.cip_message.specs.Router.{REPLY_TOO_LARGE}
 use Rattle.cip_owner.specs.declared.reset.ResetType.{ResetType}
 use Rattle.cip_owner.specs.Owned.{OwnedState, Executed, exec_owned, by_owner, by_reset, reset_by, is_fit, given, queued, of_kind, answered, answer_with, refused_with, after_reply, NOT_PREPARED, RESOURCE_UNAVAILABLE}
 use Rattle.cip_owner.specs.OwnedLaws.{exec_owned_unreset, reset_is_not_own}

@@ -11,13 +11,6 @@ use Rattle.cip_owner.specs.Replies.{Reply}
 use Rattle.cip_owner.proofs.ListLemmas.{all-append, all-filter, all-rest, all-weaker, all-both, first-number, first-all, first-behind}
 use Rattle.cip_owner.proofs.QueueLemmas.{by_push, by_finish, by_mark, all-with_result}
 
--- commands whose tickets rise
-pub rise-weaker : (cs : List QueuedCommand) (m n : ℕ) → m ≤ n → TicketsRise cs m → TicketsRise cs n
-rise-weaker [] m n le h = tt
-rise-weaker (c ∷ cs) m n le h =
-    let below = h.0.given in
-    (record { others = h.0.others; given = omega arith }, rise-weaker cs m n le h.1)
-
 pub rise-filter : (p : QueuedCommand → Bool) (cs : List QueuedCommand) (n : ℕ) → TicketsRise cs n → TicketsRise (filter p cs) n
 rise-filter p [] n h = tt
 rise-filter p (c ∷ cs) n h =

@@ -10,7 +10,7 @@ use Rattle.cip_objects.specs.declared.status.Refusal.{Refusal}
 use Rattle.cip_objects.specs.Contents.{Contents}
 use Rattle.cip_objects.specs.Packets.{exec_routed}
 use Rattle.cip_objects.specs.OwnRequests.{Asked, own_request, with_stored}
-use Rattle.cip_objects.specs.Router.{REPLY_TOO_LARGE}
+use Rattle.cip_message.specs.Router.{REPLY_TOO_LARGE}
 use Rattle.cip_objects.specs.Status.{refusal_status}
 use Rattle.cip_owner.specs.declared.owned.OwnedObjects.{OwnedObjects}
 use Rattle.cip_owner.specs.Queue.{QueueState, QueueResult, QueueOutcome, Pending, Done, Unknown}

@@ -20,7 +20,7 @@ use Rattle.cip_objects.specs.Packets.{exec_routed}
 use Rattle.cip_objects.specs.PacketLaws.{exec_routed_too_large, exec_routed_begins, exec_routed_within}
 use Rattle.cip_objects.specs.OwnRequests.{Asked, own_request, asked_of, asked_by_path, asked_by_request, ask_set}
 use Rattle.cip_objects.specs.OwnRequests.{ask_service, checked_attribute, is_own_service, own_object}
-use Rattle.cip_objects.specs.Router.{general_status, IsReplyTo, REPLY_TOO_LARGE}
+use Rattle.cip_message.specs.Router.{general_status, IsReplyTo, REPLY_TOO_LARGE}
 use Rattle.cip_owner.specs.Queue.{QueueState, QueueResult, QueueOutcome, Pending, Done, Unknown, takes, pushed}
 use Rattle.cip_owner.specs.Queue.{result_of}
 use Rattle.cip_owner.specs.Replies.{Reply}

@@ -4,7 +4,7 @@ use Rattle.std.specs.Prelude.{Option, Some, None, List, [], ◌∷◌, ◌++◌,
 use Rattle.std.specs.List.{AllByRecursion}
 use Rattle.byteorder.specs.Endian.{little_number}
 use Rattle.cip_objects.specs.OwnRequests.{Asked}
-use Rattle.cip_objects.specs.Router.{REPLY_TOO_LARGE}
+use Rattle.cip_message.specs.Router.{REPLY_TOO_LARGE}
 use Rattle.cip_owner.specs.Replies.{Reply}
 
 -- A command that waits: its ticket, the object and the service, the data, and the most bytes of the reply's data.

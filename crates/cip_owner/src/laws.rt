@@ -1,7 +1,7 @@
 //! What holds of every execution of a request by the objects and their owner, and of the queue over any number of
 //! steps. The functions do nothing: their clauses are the laws.
 
-ghost use Rattle.cip_objects.specs.Router.{RepliesWellFormed};
+ghost use Rattle.cip_message.specs.Router.{RepliesWellFormed};
 ghost use Rattle.cip_owner.specs.Owned.{OwnedState, exec_owned};
 ghost use Rattle.cip_owner.specs.OwnerLaws.{given_law, unasked_law, unprepared_law, asked_alike_law};
 ghost use Rattle.cip_owner.specs.QueueLaws.{tickets_law, numbers_law, waiting_law, results_law, once_law, finished_law};

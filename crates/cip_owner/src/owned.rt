@@ -2,7 +2,7 @@
 ghost use Rattle.std.specs.Prelude.{◌≡◌, ◌≤◌, [], length, None, is_some, IfSome, MatchOption};
 ghost use Rattle.std.specs.Option.{option_map};
 ghost use Rattle.cip_objects.specs.OwnRequests.{own_request, asked_in};
-ghost use Rattle.cip_objects.specs.Router.{general_status};
+ghost use Rattle.cip_message.specs.Router.{general_status};
 ghost use Rattle.cip_owner.specs.Owned.{exec_owned, asks, is_asked, answer_with, given, asked_now, queued, ticket_by};
 ghost use Rattle.cip_owner.specs.Owned.{of_kind, result_answer, done_answer, after_reply, is_left, IsDone, IsTaken};
 ghost use Rattle.cip_owner.specs.Owned.{IsReset};

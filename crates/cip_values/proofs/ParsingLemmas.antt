@@ -10,7 +10,7 @@ use Rattle.std.specs.Int.{w128}
 use Rattle.std.specs.List.{list_all}
 use Rattle.std.specs.Result.{OkIff, result_unwrap_or}
 use Rattle.std.specs.Str.Parse.{IsNumeral, AllDigits, digits_value, ParsesSigned}
-use Rattle.cip_values.specs.Values.{IsSignedOf, IsUnsignedOf}
+use Rattle.cip_values.specs.Values.{IsUnsignedOf}
 use Rattle.cip_values.specs.Parsing.{ParsesAsInteger, ParsesAsSized, ParsesAsUnsigned, ParsesAsBits, Clamps}
 use Rattle.cip_values.specs.declared.parsing.ParseFault.{ParseFault}
 use Rattle.cip_values.specs.declared.parsing.ParseFault.TheVariants as parse_faults
@@ -124,12 +124,6 @@ negative_told word digits n e numeral value =
     let minus : to_z w128 (of_z w128 (pos 0 -ℤ pos (min v most))) ≡ neg_ℤ (pos (min v most)) = omega (arith, ints) in
     rw (is, minus) (near_below v (ParsesAsInteger word) parses)
 
-pub negative_untold : (word digits : List ℕ) → word ≡ codes "-" ++ digits → (IsNumeral 10 digits → ⊥) → (z : ℤ) → ParsesAsInteger word z → ⊥
-negative_untold word digits e none z (inl (numeral, _)) = not_numeral 45 digits (inl refl) (rw e at numeral)
-negative_untold word digits e none z (inr (ds, (f, numeral, _))) =
-    let same : digits ≡ ds = ap (drop 1) (sym e ∙ f) in
-    none (rw same numeral)
-
 pub plain_told : (word : List ℕ) (n : ℤ) → IsNumeral 10 word → n ≡ pos (min (digits_value 10 word) most) → Clamps (ParsesAsInteger word) n
 plain_told word n numeral value = rw value (near (digits_value 10 word) (ParsesAsInteger word) (inl (numeral, refl)))
 
@@ -166,32 +160,14 @@ power_le n high = (
   pow-le-pow_right {n = 2} (omega arith) {i = 8 * n} {j = 64} (omega arith),
 )
 
-signed_near : (n : ℕ) (z : ℤ) → n ≤ 8 → IsSignedOf n z → unsigned_abs z < 2 ^ 64
-signed_near n (pos k) high h = let half : k < 2 ^ (8 * n - 1) = h in let p = (power_le n high).0 in omega arith
-signed_near n (negsuc k) high h = let half : k < 2 ^ (8 * n - 1) = h in let p = (power_le n high).0 in omega arith
-
 unsigned_near : (n : ℕ) (z : ℤ) → n ≤ 8 → IsUnsignedOf n z → unsigned_abs z < 2 ^ 64
 unsigned_near n (pos k) high h = let below : k < 2 ^ (8 * n) = h in let p = (power_le n high).1 in omega arith
 unsigned_near n (negsuc k) high h = absurd h
-
--- a clamped number in range is the parsed one, and one out of range is so because the parsed one is
-told_in : (Told In : ℤ → Type 0) → ((z : ℤ) → In z → unsigned_abs z < 2 ^ 64) → (n : ℤ) → Clamps Told n → In n → Told n
-told_in Told In small n (z, (parses, inl e)) h = rw e parses
-told_in Told In small n (z, (parses, inr far)) h = let near = small n h in absurd (omega (arith, near, far.1))
 
 told_out : (Told In : ℤ → Type 0) → ((z : ℤ) → In z → unsigned_abs z < 2 ^ 64) → (n : ℤ) → Clamps Told n → (In n → ⊥)
     → (z : ℤ) × (Told z × (In z → ⊥))
 told_out Told In small n (z, (parses, inl e)) h = (z, (parses, rw e at h))
 told_out Told In small n (z, (parses, inr far)) h = (z, (parses, λ k. let near = small z k in omega (arith, near, far.0)))
-
-pub signed_in : (Told : ℤ → Type 0) (size : ℕ) (n : ℤ) → size ≤ 8 → Clamps Told n → IsSignedOf size n → Told n
-signed_in Told size n high = told_in Told (IsSignedOf size) (λ z. signed_near size z high) n
-
-pub signed_out : (Told : ℤ → Type 0) (size : ℕ) (n : ℤ) → size ≤ 8 → Clamps Told n → (IsSignedOf size n → ⊥) → (z : ℤ) × (Told z × (IsSignedOf size z → ⊥))
-signed_out Told size n high = told_out Told (IsSignedOf size) (λ z. signed_near size z high) n
-
-pub unsigned_in : (Told : ℤ → Type 0) (size : ℕ) (n : ℤ) → size ≤ 8 → Clamps Told n → IsUnsignedOf size n → Told n
-unsigned_in Told size n high = told_in Told (IsUnsignedOf size) (λ z. unsigned_near size z high) n
 
 pub unsigned_out : (Told : ℤ → Type 0) (size : ℕ) (n : ℤ) → size ≤ 8 → Clamps Told n → (IsUnsignedOf size n → ⊥) → (z : ℤ) × (Told z × (IsUnsignedOf size z → ⊥))
 unsigned_out Told size n high = told_out Told (IsUnsignedOf size) (λ z. unsigned_near size z high) n

@@ -35,9 +35,6 @@ by_form forms.Date is P Q h = absurd is
 by_form forms.TimeOfDay is P Q h = absurd is
 by_form forms.DateAndTime is P Q h = absurd is
 
-pub so_far_none : (value_type : ValueType) → SoFar value_type [] []
-so_far_none value_type = record { values = []; parses = tt; begins = record { of_type = tt; bytes_of = refl } }
-
 all-append : (P : Value → Type 0) (xs : List Value) (x : Value) → AllByRecursion P xs → P x → AllByRecursion P (xs ++ x ∷ [])
 all-append P [] x h k = (k, tt)
 all-append P (y ∷ xs) x h k = (h.0, all-append P xs x h.1 k)

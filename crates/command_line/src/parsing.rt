@@ -2,8 +2,8 @@
 
 use clap::ArgMatches;
 use clap::error::{Error, ErrorKind};
-use enip_cli::{OsArg, program};
-use enip_common::{ARGUMENTS_REFUSED, CommandError, OUTPUT};
+use enip_cli::program;
+use enip_common::{ARGUMENTS_REFUSED, CommandError, OUTPUT, OsArg};
 
 /// Parses the arguments of the program. If they are refused, or ask for the help or the version, prints that.
 ///

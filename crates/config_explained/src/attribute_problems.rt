@@ -1,13 +1,10 @@
 //! What is wrong with an attribute of an own object whose keys each have a value of their type.
 
-use crate::explanation::part_at;
-use attribute_types::{AttributeType, bound, number_type, value_bytes, width_of};
+use attribute_types::{AttributeType, TypedFault, number_type, width_of};
 use cip_application::{AttributeConfig, AttributeKind, SetFault};
 use cip_values::ElementaryType;
-use config_refusal::LoadFault;
-use std::alloc::{AllocError, Global};
 use thiserror::Error;
-use toml::{Table, Value};
+use toml::Table;
 
 /// What is wrong with an attribute, how many attributes an object has, or how many bytes all values have.
 #[derive(Clone, Copy, Debug, Error)]
@@ -40,59 +37,47 @@ pub(crate) enum AttributeProblem {
     Total,
 }
 
-/// What is wrong with the attribute at these indices of its object and in it, and at which key.
-pub(crate) fn attribute_problem(
-    alloc: Global,
-    text: &Table,
-    place: (usize, usize),
-    attribute: &AttributeConfig,
-) -> Result<Option<(&'static str, AttributeProblem)>, AllocError> {
-    if attribute.number == 0 {
-        return Ok(Some(("number", AttributeProblem::NoNumber)));
-    }
-    let Some(Value::Table(table)) = part_at(text, place.0, "attribute", place.1) else {
-        return Ok(None);
-    };
-    let Some(Value::String(name)) = table.get("type") else {
-        return Ok(None);
-    };
-    let Some(of_type) = AttributeType::from_name(name.as_str()) else {
-        return Ok(Some(("type", AttributeProblem::NoType)));
-    };
-    let size = of_type.fixed_size();
-    if size == 0 || size > 500 {
-        return Ok(Some(("type", AttributeProblem::Size(of_type, size))));
-    }
-    if let Some(found) = bad_bounds(of_type, table) {
-        return Ok(Some(found));
-    }
-    if let Some(value) = table.get("value") {
-        match value_bytes(alloc, of_type, value) {
-            Ok(_) => {}
-            Err(LoadFault::Memory) => return Err(AllocError),
-            Err(LoadFault::Refused(_)) => {
-                return Ok(Some(("value", AttributeProblem::Value("value", of_type))));
-            }
-        }
-    }
-    Ok(bad_value(of_type, table, attribute))
+/// An attribute as the document describes it.
+#[derive(Clone, Copy)]
+pub(crate) struct Described<'a> {
+    pub(crate) table: Option<&'a Table>,
+    pub(crate) of_type: Option<AttributeType>,
+    /// Why it has no bytes of its type.
+    pub(crate) fault: Option<TypedFault>,
 }
 
-/// What is wrong with the bounds of a type's numbers, and at which key.
-fn bad_bounds(of_type: AttributeType, table: &Table) -> Option<(&'static str, AttributeProblem)> {
-    for key in ["min", "max"] {
-        let Some(value) = table.get(key) else {
-            continue;
-        };
-        match element_of(of_type) {
-            None => return Some((key, AttributeProblem::NoNumbers(of_type))),
-            Some(element) if bound(element, Some(value), 0).is_err() => {
-                return Some((key, AttributeProblem::Value(key, of_type)));
-            }
-            Some(_) => {}
-        }
+impl Described<'_> {
+    fn has(&self, key: &str) -> bool {
+        self.table.is_some_and(|table| table.get(key).is_some())
     }
-    None
+}
+
+/// What is wrong with an attribute, and at which key.
+pub(crate) fn attribute_problem(
+    described: Described<'_>,
+    attribute: &AttributeConfig,
+) -> Option<(&'static str, AttributeProblem)> {
+    if attribute.number == 0 {
+        return Some(("number", AttributeProblem::NoNumber));
+    }
+    if let Some(TypedFault::NoType) = described.fault {
+        return Some(("type", AttributeProblem::NoType));
+    }
+    let of_type = described.of_type?;
+    let size = of_type.fixed_size();
+    if size == 0 || size > 500 {
+        return Some(("type", AttributeProblem::Size(of_type, size)));
+    }
+    match described.fault {
+        Some(TypedFault::NoNumbers) => {
+            let key = if described.has("min") { "min" } else { "max" };
+            Some((key, AttributeProblem::NoNumbers(of_type)))
+        }
+        Some(TypedFault::Least) => Some(("min", AttributeProblem::Value("min", of_type))),
+        Some(TypedFault::Greatest) => Some(("max", AttributeProblem::Value("max", of_type))),
+        Some(TypedFault::Value) => Some(("value", AttributeProblem::Value("value", of_type))),
+        Some(TypedFault::NoType) | None => bad_value(of_type, described, attribute),
+    }
 }
 
 /// The elementary type of a type's values, if these are numbers.
@@ -107,15 +92,11 @@ fn element_of(of_type: AttributeType) -> Option<ElementaryType> {
 /// What is wrong with the value of an attribute, and at which key.
 fn bad_value(
     of_type: AttributeType,
-    table: &Table,
+    described: Described<'_>,
     attribute: &AttributeConfig,
 ) -> Option<(&'static str, AttributeProblem)> {
     if has_falling_range(of_type, attribute.kind) {
-        let key = if table.get("min").is_some() {
-            "min"
-        } else {
-            "max"
-        };
+        let key = if described.has("min") { "min" } else { "max" };
         return Some((key, AttributeProblem::Range));
     }
     let value = attribute.value.as_slice();
@@ -123,7 +104,7 @@ fn bad_value(
         Ok(()) => None,
         Err(SetFault::InvalidAttributeValue) => match of_type {
             AttributeType::ShortString(_) => Some(("value", AttributeProblem::TooLong(of_type))),
-            _ if table.get("value").is_some() => Some(("value", AttributeProblem::OutOfRange)),
+            _ if described.has("value") => Some(("value", AttributeProblem::OutOfRange)),
             _ => Some(("number", AttributeProblem::NoValue)),
         },
         Err(_) => {

@@ -1,13 +1,13 @@
 //! The known key that an unknown one was probably meant to be.
 
-use enip_config::rules::TableKind;
+use crate::place::Place;
 use std::alloc::{AllocError, Global};
 use strsim::damerau_levenshtein;
 
-/// The names of the known keys in this kind of table, and of the tables in it.
-fn names_of(kind: TableKind) -> &'static [&'static str] {
-    match kind {
-        TableKind::Text => &[
+/// The names of the known keys of a table, and of the tables in it.
+fn names_of(place: Place) -> &'static [&'static str] {
+    match place {
+        Place::Text => &[
             "vendor",
             "device_type",
             "product_code",
@@ -34,13 +34,13 @@ fn names_of(kind: TableKind) -> &'static [&'static str] {
             "ethernet_link",
             "object",
         ],
-        TableKind::Counter => &["value", "limit", "enabled"],
-        TableKind::Identity => &["reset"],
-        TableKind::Assembly => &["instance", "members", "settable", "lists"],
-        TableKind::Ledger => &["originators", "life"],
-        TableKind::Commands => &["queue", "ahead"],
-        TableKind::Access => &["read", "write", "per_address", "connections_per_address"],
-        TableKind::TcpIp => &[
+        Place::Table("counter", _) => &["value", "limit", "enabled"],
+        Place::Table("identity", _) => &["reset"],
+        Place::Table("assembly", _) => &["instance", "members", "settable", "lists"],
+        Place::Table("ledger", _) => &["originators", "life"],
+        Place::Table("commands", _) => &["queue", "ahead"],
+        Place::Table("access", _) => &["read", "write", "per_address", "connections_per_address"],
+        Place::Table("tcp_ip", _) => &[
             "address",
             "mask",
             "gateway",
@@ -50,7 +50,7 @@ fn names_of(kind: TableKind) -> &'static [&'static str] {
             "interface",
             "inactivity_timeout",
         ],
-        TableKind::EthernetLink => &[
+        Place::Table("ethernet_link", _) => &[
             "speed",
             "flags",
             "physical_address",
@@ -59,11 +59,11 @@ fn names_of(kind: TableKind) -> &'static [&'static str] {
             "label",
             "interface",
         ],
-        TableKind::Object => &["class", "instance", "name", "lists", "attribute", "service"],
-        TableKind::Attribute => &[
+        Place::Table(..) => &["class", "instance", "name", "lists", "attribute", "service"],
+        Place::Part(_, "service", _) => &["number", "size", "sizes", "reply", "queued"],
+        Place::Part(..) => &[
             "number", "type", "value", "settable", "checked", "min", "max",
         ],
-        TableKind::Service => &["number", "size", "sizes", "reply", "queued"],
     }
 }
 
@@ -75,12 +75,12 @@ fn names_of(kind: TableKind) -> &'static [&'static str] {
 /// `AllocError` if memory is refused.
 pub(crate) fn nearest_key(
     alloc: Global,
-    kind: TableKind,
+    place: Place,
     key: &str,
 ) -> Result<Option<&'static str>, AllocError> {
     let mut most = key.chars().count() / 3;
     let mut nearest = None;
-    for name in names_of(kind) {
+    for name in names_of(place) {
         let edits = damerau_levenshtein(alloc, key, *name)?;
         if edits <= most && edits > 0 {
             most = edits - 1;

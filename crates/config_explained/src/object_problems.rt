@@ -1,33 +1,38 @@
 //! What is wrong with the objects of a configuration whose values are each valid.
 
-use crate::explanation::{Location, Problem};
 use crate::finding::Finding;
 use crate::own_problems::own_problem;
+use crate::place::Place;
+use crate::problem::{Located, Problem};
+use attribute_types::AttributeType;
 use cip_objects::{AssemblyConfig, Config, ConfigFault};
-use enip_config::Configuration;
-use std::alloc::{AllocError, Global};
+use std::alloc::AllocError;
 use toml::Table;
 
-/// What the objects refuse: the first check that fails.
-pub(crate) fn object_problem(
-    alloc: Global,
+/// What the objects of a document refuse: the first check that fails. `types` has the types of the attributes of each own
+/// object, and `finding` the first attribute without bytes of its type.
+///
+/// # Errors
+///
+/// `AllocError` if memory is refused.
+pub fn object_problem(
     text: &Table,
-) -> Result<Option<Finding<'static>>, AllocError> {
-    let Ok(configuration) = Configuration::from_table(alloc, text) else {
-        return Err(AllocError);
-    };
-    let config = configuration.into_objects();
+    config: Config,
+    types: &[Vec<AttributeType>],
+    finding: &Finding,
+) -> Result<Option<Located<'static>>, AllocError> {
     match config.fault() {
         None => Ok(None),
-        Some(ConfigFault::Name) => Ok(Some(Finding::new(
-            Location::Text("name"),
+        Some(ConfigFault::Name) => Ok(Some(Located::at_key(
+            Place::Text,
+            "name",
             Problem::Name(config.name.len()),
         ))),
         Some(ConfigFault::Limit) => {
             let problem = Problem::Limit(config.counter.value, config.counter.limit);
-            Ok(Some(Finding::new(Location::Counter("value"), problem)))
+            Ok(Some(Located::at_key(Place::Table("counter", 0), "value", problem)))
         }
-        Some(check) if is_own(check) => own_problem(alloc, text, config, check),
+        Some(check) if is_own(check) => own_problem(text, config, types, finding.untyped(), check),
         Some(check) => assembly_problem(config, check),
     }
 }
@@ -44,7 +49,7 @@ fn is_own(check: ConfigFault) -> bool {
 fn assembly_problem(
     config: Config,
     check: ConfigFault,
-) -> Result<Option<Finding<'static>>, AllocError> {
+) -> Result<Option<Located<'static>>, AllocError> {
     let mut config = config;
     let count = config.assemblies.len();
     for _ in 0..count {
@@ -52,7 +57,7 @@ fn assembly_problem(
             break;
         };
         if config.fault() != Some(check) {
-            let location = Location::InAssembly(config.assemblies.len(), key_of(check));
+            let place = Place::Table("assembly", config.assemblies.len());
             config.assemblies.clear();
             config.assemblies.push(last)?;
             let is_alone = config.fault() == Some(check);
@@ -60,7 +65,7 @@ fn assembly_problem(
                 break;
             };
             let problem = problem_with(&last, check, count, is_alone);
-            return Ok(Some(Finding::new(location, problem)));
+            return Ok(Some(Located::at_key(place, key_of(check), problem)));
         }
     }
     Ok(None)

@@ -1,14 +1,16 @@
 //! What is wrong with the own objects of a configuration whose keys each have a value of their type.
 
-use crate::attribute_problems::{AttributeProblem, attribute_problem};
-use crate::explanation::{Location, Problem};
-use crate::finding::Finding;
+use crate::attribute_problems::{AttributeProblem, Described, attribute_problem};
+use crate::finding::Untyped;
+use crate::place::Place;
+use crate::problem::{Located, Problem};
+use attribute_types::AttributeType;
 use cip_application::{
-    ETHERNET_LINK, GET_RESULT, ObjectConfig, QUEUED_REPLY_LIMIT, ServiceConfig, TCP_IP_INTERFACE,
+    ETHERNET_LINK, GET_RESULT, ObjectConfig, QUEUED_REPLY_LIMIT, ServiceConfig, ServiceKind,
+    TCP_IP_INTERFACE,
 };
 use cip_objects::{Config, ConfigFault};
-use enip_config::rules::{has_queued_service, is_queued};
-use std::alloc::{AllocError, Global};
+use std::alloc::AllocError;
 use thiserror::Error;
 use toml::Table;
 
@@ -52,11 +54,12 @@ pub(crate) enum ServiceProblem {
 
 /// What is wrong with the first object at which a check fails: it passes with only the objects before it.
 pub(crate) fn own_problem(
-    alloc: Global,
     text: &Table,
     config: Config,
+    types: &[Vec<AttributeType>],
+    untyped: Option<Untyped>,
     check: ConfigFault,
-) -> Result<Option<Finding<'static>>, AllocError> {
+) -> Result<Option<Located<'static>>, AllocError> {
     let mut config = config;
     let count = config.objects.len();
     for _ in 0..count {
@@ -64,14 +67,16 @@ pub(crate) fn own_problem(
             break;
         };
         if config.fault() != Some(check) {
-            let place = config.objects.len();
+            let index = config.objects.len();
             if last.standard {
                 return Ok(Some(standard_problem(last.class, check, count)));
             }
             return match check {
                 ConfigFault::Object => object_problem(config, last, count),
-                ConfigFault::Attribute => attributes_problem(alloc, text, place, &last),
-                _ => Ok(service_problem(place, &last)),
+                ConfigFault::Attribute => {
+                    Ok(Some(attributes_problem(text, index, &last, types.get(index), untyped)))
+                }
+                _ => Ok(service_problem(index, &last)),
             };
         }
     }
@@ -80,17 +85,16 @@ pub(crate) fn own_problem(
 
 /// What is wrong with the object of a table `tcp_ip` or `ethernet_link`, or of the key `message_router`: with it, there
 /// are too many objects, or their values are too large.
-fn standard_problem(class: u16, check: ConfigFault, count: usize) -> Finding<'static> {
-    let key = match class {
-        TCP_IP_INTERFACE => "tcp_ip",
-        ETHERNET_LINK => "ethernet_link",
-        _ => "message_router",
-    };
+fn standard_problem(class: u16, check: ConfigFault, count: usize) -> Located<'static> {
     let problem = match check {
         ConfigFault::Object => Problem::Object(ObjectProblem::Count(count)),
         _ => Problem::Attribute(AttributeProblem::Total),
     };
-    Finding::new(Location::Text(key), problem)
+    match class {
+        TCP_IP_INTERFACE => Located::at_table(Place::Table("tcp_ip", 0), problem),
+        ETHERNET_LINK => Located::at_table(Place::Table("ethernet_link", 0), problem),
+        _ => Located::at_key(Place::Text, "message_router", problem),
+    }
 }
 
 /// What is wrong with an object that is not allowed after those before it.
@@ -98,9 +102,9 @@ fn object_problem(
     before: Config,
     object: ObjectConfig,
     count: usize,
-) -> Result<Option<Finding<'static>>, AllocError> {
+) -> Result<Option<Located<'static>>, AllocError> {
     let mut before = before;
-    let place = before.objects.len();
+    let place = Place::Table("object", before.objects.len());
     let (class, instance) = (object.class, object.instance);
     let is_twice = before
         .objects
@@ -113,15 +117,19 @@ fn object_problem(
     before.objects.clear();
     before.objects.push(object)?;
     let is_bad_alone = before.fault() == Some(ConfigFault::Object);
-    let (key, problem) = match (class, instance, name) {
-        (0, _, _) => ("class", ObjectProblem::NoClass),
-        (_, 0, _) => ("instance", ObjectProblem::NoInstance),
-        (_, _, Some(size)) => ("name", ObjectProblem::Name(size)),
-        _ if is_bad_alone => ("class", ObjectProblem::TakenClass(class)),
-        _ if is_twice => ("instance", ObjectProblem::Twice(class, instance)),
-        _ => ("class", ObjectProblem::Count(count)),
+    let (key, about, problem) = match (class, instance, name) {
+        (0, _, _) => ("class", place, ObjectProblem::NoClass),
+        (_, 0, _) => ("instance", place, ObjectProblem::NoInstance),
+        (_, _, Some(size)) => ("name", place, ObjectProblem::Name(size)),
+        _ if is_bad_alone => ("class", place, ObjectProblem::TakenClass(class)),
+        _ if is_twice => (
+            "instance",
+            Place::Text,
+            ObjectProblem::Twice(class, instance),
+        ),
+        _ => ("class", Place::Text, ObjectProblem::Count(count)),
     };
-    Ok(Some(Finding::new(Location::InObject(place, key), Problem::Object(problem))))
+    Ok(Some(Located::at_key(place, key, Problem::Object(problem)).about(about)))
 }
 
 /// Whether a name is empty, too long, or not printable.
@@ -131,64 +139,67 @@ fn is_bad_name(name: &[u8]) -> bool {
 
 /// What is wrong with the attributes of an object.
 fn attributes_problem(
-    alloc: Global,
     text: &Table,
-    place: usize,
-    object: &ObjectConfig,
-) -> Result<Option<Finding<'static>>, AllocError> {
-    let attributes = object.attributes.as_slice();
+    object: usize,
+    config: &ObjectConfig,
+    types: Option<&Vec<AttributeType>>,
+    untyped: Option<Untyped>,
+) -> Located<'static> {
+    let place = Place::Table("object", object);
+    let attributes = config.attributes.as_slice();
     if attributes.len() > 32 {
         let problem = AttributeProblem::Count(attributes.len());
-        return Ok(Some(Finding::new(
-            Location::InObject(place, "attribute"),
-            Problem::Attribute(problem),
-        )));
+        return Located::at_key(place, "attribute", Problem::Attribute(problem));
     }
     for (index, attribute) in attributes.iter().enumerate() {
+        let part = Place::Part(object, "attribute", index);
         let is_twice = attributes[..index]
             .iter()
             .any(|other| other.number == attribute.number);
-        let found = if is_twice {
-            Some(("number", AttributeProblem::Twice(attribute.number)))
-        } else {
-            attribute_problem(alloc, text, (place, index), attribute)?
+        if is_twice {
+            let problem = AttributeProblem::Twice(attribute.number);
+            return Located::at_key(part, "number", Problem::Attribute(problem)).about(place);
+        }
+        let described = Described {
+            table: part.table_in(text),
+            of_type: types.and_then(|types| types.get(index)).copied(),
+            fault: match untyped {
+                Some(untyped) if untyped.object == object && untyped.attribute == index => {
+                    Some(untyped.fault)
+                }
+                _ => None,
+            },
         };
-        if let Some((key, problem)) = found {
-            return Ok(Some(Finding::new(
-                Location::InPart(place, "attribute", index, key),
-                Problem::Attribute(problem),
-            )));
+        if let Some((key, problem)) = attribute_problem(described, attribute) {
+            return Located::at_key(part, key, Problem::Attribute(problem));
         }
     }
-    Ok(Some(Finding::new(
-        Location::InObject(place, "attribute"),
-        Problem::Attribute(AttributeProblem::Total),
-    )))
+    let problem = Problem::Attribute(AttributeProblem::Total);
+    Located::at_key(place, "attribute", problem).about(Place::Text)
 }
 
 /// What is wrong with the services of an object.
-fn service_problem(place: usize, object: &ObjectConfig) -> Option<Finding<'static>> {
-    let services = described_services(object);
-    if let Some(problem) = count_problem(object) {
-        return Some(Finding::new(
-            Location::InObject(place, "service"),
-            Problem::Service(problem),
-        ));
+fn service_problem(object: usize, config: &ObjectConfig) -> Option<Located<'static>> {
+    let place = Place::Table("object", object);
+    let services = described_services(config);
+    if let Some(problem) = count_problem(config) {
+        return Some(Located::at_key(place, "service", Problem::Service(problem)));
     }
     for (index, service) in services.iter().enumerate() {
+        let part = Place::Part(object, "service", index);
         let is_twice = services[..index]
             .iter()
             .any(|other| other.number == service.number);
-        let found = if is_twice {
-            Some(("number", ServiceProblem::Twice(service.number)))
-        } else {
-            one_service_problem(service, has_result(object))
-        };
-        if let Some((key, problem)) = found {
-            return Some(Finding::new(
-                Location::InPart(place, "service", index, key),
-                Problem::Service(problem),
-            ));
+        if is_twice {
+            let problem = Problem::Service(ServiceProblem::Twice(service.number));
+            return Some(Located::at_key(part, "number", problem).about(place));
+        }
+        if let Some((key, problem)) = one_service_problem(service, has_result(config)) {
+            let about = match problem {
+                ServiceProblem::Result(_) => place,
+                _ => part,
+            };
+            return Some(Located::at_key(part, key, Problem::Service(problem)).about(about));
         }
     }
     None
@@ -196,7 +207,12 @@ fn service_problem(place: usize, object: &ObjectConfig) -> Option<Finding<'stati
 
 /// Whether an object has Get_Result, because it has a queued service. It is the last of the object's services.
 fn has_result(object: &ObjectConfig) -> bool {
-    has_queued_service(&object.services)
+    object.services.iter().any(is_queued)
+}
+
+/// Whether a service is queued.
+fn is_queued(service: &ServiceConfig) -> bool {
+    matches!(service.kind, ServiceKind::Queued)
 }
 
 /// The services of an object that are described.

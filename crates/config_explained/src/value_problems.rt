@@ -1,105 +1,101 @@
 //! What is wrong with the value of a key: it is missing, has another type or is out of range.
 
-use crate::access_problems::bad_shares;
-use crate::explanation::{Location, Problem};
-use crate::finding::{Finding, KeyFinding};
+use crate::finding::{Expected, Finding};
 use crate::missing_keys::MissingKeys;
-use crate::own_value_problems::bad_objects;
-use crate::standard_problems::{bad_interface, bad_link, bad_router};
+use crate::place::Place;
+use crate::problem::{Located, Problem};
 use attribute_types::number_in;
-use enip_config::NumberKey;
-use enip_config::rules::{AHEAD, INSTANCE, LIFE, ORIGINATORS, QUEUE, Row, TEXT_NUMBERS};
 use toml::{Table, Value};
 
-/// The keys at the top level that have no default.
-const REQUIRED: [&str; 7] = [
-    "vendor",
-    "device_type",
-    "product_code",
-    "major",
-    "minor",
-    "serial",
-    "name",
-];
+/// The keys of the table `ethernet_link` whose values are read from the interface that it names.
+const OF_THE_LINK: [&str; 4] = ["speed", "flags", "physical_address", "state"];
 
-/// The required keys that are missing, if there are any. Otherwise the first bad value, in this order: the numbers, the
-/// name, the address, the counter, the table `identity`, the assemblies, the tables `ledger`, `commands`, `access`, `tcp_ip` and
-/// `ethernet_link`, the key `message_router`, the own objects.
-pub(crate) fn bad_value(text: &Table) -> Option<Finding<'static>> {
-    if let Some(found) = missing_in(text, &REQUIRED) {
-        let location = Location::Text(found.key);
-        return Some(found.at(location));
+/// What is wrong where the reader of a document refused a value: the required keys that the top level or the table does
+/// not have, or the value itself.
+pub fn bad_value(text: &Table, finding: &Finding) -> Option<Located<'static>> {
+    if let Some(missing) = missing_in(text, Place::Text) {
+        return Some(missing);
     }
-    for key in &TEXT_NUMBERS {
-        let row = key.row();
-        if let Some(problem) = bad_number(text, row) {
-            return Some(Finding::new(Location::Text(row.name), problem));
-        }
+    let place = finding.place();
+    let (key, expected) = finding.key();
+    let Some(table) = place.taken_in(text) else {
+        return Some(Located::at_table(place, Problem::Type(place.name(), "a table")));
+    };
+    if let Some(missing) = missing_in(table, place) {
+        return Some(missing);
     }
-    if let Some(problem) = bad_name(text) {
-        return Some(Finding::new(Location::Text("name"), problem));
-    }
-    if let Some(problem) = bad_address(text) {
-        return Some(Finding::new(Location::Text("address"), problem));
-    }
-    if let Some(found) = bad_counter(text) {
-        return Some(found);
-    }
-    if let Some(found) = bad_identity(text) {
-        return Some(found);
-    }
-    if let Some(found) = bad_assemblies(text) {
-        return Some(found);
-    }
-    if let Some(found) = bad_ledger(text) {
-        return Some(found);
-    }
-    if let Some(found) = bad_commands(text) {
-        return Some(found);
-    }
-    if let Some(found) = bad_shares(text) {
-        return Some(found);
-    }
-    if let Some(found) = bad_interface(text) {
-        return Some(found);
-    }
-    if let Some(found) = bad_link(text) {
-        return Some(found);
-    }
-    if let Some(found) = bad_router(text) {
-        return Some(found);
-    }
-    bad_objects(text)
+    let (key, problem) = match expected {
+        Expected::Sizes => bad_sizes(table)?,
+        Expected::Interface => bad_interface(table, place)?,
+        _ => (key, bad_value_of(key, expected, table.get(key)?)?),
+    };
+    Some(Located::at_key(place, key, problem))
 }
 
-/// The first of these keys that a table does not have, and a problem that names all that it does not have.
-pub(crate) fn missing_in(table: &Table, required: &[&'static str]) -> Option<KeyFinding<'static>> {
+/// The keys without a default that a table does not have.
+fn missing_in(table: &Table, place: Place) -> Option<Located<'static>> {
     let mut missing = MissingKeys::new();
-    for key in required {
+    for key in required_keys(table, place) {
         if table.get(*key).is_none() {
             missing.push(*key);
         }
     }
     let first = missing.first()?;
-    Some(KeyFinding::new(first, Problem::MissingKeys(missing)))
+    let problem = Problem::MissingKeys(missing);
+    Some(match place {
+        // no line has it
+        Place::Text => Located::at_key(place, first, problem),
+        _ => Located::at_table(place, problem),
+    })
 }
 
-/// What is wrong with the number of a key.
-pub(crate) fn bad_number(table: &Table, row: Row) -> Option<Problem> {
-    match table.get(row.name) {
-        None if row.default.is_some() => None,
-        None => Some(Problem::Missing(row.name)),
-        Some(value) => out_of_range(row.name, value, row.least, row.greatest),
+/// The keys of a table that have no default.
+fn required_keys(table: &Table, place: Place) -> &'static [&'static str] {
+    match place {
+        Place::Text => &[
+            "vendor",
+            "device_type",
+            "product_code",
+            "major",
+            "minor",
+            "serial",
+            "name",
+        ],
+        Place::Table("assembly", _) => &["instance", "members"],
+        Place::Table("object", _) => &["class", "instance"],
+        Place::Table("ledger", _) => &["originators"],
+        Place::Table("tcp_ip", _) if table.get("interface").is_none() => &["address", "mask"],
+        Place::Table(..) => &[],
+        Place::Part(_, "service", _) if table.get("sizes").is_some() => &["number", "sizes"],
+        Place::Part(_, "service", _) => &["number", "size"],
+        Place::Part(..) => &["number", "type"],
+    }
+}
+
+/// What is wrong with the value of a key.
+fn bad_value_of(key: &'static str, expected: Expected, value: &Value) -> Option<Problem> {
+    match expected {
+        Expected::Number(least, greatest) => out_of_range(key, value, least, greatest),
+        Expected::Flag => Some(Problem::Flag(key)),
+        Expected::String => Some(Problem::Type(key, "a string")),
+        Expected::Text(most) => Some(match value {
+            Value::String(text) => Problem::Text(key, text.len(), most),
+            _ => Problem::Type(key, "a string"),
+        }),
+        Expected::Tables => Some(Problem::Type(key, "an array of tables")),
+        Expected::Address => bad_numbers(key, value, 4),
+        Expected::MacAddress => bad_numbers(key, value, 6),
+        Expected::NameServers => bad_servers(value),
+        Expected::MemberSizes => match value {
+            Value::Array(values) => bad_member("a size in members", values.as_slice(), 0xffff),
+            _ => Some(Problem::Type(key, "an array of sizes")),
+        },
+        Expected::Table | Expected::Sizes | Expected::Interface | Expected::List => None,
     }
 }
 
 /// What is wrong with a number.
-pub(crate) fn out_of_range(
-    name: &'static str,
-    value: &Value,
-    least: u64,
-    greatest: u64,
-) -> Option<Problem> {
+fn out_of_range(name: &'static str, value: &Value, least: u64, greatest: u64) -> Option<Problem> {
     if number_in(value, least, greatest).is_ok() {
         return None;
     }
@@ -123,36 +119,33 @@ fn accepted_range(name: &str, least: u64, greatest: u64) -> (u64, u64) {
     }
 }
 
-fn bad_name(text: &Table) -> Option<Problem> {
-    match text.get("name") {
-        Some(Value::String(_)) => None,
-        Some(_) => Some(Problem::Type("name", "a string")),
-        None => Some(Problem::Missing("name")),
-    }
-}
-
-fn bad_address(text: &Table) -> Option<Problem> {
-    let value = text.get("address")?;
-    address_problem("address", "a number in address", value)
-}
-
-/// What is wrong with the address of a key. `number` is what its numbers are called.
-pub(crate) fn address_problem(
-    name: &'static str,
-    number: &'static str,
-    value: &Value,
-) -> Option<Problem> {
-    let Value::Array(values) = value else {
-        return Some(Problem::Type(name, "an array of four numbers"));
+/// What is wrong with an array of so many bytes, an address.
+fn bad_numbers(key: &'static str, value: &Value, count: usize) -> Option<Problem> {
+    let wanted = match count {
+        4 => "an array of four numbers",
+        _ => "an array of six numbers",
     };
-    if values.len() != 4 {
-        return Some(Problem::Type(name, "an array of four numbers"));
+    match value {
+        Value::Array(values) if values.len() == count => {
+            bad_member(number_name(key), values.as_slice(), 0xff)
+        }
+        _ => Some(Problem::Type(key, wanted)),
     }
-    bad_member(number, values.as_slice(), 0xff)
+}
+
+/// What a number of an address is called.
+fn number_name(key: &str) -> &'static str {
+    match key {
+        "address" => "a number in address",
+        "mask" => "a number in mask",
+        "gateway" => "a number in gateway",
+        "physical_address" => "a number in physical_address",
+        _ => "a number in name_servers",
+    }
 }
 
 /// What is wrong with the first of these values that is not a number from 0 to `most`. Each is called `name`.
-pub(crate) fn bad_member(name: &'static str, values: &[Value], most: u64) -> Option<Problem> {
+fn bad_member(name: &'static str, values: &[Value], most: u64) -> Option<Problem> {
     for value in values {
         if let Some(problem) = out_of_range(name, value, 0, most) {
             return Some(problem);
@@ -161,132 +154,48 @@ pub(crate) fn bad_member(name: &'static str, values: &[Value], most: u64) -> Opt
     None
 }
 
-fn bad_counter(text: &Table) -> Option<Finding<'static>> {
-    let table = match text.get("counter") {
-        None => return None,
-        Some(Value::Table(table)) => table,
-        Some(_) => return Some(Finding::new(
-            Location::Text("counter"),
-            Problem::Type("counter", "a table"),
-        )),
+/// What is wrong with the name servers.
+fn bad_servers(value: &Value) -> Option<Problem> {
+    let Value::Array(values) = value else {
+        return Some(Problem::Type("name_servers", "an array of addresses"));
     };
-    for key in [NumberKey::CounterValue, NumberKey::CounterLimit] {
-        let row = key.row();
-        if let Some(problem) = bad_number(table, row) {
-            return Some(Finding::new(Location::Counter(row.name), problem));
-        }
+    if values.len() > 2 {
+        return Some(Problem::Type("name_servers", "an array of up to two addresses"));
     }
-    let problem = bad_flag(table, "enabled")?;
-    Some(Finding::new(Location::Counter("enabled"), problem))
-}
-
-fn bad_identity(text: &Table) -> Option<Finding<'static>> {
-    let table = match text.get("identity") {
-        None => return None,
-        Some(Value::Table(table)) => table,
-        Some(_) => return Some(Finding::new(
-            Location::Text("identity"),
-            Problem::Type("identity", "a table"),
-        )),
-    };
-    let problem = bad_flag(table, "reset")?;
-    Some(Finding::new(Location::Identity("reset"), problem))
-}
-
-/// What is wrong with a key that is true or false.
-pub(crate) fn bad_flag(table: &Table, name: &'static str) -> Option<Problem> {
-    match table.get(name) {
-        None | Some(Value::Boolean(_)) => None,
-        Some(_) => Some(Problem::Flag(name)),
-    }
-}
-
-fn bad_ledger(text: &Table) -> Option<Finding<'static>> {
-    let table = match text.get("ledger") {
-        None => return None,
-        Some(Value::Table(table)) => table,
-        Some(_) => return Some(Finding::new(
-            Location::Text("ledger"),
-            Problem::Type("ledger", "a table"),
-        )),
-    };
-    for row in [ORIGINATORS, LIFE] {
-        if let Some(problem) = bad_number(table, row) {
-            let location = match table.get(row.name) {
-                Some(_) => Location::Ledger(row.name),
-                None => Location::Text("ledger"),
-            };
-            return Some(Finding::new(location, problem));
+    for value in values.as_slice() {
+        if let Some(problem) = bad_numbers("an address in name_servers", value, 4) {
+            return Some(problem);
         }
     }
     None
 }
 
-fn bad_commands(text: &Table) -> Option<Finding<'static>> {
-    let table = match text.get("commands") {
-        None => return None,
-        Some(Value::Table(table)) => table,
-        Some(_) => return Some(Finding::new(
-            Location::Text("commands"),
-            Problem::Type("commands", "a table"),
+/// What is wrong with the keys `size` and `sizes` of a service, and at which key.
+fn bad_sizes(table: &Table) -> Option<(&'static str, Problem)> {
+    match (table.get("size"), table.get("sizes")) {
+        (None, None) => None,
+        (Some(_), Some(_)) => Some(("sizes", Problem::Exclude("size", "sizes"))),
+        (Some(size), None) => Some(("size", out_of_range("size", size, 0, 0xffff)?)),
+        (None, Some(Value::Array(values))) if values.len() == 2 => Some((
+            "sizes",
+            bad_member("a size in sizes", values.as_slice(), 0xffff)?,
         )),
-    };
-    for row in [QUEUE, AHEAD] {
-        if let Some(problem) = bad_number(table, row) {
-            return Some(Finding::new(Location::Commands(row.name), problem));
-        }
+        (None, Some(_)) => Some(("sizes", Problem::Type("sizes", "an array of two sizes"))),
     }
-    None
 }
 
-fn bad_assemblies(text: &Table) -> Option<Finding<'static>> {
-    let values = match text.get("assembly") {
-        None => return None,
-        Some(Value::Array(values)) => values.as_slice(),
-        Some(_) => return Some(Finding::new(
-            Location::Text("assembly"),
-            Problem::Type("assembly", "an array of tables"),
-        )),
+/// What is wrong with the name of an interface, and at which key: it is not one, or the table has one of the values that
+/// are read from there.
+fn bad_interface(table: &Table, place: Place) -> Option<(&'static str, Problem)> {
+    let theirs: &[&'static str] = match place.name() {
+        "tcp_ip" => &["address", "mask"],
+        _ => &OF_THE_LINK,
     };
-    for (place, value) in values.iter().enumerate() {
-        let Value::Table(table) = value else {
-            return Some(Finding::new(
-                Location::Assembly(place),
-                Problem::Type("assembly", "a table"),
-            ));
-        };
-        if let Some(found) = bad_assembly(table) {
-            let location = match table.get(found.key) {
-                Some(_) => Location::InAssembly(place, found.key),
-                None => Location::Assembly(place),
-            };
-            return Some(found.at(location));
+    for key in theirs {
+        if table.get(*key).is_some() {
+            return Some((*key, Problem::Exclude(*key, "interface")));
         }
     }
-    None
-}
-
-/// What is wrong with a table `assembly`, and at which key.
-fn bad_assembly(table: &Table) -> Option<KeyFinding<'static>> {
-    if let Some(found) = missing_in(table, &[INSTANCE.name, "members"]) {
-        return Some(found);
-    }
-    if let Some(problem) = bad_number(table, INSTANCE) {
-        return Some(KeyFinding::new(INSTANCE.name, problem));
-    }
-    for key in ["settable", "lists"] {
-        if let Some(problem) = bad_flag(table, key) {
-            return Some(KeyFinding::new(key, problem));
-        }
-    }
-    let sizes = match table.get("members") {
-        None => return Some(KeyFinding::new("members", Problem::Missing("members"))),
-        Some(Value::Array(values)) => values.as_slice(),
-        Some(_) => return Some(KeyFinding::new(
-            "members",
-            Problem::Type("members", "an array of sizes"),
-        )),
-    };
-    let problem = bad_member("a size in members", sizes, 0xffff)?;
-    Some(KeyFinding::new("members", problem))
+    let problem = Problem::Type("interface", "the name of a network interface");
+    Some(("interface", problem))
 }

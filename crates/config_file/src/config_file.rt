@@ -2,13 +2,13 @@
 
 ghost use Rattle.std.specs.Prelude.{◌≡◌};
 
+use crate::owner::owner_need;
 use clap::ArgMatches;
 use config_refusal::{ConfigurationRefusal, LoadFault};
-use enip_cli::OsArg;
 use enip_common::{
-    CommandError, ConfigurationReason, Fault, NamedFile, NamedReason, Reason, owner_need,
+    CommandError, ConfigurationReason, Fault, NamedFile, NamedReason, OsArg, Reason,
 };
-use enip_config::Configuration;
+use enip_config::{Configuration, ExplainedFault, Explanation};
 use enip_faults::ProgramFault;
 use std::alloc::Global;
 
@@ -64,7 +64,10 @@ impl<'a> ConfigFile<'a> {
 
     /// The configuration in the file.
     pub fn configuration(&self, alloc: Global) -> Result<Configuration, CommandError<'a>> {
-        Configuration::from_bytes(alloc, self.bytes()).map_err(|fault| self.refused(alloc, fault))
+        match Configuration::explained(alloc, self.bytes()) {
+            Ok(configuration) => Ok(configuration),
+            Err(fault) => Err(self.error_of(alloc, &fault)),
+        }
     }
 
     /// The configuration in the file, if its device needs no owner.
@@ -87,13 +90,29 @@ impl<'a> ConfigFile<'a> {
         CommandError::new(Fault::from(fault), self.refusal(alloc))
     }
 
-    /// Why the configuration in the file is refused: by its content. The program says which check that fails.
-    fn refusal(&self, alloc: Global) -> Reason<'a> {
-        match self.bytes().to_vec(alloc) {
-            Ok(content) => {
-                Reason::Configuration(self.name(), ConfigurationReason::Content(content))
-            }
+    /// The error of a command that refuses the configuration in the file.
+    fn error_of(&self, alloc: Global, fault: &ExplainedFault) -> CommandError<'a> {
+        let reason = match fault {
+            ExplainedFault::Refused(explanation) => self.reason_of(alloc, explanation),
+            ExplainedFault::Memory => return CommandError::of_memory(),
+        };
+        CommandError::new(Fault::from(fault.fault()), reason)
+    }
+
+    /// Why the configuration in the file is refused, and in which line.
+    fn reason_of(&self, alloc: Global, explanation: &Explanation) -> Reason<'a> {
+        match format!(in alloc; "{explanation}") {
+            Ok(text) => Reason::Configuration(self.name(), ConfigurationReason::Check(text)),
             Err(_) => Reason::Memory,
+        }
+    }
+
+    /// The same, of a configuration that was read elsewhere.
+    fn refusal(&self, alloc: Global) -> Reason<'a> {
+        match Configuration::explained(alloc, self.bytes()) {
+            Err(ExplainedFault::Refused(explanation)) => self.reason_of(alloc, &explanation),
+            Err(ExplainedFault::Memory) => Reason::Memory,
+            Ok(_) => Reason::Named(self.name(), NamedReason::Failed),
         }
     }
 }

@@ -3,7 +3,6 @@
 ghost use Rattle.std.specs.Prelude.{◌≡◌};
 ghost use Rattle.config_refusal.specs.Refusals.{refusal_number};
 
-use cip_objects::ConfigFault;
 use std::alloc::{AllocError, AllocFailed};
 use thiserror::Error;
 
@@ -76,26 +75,5 @@ impl<T: Drop> From<AllocFailed<T>> for LoadFault {
 
     fn from(_error: AllocFailed<T>) -> LoadFault {
         LoadFault::Memory
-    }
-}
-
-/// The check of the objects that fails.
-impl From<ConfigFault> for LoadFault {
-    ghost use Rattle.config_refusal.specs.Refusals.{fault_of_objects};
-
-    ghost from_gives = { λ refused fault. fault ≡ fault_of_objects refused };
-
-    fn from(refused: ConfigFault) -> LoadFault {
-        match refused {
-            ConfigFault::Name => LoadFault::Refused(ConfigurationRefusal::Name),
-            ConfigFault::Size => LoadFault::Refused(ConfigurationRefusal::Size),
-            ConfigFault::Members => LoadFault::Refused(ConfigurationRefusal::Members),
-            ConfigFault::DoubleInstance => LoadFault::Refused(ConfigurationRefusal::DoubleInstance),
-            ConfigFault::Limit => LoadFault::Refused(ConfigurationRefusal::Limit),
-            ConfigFault::Object => LoadFault::Refused(ConfigurationRefusal::Object),
-            ConfigFault::Attribute => LoadFault::Refused(ConfigurationRefusal::Attribute),
-            ConfigFault::Service => LoadFault::Refused(ConfigurationRefusal::Service),
-            ConfigFault::Memory => LoadFault::Memory,
-        }
     }
 }

@@ -50,13 +50,6 @@ shares_from (Some access) =
 abbrev pub ledger_from : Option LedgerConfig → Option LedgerState
 ledger_from ledger = option_map (λ l. empty_ledger l.originators l.life) ledger
 
--- the same, in a life of this number
-abbrev pub with_life : ℕ → LedgerConfig → LedgerConfig
-with_life life ledger = record ledger { life = life }
-
-abbrev pub in_life : ℕ → Option LedgerConfig → Option LedgerConfig
-in_life life ledger = option_map (with_life life) ledger
-
 -- an empty queue, if a service is queued
 abbrev pub queue_from : Option ℕ → Option QueueState
 queue_from limit = option_map empty_queue limit
@@ -82,12 +75,6 @@ abbrev pub IsUnsharedAdapterOf : List ℕ → AdapterState → Type 0
 IsUnsharedAdapterOf text adapter =
     (c : Configuration) × (IsDescribed text c
     × (adapter ≡ new_adapter (device_from c.ledger c) (listen_of c) (limits_of c)))
-
--- the same, in a life of this number
-abbrev pub IsAdapterInLife : ℕ → List ℕ → AdapterState → Type 0
-IsAdapterInLife life text adapter =
-    (c : Configuration) × (IsDescribed text c × (adapter
-    ≡ shared_adapter (device_from (in_life life c.ledger) c) (listen_of c) (limits_of c) (shares_from c.access)))
 
 -- the text is a configuration that the objects accept
 abbrev pub IsAccepted : List ℕ → Type 0

@@ -3,8 +3,9 @@
 
 ghost use Rattle.std.specs.Prelude.{◌≡◌, ◌≤◌, IfOk, IfErr, IfSome};
 ghost use Rattle.cip_ledger.specs.Device.{queued_device, with_reset};
+ghost use Rattle.cip_objects.specs.Configuration.{contents_of_config, fault_of};
 ghost use Rattle.enip_adapter.specs.Adapter.{shared_adapter};
-ghost use Rattle.configured_adapter.specs.Configured.{IsAccepted, IsAdapterInLife, IsAdapterOf, IsUnsharedAdapterOf, AreLimits, in_life, ledger_from};
+ghost use Rattle.configured_adapter.specs.Configured.{IsAccepted, IsAdapterOf, IsUnsharedAdapterOf, AreLimits, ledger_from};
 ghost use Rattle.configured_adapter.specs.Configured.{queue_from, limits_of, listen_of, reset_from, shares_from};
 ghost use Rattle.enip_config.specs.Commands.{queue_limit};
 ghost use Rattle.enip_config.specs.Access.{HasShares};
@@ -15,7 +16,7 @@ use cip_objects::Objects;
 use cip_owner::{Queue, Resetting};
 use enip_access::Access;
 use enip_adapter::{Adapter, Limits, Listen, Shares};
-use enip_config::{Configuration, LedgerConfig, LoadFault};
+use enip_config::{Configuration, LedgerConfig, LoadFault, fault_of_objects};
 use std::alloc::{AllocError, Global};
 
 /// Makes the adapter that the bytes of a configuration describe. It has no peers yet.
@@ -31,7 +32,7 @@ pub fn adapter_from(alloc: Global, config: &[u8]) -> Result<Adapter, LoadFault>
     ensures refused { IfErr result (IsFaultOf config.now) }
 {
     let configuration = Configuration::from_bytes(alloc, config)?;
-    let objects = Objects::new(alloc, &configuration.objects)?;
+    let objects = objects_of(alloc, &configuration)?;
     let shares = shares_from(&configuration.access);
     let adapter = adapter_of(alloc, objects, &configuration, configuration.ledger, shares)?;
     Ok(adapter)
@@ -49,42 +50,24 @@ pub fn unshared_adapter_from(alloc: Global, config: &[u8]) -> Result<Adapter, Lo
     ensures refused { IfErr result (IsFaultOf config.now) }
 {
     let configuration = Configuration::from_bytes(alloc, config)?;
-    let objects = Objects::new(alloc, &configuration.objects)?;
+    let objects = objects_of(alloc, &configuration)?;
     let shares = Shares::NONE;
     let adapter = adapter_of(alloc, objects, &configuration, configuration.ledger, shares)?;
     Ok(adapter)
 }
 
-/// Makes the same adapter, but with this number of the device's life in its ledger. A device that was restarted needs
-/// another life, because its ledger is empty.
+/// The objects of a configuration. They accept one that was read.
 ///
 /// # Errors
 ///
-/// As `adapter_from`.
-#[tactic(auto, using(crate::proofs::ObjectLemmas::limits_by))]
-pub fn adapter_in_life(alloc: Global, config: &[u8], life: u64) -> Result<Adapter, LoadFault>
-    ensures made { IfOk result (IsAdapterInLife life config.now) }
-    ensures accepted { IfOk result (λ _. IsAccepted config.now) }
-    ensures refused { IfErr result (IsFaultOf config.now) }
+/// `LoadFault::Memory` if memory is refused, otherwise the check of the objects that fails.
+fn objects_of(alloc: Global, configuration: &Configuration) -> Result<Objects, LoadFault>
+    ensures made { IfOk result (λ o. o ≡ contents_of_config configuration.now.objects) }
+    ensures allowed { fault_of configuration.now.objects ≡ None → IfErr result (λ f. f ≡ LoadFault.Memory) }
 {
-    let configuration = Configuration::from_bytes(alloc, config)?;
-    let objects = Objects::new(alloc, &configuration.objects)?;
-    let ledger = in_life(life, configuration.ledger);
-    let shares = shares_from(&configuration.access);
-    let adapter = adapter_of(alloc, objects, &configuration, ledger, shares)?;
-    Ok(adapter)
-}
-
-/// The same ledger, in a life of this number.
-fn in_life(life: u64, ledger: Option<LedgerConfig>) -> Option<LedgerConfig>
-    ensures { result ≡ in_life life ledger }
-{
-    match ledger {
-        Some(ledger) => Some(LedgerConfig {
-            originators: ledger.originators,
-            life,
-        }),
-        None => None,
+    match Objects::new(alloc, &configuration.objects) {
+        Ok(objects) => Ok(objects),
+        Err(check) => Err(fault_of_objects(check)),
     }
 }
 

@@ -7,7 +7,8 @@ use Rattle.enip_faults.specs.declared.fault.ProgramFault.TheVariants as program
 use Rattle.enip_replay.specs.Replay.{IsOpeningRefused as refuses_opening}
 use Rattle.enip_common.specs.declared.fault.Fault.{Fault}
 use Rattle.enip_common.specs.declared.fault.Fault.TheVariants.{Configuration as Refused, Setup, Run, Value}
-use Rattle.enip_common.specs.declared.fault.Fault.TheVariants.{Once, CommandFile, Request, State, Storage, Unsettled, Blocked}
+use Rattle.enip_common.specs.declared.fault.Fault.TheVariants.{CommandFile, State, Storage, Unsettled, Blocked}
+use Rattle.enip_common.specs.declared.fault.Fault.TheVariants.{Hex, Pending, OtherLife, OtherRequest, Withdrawn, Session, Refusal, Client}
 
 -- The exit statuses of `enip answer`, once its arguments are accepted.
 abbrev pub IsStatus : ℕ → Type 0
@@ -27,9 +28,15 @@ IsFaultOf text State = ⊥
 IsFaultOf text Storage = ⊥
 IsFaultOf text Unsettled = ⊥
 IsFaultOf text Blocked = ⊥
-IsFaultOf text (Once refusal) = ⊥
+IsFaultOf text Hex = ⊥
+IsFaultOf text Pending = ⊥
+IsFaultOf text OtherLife = ⊥
+IsFaultOf text OtherRequest = ⊥
+IsFaultOf text Withdrawn = ⊥
 IsFaultOf text (CommandFile line) = ⊥
-IsFaultOf text (Request failure) = ⊥
+IsFaultOf text Session = ⊥
+IsFaultOf text Refusal = ⊥
+IsFaultOf text (Client number) = ⊥
 IsFaultOf text (Run (program.Line number why)) = IsAccepted text
 IsFaultOf text (Run _) = ⊤
 

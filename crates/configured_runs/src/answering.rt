@@ -6,8 +6,8 @@ ghost use Rattle.configured_runs.specs.Statuses.{IsFaultOf};
 
 use configured_adapter::adapter_from;
 use enip_adapter::Adapter;
-use enip_commands::ProgramFault;
 use enip_common::Fault;
+use enip_faults::ProgramFault;
 use std::alloc::Global;
 use std::io::{BufWriter, Read, Write};
 

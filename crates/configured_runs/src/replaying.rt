@@ -5,8 +5,8 @@ ghost use Rattle.configured_adapter.specs.Configured.{IsAccepted};
 ghost use Rattle.configured_runs.specs.Statuses.{IsReplayFaultOf};
 
 use configured_adapter::unshared_adapter_from;
-use enip_commands::ProgramFault;
 use enip_common::Fault;
+use enip_faults::ProgramFault;
 use std::alloc::Global;
 use std::io::{BufWriter, Write};
 

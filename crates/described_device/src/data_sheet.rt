@@ -3,9 +3,9 @@
 use cip_values::Date;
 use clap::ArgMatches;
 use config_file::ConfigFile;
-use enip_cli::{OsArg, option_file_name, read_option_file};
 use enip_common::{
-    ArgumentError, CLOCK, CommandError, NamedReason, OUTPUT, Reason, print_argument_error,
+    ArgumentError, CLOCK, CommandError, NamedReason, OUTPUT, OsArg, Reason, option_file_name,
+    print_argument_error, read_option_file,
 };
 use enip_eds::{EdsSource, ICON_LIMIT, Icon, date_at, date_in, eds_text, is_icon};
 use std::io::Write;

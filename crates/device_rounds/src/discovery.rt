@@ -1,7 +1,8 @@
 //! Answers clients that look for devices over UDP.
 
-use device_sockets::{Observer, Readiness, Serving};
+use device_sockets::{Observer, Readiness};
 use enip_adapter::DiscoveryBuffer;
+use enip_server::{Peers, Wire};
 use mio::net::UdpSocket;
 use std::alloc::{AllocError, Global};
 
@@ -44,9 +45,9 @@ impl Discovery {
 
     /// Reads one datagram, if there is one, and sends the answer to its sender. An answer that cannot be sent is dropped.
     /// `now` is in microseconds.
-    pub(crate) fn answer_one<O: Observer, S: Serving<O::Wire>>(
+    pub(crate) fn answer_one<O: Observer, W: Wire + Drop>(
         &mut self,
-        peers: &S,
+        peers: &Peers<W>,
         observer: &O,
         now: u64,
     ) {

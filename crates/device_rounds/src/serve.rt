@@ -4,14 +4,19 @@
 //! may be ready has one turn, and one connection is accepted. All of a round has the same time, in microseconds since
 //! the start.
 
-ghost use Rattle.std.specs.Prelude.{◌≡◌, ◌≤◌, ◌<◌, ◌↔◌, IsTrue, IfOk};
+ghost use Rattle.std.specs.Prelude.{◌≡◌, ◌≤◌, ◌<◌, ◌↔◌, IsSomeAnd, IsTrue, IfOk, OnOk, option_map};
+ghost use Rattle.device_sockets.specs.Admission.{admitted};
+ghost use Rattle.enip_keep.specs.Server.{IsReady, IsServed};
 
 use crate::discovery::Discovery;
+use crate::round_device::RoundDevice;
+use crate::served_device::ServedDevice;
 use device_sockets::{
-    Acceptor, Admission, Observer, ServeFault, Serving, TurnedAway, admit, earlier,
+    Acceptor, Admission, GuestSockets, Observer, ServeFault, TurnedAway, admit, earlier,
 };
 use enip_access::{Access, address_number};
 use enip_adapter::Full;
+use enip_keep::Keeper;
 use enip_server::RoundEnd;
 use mio::net::{TcpListener, TcpStream, UdpSocket};
 use mio::{Events, Interest, Poll, Token};
@@ -52,17 +57,23 @@ pub struct ServeLimits {
 }
 
 /// Serves as many connections as the limits say, until they have come and gone. A connection that fails ends only itself.
-pub fn serve_connections<R: Clock + Net, O: Observer + Drop, S: Serving<O::Wire> + Drop>(
+pub fn serve_connections<
+    R: Clock + Net,
+    O: Observer + Drop,
+    D: RoundDevice<O::Wire, G> + Drop,
+    K: Keeper + Drop,
+    G: GuestSockets + Drop,
+>(
     rt: &R,
     alloc: Global,
     sockets: Sockets,
-    serving: S,
+    device: ServedDevice<O::Wire, D, K, G>,
     limits: ServeLimits,
     observer: O,
 ) -> Result<(), ServeFault>
-    requires { S.is_ready serving }
+    requires { IsReady K.doubt K.is_up K.kept D.contents D.known_kept D.kept_part device.server }
 {
-    let mut server = Server::new(rt, alloc, serving, limits, observer)?;
+    let mut server = Server::new(rt, alloc, device, limits, observer)?;
     server.run(rt, alloc, sockets)
 }
 
@@ -105,12 +116,17 @@ struct AcceptedClient {
 }
 
 /// The peers and the sockets of a served device.
-struct Server<O: Observer + Drop, S: Serving<O::Wire> + Drop> {
+struct Server<
+    O: Observer + Drop,
+    D: RoundDevice<O::Wire, G> + Drop,
+    K: Keeper + Drop,
+    G: GuestSockets + Drop,
+> {
     system: System,
     /// `None` before the sockets are open, and once all connections were accepted.
     acceptor: Option<Acceptor>,
     discovery: Option<Discovery>,
-    peers: S,
+    device: ServedDevice<O::Wire, D, K, G>,
     observer: O,
     /// The end of the last round. `ready` is set if a peer was added since.
     last_round: RoundEnd,
@@ -126,13 +142,17 @@ struct Server<O: Observer + Drop, S: Serving<O::Wire> + Drop> {
 }
 
 // Written out, so that each exit of a function that owns one calls it, and has no drop of every part.
-impl<O: Observer + Drop, S: Serving<O::Wire> + Drop> Drop for Server<O, S> {
+impl<O: Observer + Drop, D, K: Keeper + Drop, G> Drop for Server<O, D, K, G>
+where
+    D: RoundDevice<O::Wire, G> + Drop,
+    G: GuestSockets + Drop,
+{
     fn drop(self) {
         let Server {
             system: _,
             acceptor: _,
             discovery: _,
-            peers: _,
+            device: _,
             observer: _,
             last_round: _,
             limits: _,
@@ -144,28 +164,34 @@ impl<O: Observer + Drop, S: Serving<O::Wire> + Drop> Drop for Server<O, S> {
     }
 }
 
-impl<O: Observer + Drop, S: Serving<O::Wire> + Drop> Server<O, S> {
+impl<O: Observer + Drop, D, K: Keeper + Drop, G> Server<O, D, K, G>
+where
+    D: RoundDevice<O::Wire, G> + Drop,
+    G: GuestSockets + Drop,
+{
     /// A server without sockets and peers.
     fn new<R: Clock + Net>(
         rt: &R,
         alloc: Global,
-        peers: S,
+        device: ServedDevice<O::Wire, D, K, G>,
         limits: ServeLimits,
         observer: O,
-    ) -> io::Result<Server<O, S>>
-        ensures { IfOk result (λ s. s.peers ≡ peers) }
+    ) -> io::Result<Server<O, D, K, G>>
+        requires { IsReady K.doubt K.is_up K.kept D.contents D.known_kept D.kept_part device.server }
+        ensures device { IfOk result (λ s. s.device ≡ device) }
+        ensures ready { IfOk result (λ s. IsReady K.doubt K.is_up K.kept D.contents D.known_kept D.kept_part s.device.server) }
     {
         let system = System::new(rt, alloc)?;
         let last_round = RoundEnd {
             ended: 0,
             ready: false,
-            next: peers.next_moment(),
+            next: device.next_moment(),
         };
         Ok(Server {
             system,
             acceptor: None,
             discovery: None,
-            peers,
+            device,
             observer,
             last_round,
             limits,
@@ -178,14 +204,13 @@ impl<O: Observer + Drop, S: Serving<O::Wire> + Drop> Server<O, S> {
 
     /// Takes over the sockets. The system reports them from now on.
     fn open(&mut self, alloc: Global, sockets: Sockets) -> io::Result<()>
-        requires ready { S.is_ready self.old.peers }
-        ensures ready { S.is_ready self.new.peers }
+        ensures { self.new.device.server ≡ self.old.device.server }
     {
         let Sockets {
             listener,
             datagrams,
         } = sockets;
-        self.peers.register(self.system.poll.registry())?;
+        self.device.register(self.system.poll.registry())?;
         self.listen(listener)?;
         match datagrams {
             Some(socket) => self.answer_datagrams(alloc, socket),
@@ -195,7 +220,7 @@ impl<O: Observer + Drop, S: Serving<O::Wire> + Drop> Server<O, S> {
 
     /// Accepts connections from a listener.
     fn listen(&mut self, mut listener: TcpListener) -> io::Result<()>
-        ensures { self.new.peers ≡ self.old.peers }
+        ensures { self.new.device ≡ self.old.device }
     {
         let registry = self.system.poll.registry();
         registry.register(&mut listener, Token(LISTENER), Interest::READABLE)?;
@@ -205,7 +230,7 @@ impl<O: Observer + Drop, S: Serving<O::Wire> + Drop> Server<O, S> {
 
     /// Answers datagrams from a socket.
     fn answer_datagrams(&mut self, alloc: Global, mut socket: UdpSocket) -> io::Result<()>
-        ensures { self.new.peers ≡ self.old.peers }
+        ensures { self.new.device ≡ self.old.device }
     {
         let registry = self.system.poll.registry();
         registry.register(&mut socket, Token(DATAGRAMS), Interest::READABLE)?;
@@ -214,13 +239,13 @@ impl<O: Observer + Drop, S: Serving<O::Wire> + Drop> Server<O, S> {
     }
 
     /// Takes over the sockets, and serves them until all connections have come and gone.
-    fn run<C: Clock>(
+    fn run<R: Clock>(
         &mut self,
-        clock: &C,
+        clock: &R,
         alloc: Global,
         sockets: Sockets,
     ) -> Result<(), ServeFault>
-        requires { S.is_ready self.old.peers }
+        requires { IsReady K.doubt K.is_up K.kept D.contents D.known_kept D.kept_part self.old.device.server }
     {
         self.open(alloc, sockets)?;
         let mut now = 0;
@@ -244,8 +269,7 @@ impl<O: Observer + Drop, S: Serving<O::Wire> + Drop> Server<O, S> {
 
     /// Waits until a socket may be ready or a time limit is reached. `now` is the time of the last round.
     fn wait(&mut self, now: u64) -> io::Result<()>
-        requires ready { S.is_ready self.old.peers }
-        ensures ready { S.is_ready self.new.peers }
+        ensures { self.new.device.server ≡ self.old.device.server }
     {
         let timeout = self.timeout(now);
         self.system.poll.poll(&mut self.system.events, timeout)?;
@@ -263,7 +287,7 @@ impl<O: Observer + Drop, S: Serving<O::Wire> + Drop> Server<O, S> {
                 }
                 slot => {
                     let ends = event.is_read_closed() || event.is_error();
-                    self.peers.mark_ready(slot, ends);
+                    self.device.mark_ready(slot, ends);
                 }
             }
         }
@@ -290,14 +314,24 @@ impl<O: Observer + Drop, S: Serving<O::Wire> + Drop> Server<O, S> {
 
     /// One round: answers a datagram, gives each peer that may be ready a turn, and accepts a connection.
     fn round(&mut self, now: u64) -> Result<(), ServeFault>
-        requires ready { S.is_ready self.old.peers }
-        ensures ready { S.is_ready self.new.peers }
+        requires ready { IsReady K.doubt K.is_up K.kept D.contents D.known_kept D.kept_part self.old.device.server }
+        ensures ready { IsReady K.doubt K.is_up K.kept D.contents D.known_kept D.kept_part self.new.device.server }
+        ensures served { OnOk result (IsServed D.brings D.contents D.executed D.holds_answers D.sends_nothing D.sends_held
+            (record {
+              now = now;
+              accepted = self.old.device.accepted;
+              ready = self.old.device.ready;
+              room_for = self.old.device.room_for;
+            }) self.old.device.server.device self.new.device.server.device) }
     {
         if let Some(discovery) = &mut self.discovery {
-            discovery.answer_one(&self.peers, &self.observer, now);
+            discovery.answer_one(self.device.peers(), &self.observer, now);
         }
         let registry = self.system.poll.registry();
-        self.last_round = self.peers.round(now, registry).map_err(ServeFault::Keep)?;
+        self.last_round = match self.device.round(now, registry) {
+            Ok(end) => end,
+            Err(error) => return Err(ServeFault::Keep(error)),
+        };
         if self.last_round.ended > 0 {
             self.ended = self.ended.saturating_add(self.last_round.ended as u64);
             if let Some(acceptor) = &mut self.acceptor {
@@ -312,8 +346,7 @@ impl<O: Observer + Drop, S: Serving<O::Wire> + Drop> Server<O, S> {
     /// Makes a client a peer: the one that waits for a slot, or else that of the next connection, if there is one. If it
     /// cannot become a peer, it is closed at once.
     fn accept_one(&mut self, now: u64)
-        requires ready { S.is_ready self.old.peers }
-        ensures ready { S.is_ready self.new.peers }
+        ensures { self.new.device.server ≡ self.old.device.server }
     {
         let client = match self.waiting.take() {
             Some(client) => Some(client),
@@ -330,7 +363,7 @@ impl<O: Observer + Drop, S: Serving<O::Wire> + Drop> Server<O, S> {
 
     /// Accepts the next connection, if there is one. If its client is not admitted, it is closed at once.
     fn next_client(&mut self, now: u64) -> Option<AcceptedClient>
-        ensures { self.new.peers ≡ self.old.peers }
+        ensures { self.new.device ≡ self.old.device }
     {
         let is_due = matches!(&self.acceptor, Some(acceptor) if acceptor.readiness().is_due(now));
         if !is_due || self.is_deferred() {
@@ -344,19 +377,14 @@ impl<O: Observer + Drop, S: Serving<O::Wire> + Drop> Server<O, S> {
         if self.accepted >= self.limits.count {
             self.acceptor = None;
         }
-        match admit(&self.limits.access, address_number(address.ip())) {
-            Some(admission) => Some(AcceptedClient {
-                stream,
-                address,
-                admission,
-            }),
-            None => {
-                self.observer
-                    .turned_away(now, address, TurnedAway::NotListed);
-                self.ended = self.ended.saturating_add(1);
-                None
-            }
+        let number = address_number(address.ip());
+        let client = admitted_client(&self.limits.access, number, stream, address);
+        if client.is_none() {
+            self.observer
+                .turned_away(now, address, TurnedAway::NotListed);
+            self.ended = self.ended.saturating_add(1);
         }
+        client
     }
 
     /// Whether the next connection is deferred to the next round: all slots are taken, but a peer may be about to end. If
@@ -364,12 +392,12 @@ impl<O: Observer + Drop, S: Serving<O::Wire> + Drop> Server<O, S> {
     fn is_deferred(&mut self) -> bool
         ensures counted { IsTrue result → self.old.rounds_deferred < self.new.rounds_deferred }
         ensures limit { IsTrue result → self.new.rounds_deferred ≤ 16 }
-        ensures same { self.new.peers ≡ self.old.peers }
+        ensures same { self.new.device ≡ self.old.device }
     {
         let may_have_ended = self.last_round.ready || self.rounds_deferred == 0;
         if may_have_ended
             && self.rounds_deferred < MAX_ROUNDS_DEFERRED
-            && self.peers.first_free().is_none()
+            && self.device.peers().first_free().is_none()
         {
             self.rounds_deferred += 1;
             return true;
@@ -381,10 +409,9 @@ impl<O: Observer + Drop, S: Serving<O::Wire> + Drop> Server<O, S> {
     /// Finds a slot for a client, which becomes a peer in it. If a peer gives way to it in the next round, it waits until
     /// then. Returns whether there is a slot and a session handle for it.
     fn find_slot(&mut self, now: u64, client: AcceptedClient) -> bool
-        requires ready { S.is_ready self.old.peers }
-        ensures ready { S.is_ready self.new.peers }
+        ensures { self.new.device.server ≡ self.old.device.server }
     {
-        let slot = match self.peers.slot_for(now, client.admission.group) {
+        let slot = match self.device.peers().slot_for(now, client.admission.group) {
             Ok(slot) => slot,
             Err(full) => {
                 self.observer
@@ -392,18 +419,19 @@ impl<O: Observer + Drop, S: Serving<O::Wire> + Drop> Server<O, S> {
                 return false;
             }
         };
-        if !self.peers.make_room(client.admission.group) {
+        if !self.device.make_room(client.admission.group) {
             self.waiting = Some(client);
             self.last_round.ready = true;
             return true;
         }
-        self.add_peer(now, slot, client)
+        self.add_peer(slot, client)
     }
 
-    /// Makes a client a peer in this slot. Returns whether it can be.
-    fn add_peer(&mut self, now: u64, slot: usize, client: AcceptedClient) -> bool
-        requires ready { S.is_ready self.old.peers }
-        ensures ready { S.is_ready self.new.peers }
+    /// Makes a client a peer in this slot, with the rights and the group of its admission. Returns whether it can be.
+    fn add_peer(&mut self, slot: usize, client: AcceptedClient) -> bool
+        ensures added { IsTrue result → IsSomeAnd self.new.device.accepted (λ accepted.
+            (accepted.rights ≡ client.admission.rights) × (accepted.group ≡ client.admission.group)) }
+        ensures server { self.new.device.server ≡ self.old.device.server }
     {
         let AcceptedClient {
             stream,
@@ -423,24 +451,29 @@ impl<O: Observer + Drop, S: Serving<O::Wire> + Drop> Server<O, S> {
         let Some(wire) = self.observer.wire(stream, address) else {
             return false;
         };
-        if self.peers.first_free().is_none() {
-            self.on_evicted();
-        }
-        if !self.peers.add(now, wire, admission) {
-            return false;
-        }
+        self.device.add(wire, admission);
         self.last_round.ready = true;
         true
     }
+}
 
-    /// A peer gives way to a new client.
-    fn on_evicted(&mut self)
-        ensures { self.new.peers ≡ self.old.peers }
-    {
-        self.ended = self.ended.saturating_add(1);
-        if let Some(acceptor) = &mut self.acceptor {
-            acceptor.on_descriptor_freed();
-        }
+/// The client of a connection from this address, which is given as a number too, with what it may do. `None` if it may not
+/// connect.
+fn admitted_client(
+    access: &Option<Access>,
+    number: u128,
+    stream: TcpStream,
+    address: SocketAddr,
+) -> Option<AcceptedClient>
+    ensures { option_map (λ client. client.admission) result ≡ admitted access.now number }
+{
+    match admit(access, number) {
+        Some(admission) => Some(AcceptedClient {
+            stream,
+            address,
+            admission,
+        }),
+        None => None,
     }
 }
 

@@ -1,1 +1,3 @@
+pub mod Configured
+pub mod Preparing
 pub mod Starting

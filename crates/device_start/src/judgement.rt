@@ -5,8 +5,7 @@ ghost use Rattle.enip_faults.specs.declared.fault.ProgramFault.TheVariants.{Memo
 ghost use Rattle.std.specs.IoError.{error_kind};
 ghost use Rattle.device_start.specs.Starting.{fault_at_start, fault_of_open, fault_of_system, IsJudged};
 
-use enip_cli::{can_update, open_or_make};
-use enip_common::{StateFile, StorageReason, SystemError};
+use enip_common::{StateFile, StorageReason, SystemError, can_update, open_or_make};
 use enip_keep::{KeepError, StorageFault};
 use enip_keep_sqlite::FileFault;
 use std::alloc::{AllocError, Global};

@@ -10,8 +10,10 @@ ghost use Rattle.device_start.specs.Starting.{fault_of_open, fault_at_start, fau
 use crate::file_identity::FileIdentity;
 use crate::judgement::{OpenFault, judged, named};
 use crate::start_watch::{Done, StartWatch};
-use enip_cli::{LastRound, OsArg, RoundFile, front_of, is_link, option_file_name, resolved};
-use enip_common::{CommandError, Fault, NamedReason, Reason, StateFile, StorageReason};
+use enip_common::{
+    CommandError, Fault, LastRound, NamedReason, OsArg, Reason, RoundFile, StateFile,
+    StorageReason, front_of, is_link, option_file_name, resolved,
+};
 use enip_faults::ProgramFault;
 use enip_keep::{KeepError, Keeper, Numbered, RoundNote, StorageFault};
 use enip_keep_sqlite::{RowsUser, begins_as_kept, make_file, names_table, with_rows};

@@ -1,7 +1,8 @@
 //! A device that starts from what is kept in FILE of `--keep`.
 
-ghost use Rattle.std.specs.Prelude.{◌≡◌, IfOk};
-ghost use Rattle.enip_keep.specs.Kept.{pairs_of};
+ghost use Rattle.std.specs.Prelude.{◌≡◌, ◌≤◌, All, IfOk};
+ghost use Rattle.device_start.specs.Preparing.{GoesOn, IsPrepared};
+ghost use Rattle.enip_keep.specs.Kept.{IsKeepable, Kept, pairs_of, set_all};
 ghost use Rattle.enip_keep.specs.Server.{IsReady};
 ghost use Rattle.kept_server.specs.Rounds.{kept_of};
 
@@ -12,8 +13,7 @@ use crate::start::start_to_read;
 use crate::start_watch::{Done, StartWatch};
 use crate::wishes::StartWishes;
 use config_file::ConfigFile;
-use enip_cli::OsArg;
-use enip_common::{CommandError, OUTPUT};
+use enip_common::{CommandError, OUTPUT, OsArg};
 use enip_keep::{Device, Entry, Keeper, Numbered, Server, commit_loaded};
 use enip_server::Wire;
 use kept_adapter::AdapterStart;
@@ -40,7 +40,9 @@ pub fn start_kept<'a, W: Wire + Drop, K: Keeper + Drop, G: RoundGuest<W>>(
     CommandError<'a>,
 >
     requires { K.doubt opened.rows ≡ 0 → K.is_up opened.rows }
-    ensures { IfOk result (λ r. IsReady ⟦<Numbered<K, FileNote> as Keeper>⟧.doubt ⟦<Numbered<K, FileNote> as Keeper>⟧.is_up
+    ensures goes_on { IfOk result (λ r. ⟦<Numbered<K, FileNote> as Keeper>⟧.doubt r.0.keeper ≡ 0 → (kept : Kept)
+        × GoesOn start wishes.entry kept (⟦<KeptPeers<W, AdapterStart, G> as Device>⟧.contents r.0.device)) }
+    ensures ready { IfOk result (λ r. IsReady ⟦<Numbered<K, FileNote> as Keeper>⟧.doubt ⟦<Numbered<K, FileNote> as Keeper>⟧.is_up
         ⟦<Numbered<K, FileNote> as Keeper>⟧.kept ⟦<KeptPeers<W, AdapterStart, G> as Device>⟧.contents
         ⟦<KeptPeers<W, AdapterStart, G> as Device>⟧.known_kept kept_of r.0) }
 {
@@ -59,7 +61,9 @@ fn start_server<'a, W: Wire + Drop, K: Keeper + Drop, G: RoundGuest<W>>(
     watch: StartWatch,
 ) -> Result<(Server<KeptPeers<W, AdapterStart, G>, K>, KeptValues), CommandError<'a>>
     requires { K.doubt keeper ≡ 0 → K.is_up keeper }
-    ensures { IfOk result (λ r. IsReady K.doubt K.is_up K.kept
+    ensures goes_on { IfOk result (λ r. K.doubt r.0.keeper ≡ 0
+        → GoesOn start wishes.entry (K.kept keeper) (⟦<KeptPeers<W, AdapterStart, G> as Device>⟧.contents r.0.device)) }
+    ensures ready { IfOk result (λ r. IsReady K.doubt K.is_up K.kept
         ⟦<KeptPeers<W, AdapterStart, G> as Device>⟧.contents
         ⟦<KeptPeers<W, AdapterStart, G> as Device>⟧.known_kept kept_of r.0) }
 {
@@ -90,6 +94,9 @@ fn load<'a, K: Keeper + Drop>(
     requires { K.doubt keeper ≡ 0 → K.is_up keeper }
     ensures up { IfOk result (λ r. K.doubt r.0 ≡ 0 → K.is_up r.0) }
     ensures loaded { IfOk result (λ r. K.doubt r.0 ≡ 0 → pairs_of r.1.items ≡ K.kept r.0) }
+    ensures doubt { IfOk result (λ r. K.doubt keeper ≤ K.doubt r.0) }
+    ensures prepared { IfOk result (λ r. K.doubt r.0 ≡ 0
+        → IsPrepared start r.2 wishes.entry (K.kept keeper) (pairs_of r.1.items)) }
 {
     let mut keeper = keeper;
     let mut entries = match keeper.load(rt.alloc()) {
@@ -97,12 +104,31 @@ fn load<'a, K: Keeper + Drop>(
         Err(error) => return Err(file.refused(error)),
     };
     let watch = watch.next(rt, file.name(), Done::Read(entries.len()));
-    let start = start.in_later_life(&entries);
-    let Prepared { changes, notes } = prepare(rt, file, &start, &mut entries, wishes)?;
+    let (start, prepared) = prepare_later(rt, file, start, &mut entries, wishes)?;
+    let Prepared { changes, notes } = prepared;
     match commit_loaded(&mut keeper, &entries, &changes) {
         Ok(()) => Ok((keeper, entries, start, notes, watch)),
         Err(error) => Err(file.refused(error)),
     }
+}
+
+/// Makes the entries of FILE ready for a start in a life that was not before. Returns that start, and the changes.
+fn prepare_later<'a>(
+    rt: &HostRuntime,
+    file: KeptFile<'a>,
+    start: AdapterStart,
+    entries: &mut Vec<Entry>,
+    wishes: StartWishes<'a>,
+) -> Result<(AdapterStart, Prepared), CommandError<'a>>
+    ensures prepared { IfOk result (λ r.
+        IsPrepared start r.0 wishes.entry (pairs_of entries.old.items) (pairs_of entries.new.items)) }
+    ensures made { IfOk result (λ r. pairs_of entries.new.items
+        ≡ set_all (pairs_of r.1.changes.items) (pairs_of entries.old.items)) }
+    ensures keepable { IfOk result (λ r. All IsKeepable r.1.changes.items) }
+{
+    let start = start.in_later_life(entries);
+    let prepared = prepare(rt, file, &start, entries, wishes)?;
+    Ok((start, prepared))
 }
 
 /// `enip check --keep`: prints what is kept in FILE of the device of a configuration.

@@ -1,7 +1,6 @@
 //! What a served device starts from: its configuration, and FILE of `--keep`.
 //!
-//! - [`first_adapter`] is the adapter of a configuration that keeps nothing, and [`adapter_start`] what the adapter of one that
-//!   keeps its state starts from.
+//! - [`configured_start`] is what a device starts from, by its configuration.
 //! - [`fill_from_system`] puts in the values that the configuration leaves to network interfaces of this computer.
 //! - A [`KeptFile`] is FILE: how it is opened, and why it is refused. [`start_kept`] starts a device from it if nothing of it
 //!   would be lost, or if [`StartWishes`] say that this is wanted. [`print_kept_values`] prints what it has.
@@ -27,6 +26,6 @@ pub use kept_file::{FileNote, FileUser, KeptFile, LockedFile, OpenFile};
 pub use kept_start::{print_kept_values, start_kept};
 pub use kept_values::KeptValues;
 pub use reported_address::{Elsewhere, ReportedAddress, listen_of, warn_of_address};
-pub use start::{adapter_start, first_adapter};
+pub use start::configured_start;
 pub use system::fill_from_system;
 pub use wishes::{StartWishes, are_attributes};

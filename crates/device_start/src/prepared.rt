@@ -1,7 +1,11 @@
 //! What is kept, made ready for a start: nothing of it is lost in silence.
 
-ghost use Rattle.std.specs.Prelude.{◌≡◌, All, IfOk};
+ghost use Rattle.std.specs.Prelude.{◌≡◌, [], All, IfOk, None, OnOk};
+ghost use Rattle.device_start.specs.Preparing.{first_unknown, is_value};
 ghost use Rattle.enip_keep.specs.Kept.{IsKeepable, pairs_of, set_all};
+ghost use Rattle.kept_adapter.specs.Hindrances.{hindrances};
+ghost use Rattle.kept_adapter.specs.Preparing.{configured_values, preparation};
+ghost use Rattle.kept_adapter.specs.declared.preparing.Wishes.{Wishes};
 
 use crate::hindrance_text::HindranceText;
 use crate::judgement::OpenFault;
@@ -38,9 +42,14 @@ pub(crate) fn prepare<'a>(
     entries: &mut Vec<Entry>,
     wishes: StartWishes<'a>,
 ) -> Result<Prepared, CommandError<'a>>
+    ensures changes { IfOk result (λ p. (wanted : Wishes) × (wanted.drops_commands ≡ wishes.entry.drops_commands)
+        × (wanted.accepts_config ≡ wishes.entry.accepts_config)
+        × (first_unknown (configured_values start.now) wanted.resets.items ≡ None)
+        × (pairs_of p.changes.items ≡ preparation start.now wanted (pairs_of entries.old.items))) }
     ensures made { IfOk result (λ p. pairs_of entries.new.items
         ≡ set_all (pairs_of p.changes.items) (pairs_of entries.old.items)) }
     ensures keepable { IfOk result (λ p. All IsKeepable p.changes.items) }
+    ensures lossless { OnOk result (hindrances start.now (pairs_of entries.new.items) ≡ []) }
 {
     let alloc = rt.alloc();
     let values = start.configured_values(alloc)?;
@@ -67,22 +76,43 @@ fn wishes_for<'a>(
     file: KeptFile<'a>,
     values: &[Entry],
     wishes: StartWishes<'a>,
-) -> Result<Wishes, CommandError<'a>> {
+) -> Result<Wishes, CommandError<'a>>
+    ensures drops { IfOk result (λ w. w.drops_commands ≡ wishes.entry.drops_commands) }
+    ensures accepts { IfOk result (λ w. w.accepts_config ≡ wishes.entry.accepts_config) }
+    ensures resets { IfOk result (λ w. first_unknown (pairs_of values.now) w.resets.items ≡ None) }
+{
     let resets = wishes.reset_keys(alloc)?;
-    for key in &resets {
-        if kept_at(values, *key).is_none() {
-            let text = format!(in alloc;
-                "{} is not kept (--reset-value)",
-                EntryName::of_key(*key)
-            )?;
-            return Err(no_start(file, text));
-        }
+    if let Some(key) = first_unknown(values, &resets) {
+        let text = format!(in alloc; "{} is not kept (--reset-value)", EntryName::of_key(key))?;
+        return Err(no_start(file, text));
     }
     Ok(Wishes {
         drops_commands: wishes.drops_commands,
         accepts_config: wishes.accepts_config,
         resets,
     })
+}
+
+/// The first of these keys that is not that of a value.
+fn first_unknown(values: &[Entry], keys: &[u64]) -> Option<u64>
+    ensures { result ≡ first_unknown (pairs_of values.now) keys.now }
+{
+    for key in keys {
+        if !is_value(values, *key) {
+            return Some(*key);
+        }
+    }
+    None
+}
+
+/// Whether a key is that of a value. The first entry says which device it is, and is not a value.
+fn is_value(values: &[Entry], key: u64) -> bool
+    ensures { result ≡ is_value (pairs_of values.now) key }
+{
+    match values.split_first() {
+        Some((_, values)) => kept_at(values, key).is_some(),
+        None => false,
+    }
 }
 
 /// The error of a start that is refused.
@@ -96,28 +126,33 @@ fn refuse_if_hindered<'a>(
     file: KeptFile<'a>,
     start: &AdapterStart,
     entries: &[Entry],
-) -> Result<(), CommandError<'a>> {
+) -> Result<(), CommandError<'a>>
+    ensures { OnOk result (hindrances start.now (pairs_of entries.now) ≡ []) }
+{
     let alloc = rt.alloc();
     let hindrances = start.hindrances(alloc, entries)?;
-    let mut last = None;
-    for hindrance in &hindrances {
-        if *hindrance == Hindrance::OtherDevice {
-            return Err(file.not_opened(OpenFault::OtherDevice));
-        }
-        print_last(rt, file, &last);
-        last = Some(format!(in alloc; "{}", HindranceText(*hindrance, entries))?);
-    }
-    match last {
-        Some(text) => Err(no_start(file, text)),
-        None => Ok(()),
-    }
-}
-
-/// Prints a reason, if there is one.
-fn print_last(rt: &HostRuntime, file: KeptFile<'_>, reason: &Option<String>) {
-    if let Some(text) = reason {
+    let Some((last, others)) = hindrances.as_slice().split_last() else {
+        return Ok(());
+    };
+    for hindrance in others {
+        let text = format!(in alloc; "{}", HindranceText(*hindrance, entries))?;
         print_reason(rt, &Noted(file.name(), text.as_str()));
     }
+    Err(hindered(alloc, file, *last, entries)?)
+}
+
+/// The error of a start by which something would be lost, for the last reason.
+fn hindered<'a>(
+    alloc: Global,
+    file: KeptFile<'a>,
+    hindrance: Hindrance,
+    entries: &[Entry],
+) -> Result<CommandError<'a>, AllocError> {
+    if hindrance == Hindrance::OtherDevice {
+        return Ok(file.not_opened(OpenFault::OtherDevice));
+    }
+    let text = format!(in alloc; "{}", HindranceText(hindrance, entries))?;
+    Ok(no_start(file, text))
 }
 
 /// Something that is said of the file of this name.

@@ -1,65 +1,19 @@
-//! What a device starts from: the adapter of its configuration.
+//! What a device starts from, by its configuration.
 
-ghost use Rattle.std.specs.Prelude.{◌≡◌, ◌≤◌, IfOk, IfSome, IsTrue};
-ghost use Rattle.configured_adapter.specs.Configured.{AreLimits, limits_of, shares_from};
-ghost use Rattle.enip_config.specs.Commands.{queue_limit};
+ghost use Rattle.std.specs.Prelude.{◌≡◌, ◌≤◌, IfOk, IfSome, IsTrue, None, option_map};
+ghost use Rattle.cip_objects.specs.Configuration.{fault_of};
+ghost use Rattle.configured_adapter.specs.Configured.{limits_of, listen_of, shares_from};
+ghost use Rattle.device_start.specs.Configured.{IsReordered, IsStartOf, ledger_start};
 
-use cip_objects::Objects;
+use cip_objects::Config;
 use config_file::ConfigFile;
-use config_refusal::LoadFault;
-use configured_adapter::adapter_of;
 use enip_access::Access;
-use enip_adapter::{Adapter, Limits, Listen, Shares};
+use enip_adapter::{Limits, Listen, Shares};
 use enip_common::{CLOCK, CommandError, NamedReason, Reason};
-use enip_config::{Configuration, LedgerConfig};
+use enip_config::{Configuration, fault_of_objects};
 use enip_server::NO_IDLE_TIMEOUT;
 use kept_adapter::{AdapterStart, LedgerStart};
 use std::time::UNIX_EPOCH;
-
-/// The adapter of a configuration, whose objects may have other values than the file: those of `--idle` and of interfaces.
-/// A command ledger gets another life with each start, because it is empty then.
-pub fn first_adapter<'a>(
-    rt: &HostRuntime,
-    config: &ConfigFile<'a>,
-    configuration: &Configuration,
-) -> Result<Adapter, CommandError<'a>> {
-    let ledger = match configuration.ledger {
-        None => None,
-        Some(ledger) => Some(LedgerConfig {
-            originators: ledger.originators,
-            life: life_now(rt)?,
-        }),
-    };
-    let objects = match Objects::new(rt.alloc(), &configuration.objects) {
-        Ok(objects) => objects,
-        Err(check) => return Err(config.refused(rt.alloc(), LoadFault::from(check))),
-    };
-    let shares = shares_from(&configuration.access);
-    if !can_be_made(configuration, ledger, shares) {
-        return Err(CommandError::of_reason(Reason::Named(config.name(), NamedReason::Failed)));
-    }
-    let adapter = adapter_of(rt.alloc(), objects, configuration, ledger, shares)?;
-    Ok(adapter)
-}
-
-/// Whether an adapter can have the limits of a configuration, so many waiting commands, such a ledger and such shares. A
-/// configuration that was accepted has no others.
-fn can_be_made(configuration: &Configuration, ledger: Option<LedgerConfig>, shares: Shares) -> bool
-    ensures limits { IsTrue result → AreLimits (limits_of configuration.now) }
-    ensures queue { IsTrue result → IfSome (queue_limit configuration.now) (λ n. (1 ≤ n) × (n ≤ 256)) }
-    ensures ledger { IsTrue result → IfSome ledger (λ l. (1 ≤ l.originators) × (l.originators ≤ 64)) }
-    ensures peers { IsTrue result → (1 ≤ shares.peers) × (shares.peers ≤ 16) }
-    ensures connections { IsTrue result → (1 ≤ shares.connections) × (shares.connections ≤ 64) }
-{
-    let has_slots = match ledger {
-        Some(ledger) => 1 <= ledger.originators && ledger.originators <= 64,
-        None => true,
-    };
-    has_slots
-        && are_in_range(limits_of(configuration), None)
-        && is_queue(configuration.queue_limit())
-        && are_shares(shares)
-}
 
 /// How many peers and connections the adapter of a configuration has, and its first numbers.
 fn limits_of(configuration: &Configuration) -> Limits
@@ -73,80 +27,107 @@ fn limits_of(configuration: &Configuration) -> Limits
     }
 }
 
-/// What the adapter of a configuration is started from, whose device keeps its state. A ledger of which nothing is kept
-/// begins a life now, and so does any ledger if `begins_life` is set.
-pub fn adapter_start<'a>(
+/// What a device starts from, by its configuration, and who may connect. A ledger of which nothing is kept begins a life now,
+/// and so does any ledger if `begins_life` is set. `idle_timeout` is in microseconds. The entries that are kept of a device are
+/// in the order of their keys, so its assemblies and its own objects are in the order of their numbers.
+///
+/// # Errors
+///
+/// If an object of the configuration is refused, the clock of the system cannot be read, or memory is refused.
+pub fn configured_start<'a>(
     rt: &HostRuntime,
     config: &ConfigFile<'a>,
     configuration: Configuration,
-    access: &Option<Access>,
     begins_life: bool,
     idle_timeout: u64,
-) -> Result<AdapterStart, CommandError<'a>>
-    ensures begins { IfOk result (λ s. s.begins_life ≡ begins_life) }
-    ensures idle { IfOk result (λ s. s.idle_timeout ≡ idle_timeout) }
-    ensures limits { IfOk result (λ s. s.limits ≡ limits_of configuration) }
-    ensures shares { IfOk result (λ s. s.shares ≡ shares_from access.now) }
+) -> Result<(AdapterStart, Option<Access>), CommandError<'a>>
+    ensures access { IfOk result (λ r. r.1 ≡ configuration.access) }
+    ensures objects { IfOk result (λ r. IsReordered configuration.objects r.0.objects) }
+    ensures rest { IfOk result (λ r. IsStartOf configuration r.0) }
+    ensures begins { IfOk result (λ r. r.0.begins_life ≡ begins_life) }
+    ensures idle { IfOk result (λ r. r.0.idle_timeout ≡ idle_timeout) }
 {
-    let life = life_now(rt)?;
-    let shares = shares_from(access);
-    match start_of(configuration, shares, life, begins_life, idle_timeout) {
-        Some(start) => Ok(start),
+    let mut configuration = configuration;
+    let queue = configuration.queue_limit();
+    let access = configuration.access.take();
+    let shares = shares_from(&access);
+    // Without a ledger no life begins, and the clock is not read.
+    let life = match configuration.ledger {
+        Some(_) => life_now(rt)?,
+        None => 0,
+    };
+    reorder(&mut configuration.objects);
+    if let Some(check) = configuration.objects.fault() {
+        return Err(config.refused(rt.alloc(), fault_of_objects(check)));
+    }
+    match start_of(
+        configuration,
+        queue,
+        shares,
+        life,
+        begins_life,
+        idle_timeout,
+    ) {
+        Some(start) => Ok((start, access)),
         None => Err(CommandError::of_reason(Reason::Named(config.name(), NamedReason::Failed))),
     }
 }
 
-/// What the adapter of a configuration is started from, to be read and not served.
+/// What a device starts from, to be read and not served.
 pub(crate) fn start_to_read<'a>(
     rt: &HostRuntime,
     config: &ConfigFile<'a>,
 ) -> Result<AdapterStart, CommandError<'a>> {
-    let mut configuration = config.configuration(rt.alloc())?;
-    let access = configuration.access.take();
-    let life = life_now(rt)?;
-    match start_of(
-        configuration,
-        shares_from(&access),
-        life,
-        false,
-        NO_IDLE_TIMEOUT,
-    ) {
-        Some(start) => Ok(start),
-        None => Err(CommandError::of_reason(Reason::Named(config.name(), NamedReason::Failed))),
-    }
+    let configuration = config.configuration(rt.alloc())?;
+    let (start, _) = configured_start(rt, config, configuration, false, NO_IDLE_TIMEOUT)?;
+    Ok(start)
 }
 
-/// What an adapter is started from. The entries that are kept of it are in the order of their keys, so its assemblies and
-/// its own objects are in the order of their numbers. `None` if the configuration was not accepted before.
-fn start_of(
-    configuration: Configuration,
-    shares: Shares,
-    life: u64,
-    begins_life: bool,
-    idle_timeout: u64,
-) -> Option<AdapterStart>
-    ensures begins { IfSome result (λ s. s.begins_life ≡ begins_life) }
-    ensures idle { IfSome result (λ s. s.idle_timeout ≡ idle_timeout) }
-    ensures limits { IfSome result (λ s. s.limits ≡ limits_of configuration) }
-    ensures shares { IfSome result (λ s. s.shares ≡ shares) }
+/// Puts the assemblies and the own objects of a device in the order of their numbers.
+fn reorder(objects: &mut Config)
+    ensures { IsReordered objects.old objects.new }
 {
-    let queue = configuration.queue_limit();
-    let limits = limits_of(&configuration);
-    let (address, port) = (configuration.address, configuration.port);
-    let (reset, ledger) = (configuration.reset, configuration.ledger);
-    let mut objects = configuration.into_objects();
     objects
         .assemblies
         .sort_unstable_by_key(|assembly| assembly.instance);
     objects
         .objects
         .sort_unstable_by_key(|object| (object.class, object.instance));
-    let ledger = ledger.map(|ledger| LedgerStart {
-        originators: ledger.originators,
-        life,
-    });
-    let is_accepted = objects.fault().is_none() && is_queue(queue);
-    if !is_accepted || !are_in_range(limits, ledger) || !are_shares(shares) {
+}
+
+/// What an adapter is started from, with a queue of this limit. `None` if a number or a share is out of its range: a configuration that was accepted has
+/// none such.
+fn start_of(
+    configuration: Configuration,
+    queue: Option<u16>,
+    shares: Shares,
+    life: u64,
+    begins_life: bool,
+    idle_timeout: u64,
+) -> Option<AdapterStart>
+    requires { fault_of configuration.objects ≡ None }
+    ensures objects { IfSome result (λ s. s.objects ≡ configuration.objects) }
+    ensures ledger { IfSome result (λ s. s.ledger ≡ option_map (ledger_start life) configuration.ledger) }
+    ensures queue { IfSome result (λ s. s.queue ≡ queue) }
+    ensures reset { IfSome result (λ s. s.reset ≡ configuration.reset) }
+    ensures listen { IfSome result (λ s. s.listen ≡ listen_of configuration) }
+    ensures begins { IfSome result (λ s. s.begins_life ≡ begins_life) }
+    ensures idle { IfSome result (λ s. s.idle_timeout ≡ idle_timeout) }
+    ensures limits { IfSome result (λ s. s.limits ≡ limits_of configuration) }
+    ensures shares { IfSome result (λ s. s.shares ≡ shares) }
+{
+    let limits = limits_of(&configuration);
+    let (address, port) = (configuration.address, configuration.port);
+    let (reset, ledger) = (configuration.reset, configuration.ledger);
+    let ledger = match ledger {
+        Some(ledger) => Some(LedgerStart {
+            originators: ledger.originators,
+            life,
+        }),
+        None => None,
+    };
+    let objects = configuration.into_objects();
+    if !is_queue(queue) || !are_in_range(limits, ledger) || !are_shares(shares) {
         return None;
     }
     Some(AdapterStart {

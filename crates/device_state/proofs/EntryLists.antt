@@ -3,7 +3,7 @@ use Rattle.std.proofs.Common.{◌≡◌, ℕ, zero, suc, ◌+◌, ◌-◌, ◌<�
 use Rattle.std.specs.Prelude.{slice_get}
 use Rattle.std.proofs.lemmas.Option.{slice_get_past}
 use Rattle.cip_application.proofs.Names.{get_behind}
-use Rattle.cip_ledger.specs.declared.request.TheConstants.{LEDGER}
+use Rattle.cip_message.specs.declared.ledger_services.TheConstants.{LEDGER}
 use Rattle.cip_ledger.specs.Ledger.{SlotState, LedgerState}
 use Rattle.device_state.specs.Keys.{key_of}
 use Rattle.device_state.specs.Saved.{Entry, entry_of, slot_bytes, slot_entries, ledger_entries}

@@ -8,8 +8,6 @@ below : (a b : ℕ) → a < b → nat_lt a b ≡ true
 below a b h = grind (arith, nat_tests)
 
 pub record IsNarrow (class instance attribute : ℕ) : Type 0 where
-  pub class_fits : class < 2 ^ 16
-  pub instance_fits : instance < 2 ^ 16
   pub attribute_fits : attribute < 2 ^ 16
 
 key_fits : (c i a : ℕ) → c < 2 ^ 16 → i < 2 ^ 16 → a < 2 ^ 16 → key_of c i a < 2 ^ 48

@@ -3,7 +3,7 @@ use Rattle.std.specs.Prelude.{◌≡◌, ◌<◌, ℕ, ◌^◌, ◌==◌, ◌⊎
 use Rattle.std.specs.List.{AllByRecursion}
 use Rattle.cip_application.specs.declared.object.AttributeName.{AttributeName}
 use Rattle.cip_bytes.specs.declared.protocol.TheConstants.{IDENTITY}
-use Rattle.cip_ledger.specs.declared.request.TheConstants.{LEDGER}
+use Rattle.cip_message.specs.declared.ledger_services.TheConstants.{LEDGER}
 use Rattle.cip_ledger.specs.Kept.{IsLedger}
 use Rattle.cip_ledger.specs.Ledger.{LedgerState, empty_ledger}
 use Rattle.cip_objects.specs.Contents.{Contents, bytes_at, value_at}

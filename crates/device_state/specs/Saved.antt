@@ -4,7 +4,7 @@ use Rattle.std.specs.List.{list_any}
 use Rattle.cip_application.specs.declared.object.AttributeName.{AttributeName}
 use Rattle.cip_bytes.specs.Numbers.{le}
 use Rattle.cip_bytes.specs.declared.protocol.TheConstants.{IDENTITY}
-use Rattle.cip_ledger.specs.declared.request.TheConstants.{LEDGER}
+use Rattle.cip_message.specs.declared.ledger_services.TheConstants.{LEDGER}
 use Rattle.cip_ledger.specs.Ledger.{SlotState, LedgerState, is_withdrawn}
 use Rattle.cip_objects.specs.Contents.{Contents, bytes_at}
 use Rattle.cip_objects.specs.Kept.{kept_names}

@@ -1,9 +1,5 @@
 -- What a piece asks the owner, by what of it reaches the objects and by the slot of its peer.
 use Rattle.std.proofs.Common.{◌≡◌, ℕ, List, [], ◌∷◌, ◌++◌, map, Bool, true, false, cond, length, Option, Some, None, get_or, append-nil, refl, sym, ap, ◌∙◌}
-use Rattle.std.specs.List.{flat_map}
-use Rattle.cip_ledger.specs.Device.{Device, owned_standing}
-use Rattle.cip_ledger.specs.Reaching.{listed}
-use Rattle.cip_ledger.specs.Runs.{Request, reached}
 use Rattle.cip_objects.specs.OwnRequests.{Asked}
 use Rattle.cip_owner.specs.Owned.{asks}
 use Rattle.enip_wire.specs.Stream.{Parsed, held_and_taken, parsed}
@@ -12,10 +8,10 @@ use Rattle.enip_adapter.specs.declared.peer.PeerSlot.{PeerSlot}
 use Rattle.enip_adapter.specs.declared.peer.Session.{Session}
 use Rattle.enip_adapter.specs.declared.shared.Shared.{Shared}
 use Rattle.enip_adapter.specs.Adapter.{adapter_in, held_in}
-use Rattle.enip_adapter.specs.Asks.{asks_by_reached, asks_by_steps, asks_of_call, asks_by_requests, asks_by_parsed, asks_by_piece, asks_at}
+use Rattle.enip_adapter.specs.Asks.{asks_by_steps, asks_of_call, asks_by_requests, asks_by_parsed, asks_by_piece, asks_at}
 use Rattle.enip_adapter.specs.Calls.{AdapterState, Meaning, after_call, call_answer, bytes_held, call_meaning, piece_to, piece_meaning, dropped_piece, events_of_parsed, last_from}
 use Rattle.enip_adapter.specs.Calls.Call.{Feeds, Ticks}
-use Rattle.enip_adapter.specs.DeviceRuns.{Requested, device_steps, objects_after, objects_answer, requests_in_frame, requests_by_session}
+use Rattle.enip_adapter.specs.DeviceRuns.{Requested, device_steps, requests_in_frame, requests_by_session}
 use Rattle.enip_adapter.specs.Lookup.{first_with, IsFirstWith}
 use Rattle.enip_adapter.specs.PeerSlots.{PeerSlotsState, handle_of}
 use Rattle.enip_adapter.specs.declared.no_reply_reason.NoReplyReason.TheVariants.{NoFrame, NotServed}
@@ -28,21 +24,6 @@ use Rattle.enip_adapter.proofs.FeedLemmas.{finds, session_found, bytes_at_place,
 use Rattle.enip_adapter.proofs.LookupLemmas.{first-None, slice_get-past}
 
 -- ---- one request
-
-abbrev by_reached : Device → List Request → List Asked
-by_reached device requests = flat_map (asks_by_reached device.router.objects) (map Requested requests) ++ []
-
-pub nothing_reached : (device : Device) (request : Request) → [] ≡ reached objects_after objects_answer owned_standing device (request ∷ [])
-    → [] ≡ asks_by_requests device (request ∷ [])
-nothing_reached device request e = ap (by_reached device) e
-
-pub one_reached : (device : Device) (request : Request) (limit : ℕ) (text : List ℕ)
-    → (limit, text) ∷ [] ≡ reached objects_after objects_answer owned_standing device (request ∷ [])
-    → listed (asks device.router.objects limit text) ≡ asks_by_requests device (request ∷ [])
-one_reached device request limit text e =
-    sym (append-nil (listed (asks device.router.objects limit text) ++ [])
-    ∙ append-nil (listed (asks device.router.objects limit text)))
-    ∙ ap (by_reached device) e
 
 -- ---- a piece
 

@@ -15,7 +15,8 @@ use Rattle.cip_ledger.specs.Device.{Device, owned_standing, exec_device}
 use Rattle.cip_ledger.specs.Laws.{HasNoDoubles, UntilFreed}
 use Rattle.cip_ledger.specs.Ledger.{LedgerState}
 use Rattle.cip_ledger.specs.Reaching.{listed}
-use Rattle.cip_ledger.specs.Requests.{LedgerRequest, Command as LedgerCommand, ledger_request, is_barred}
+use Rattle.cip_ledger.specs.Requests.{LedgerRequest, ledger_request, is_barred}
+use Rattle.cip_message.specs.LedgerCommand.{Command as LedgerCommand}
 use Rattle.cip_ledger.specs.Runs.{Request, reached, reached_by, embedded_in, Executed, Freed}
 use Rattle.cip_ledger.specs.Runs.{Event as LedgerEvent}
 use Rattle.cip_ledger.specs.Services.{Action, Replies, Executes as ExecutesCommand, Queues, Frees, KEPT_LIMIT, reply_to, success, DONE, action_of}
@@ -462,9 +463,6 @@ given-answer : (w : OwnedState) (limit : ℕ) (text : List ℕ) (asked : Asked) 
 given-answer w limit text asked reply e fit =
     ap (λ done. done.answer)
     (given w limit text asked reply (something (asks w.objects limit text) asked e) fit)
-
-abbrev with_reply_at : Device → Reply → Device
-with_reply_at device reply = device_written (Prepares (Some reply)) device
 
 fate-answer : (device : Device) (f : Fate) (limit : ℕ) (text : List ℕ) (asked : Asked) (reply : Reply)
     → Stands device.router f

@@ -1,5 +1,5 @@
 -- A peer that begins, and one that ends.
-use Rattle.std.proofs.Common.{◌≡◌, ℕ, ◌+◌, ltb, not, List, [], ◌∷◌, ◌++◌, Bool, true, false, cond, if◌then◌else◌, Option, Some, None, length, map, refl, sym, ap, ◌∙◌, rules, All, ◌≤◌}
+use Rattle.std.proofs.Common.{◌≡◌, ℕ, ◌+◌, List, [], ◌∷◌, ◌++◌, Bool, false, cond, if◌then◌else◌, Option, Some, None, map, refl, sym, ap, ◌∙◌, All, ◌≤◌}
 use Rattle.std.specs.Prelude.{is_some}
 use Rattle.std.proofs.lemmas.List.Elements.{All-head, All-tail}
 use Rattle.enip_adapter.specs.declared.adapter.Full.TheVariants.{Places, Handles, Share}
@@ -8,16 +8,15 @@ use Rattle.enip_adapter.specs.declared.peer.Rights.{Rights}
 use Rattle.enip_adapter.specs.declared.peer.Session.{Session}
 use Rattle.enip_adapter.specs.declared.shared.Shared.{Shared}
 use Rattle.enip_adapter.specs.Adapter.{adapter_in, state_in, session_in, held_in}
-use Rattle.enip_adapter.specs.Calls.{AdapterState, Held, after_call, held_at_beginning}
-use Rattle.enip_adapter.specs.Calls.Call.{Begins_peer, Ends_peer}
-use Rattle.enip_adapter.specs.Groups.{has_share}
+use Rattle.enip_adapter.specs.Calls.{AdapterState, Held, after_call}
+use Rattle.enip_adapter.specs.Calls.Call.{Ends_peer}
 use Rattle.enip_adapter.specs.Lookup.{first_with, without_first}
-use Rattle.enip_adapter.specs.Turn.{State, TurnResult, turned, with_peer, new_session, session_of, end_found, without_connections}
+use Rattle.enip_adapter.specs.Turn.{State, TurnResult, turned, with_peer, session_of, end_found, without_connections}
 use Rattle.enip_adapter.specs.Turn.Output.{Begins, Refuses}
 use Rattle.enip_adapter.specs.PeerSlots.{PeerSlotsState, handle_of}
-use Rattle.enip_adapter.proofs.FeedLemmas.{finds, session_found}
+use Rattle.enip_adapter.proofs.FeedLemmas.{session_found}
 use Rattle.enip_adapter.proofs.ListLemmas.{without_first-none}
-use Rattle.enip_adapter.proofs.MapLemmas.{map-without_first, map-append_one}
+use Rattle.enip_adapter.proofs.MapLemmas.{map-without_first}
 
 -- A peer that frees its slot.
 ended_found : (limit next_handle : ℕ) (shared : Shared) (places : List PeerSlot) (handle : ℕ) (p : PeerSlot) → first_with handle_of handle places ≡ Some p
@@ -74,38 +73,7 @@ begun_by s rights group over full used =
     (cond full (turned s (Refuses Places) false)
     (cond used (turned s (Refuses Handles) false) (turned (with_peer s rights group) (Begins s.next_handle) false)))
 
-abbrev after_begun : List Held → TurnResult → AdapterState
-after_begun held t = record { state = t.state; held = held_at_beginning held t.answer.output }
-
-pub begun_one : (limit next_handle : ℕ) (shared : Shared) (places : List PeerSlot) (new : PeerSlot) (rights : Rights)
-    (group : Option ℕ) → has_share shared.share (map session_in places) group ≡ true
-    → ltb (length (map session_in places)) limit ≡ true → ltb 0xffffffff next_handle ≡ false
-    → new ≡ record { session = new_session next_handle rights group; reader = [] }
-    → adapter_in limit (next_handle + 1) shared (places ++ new ∷ [])
-    ≡ after_call (adapter_in limit next_handle shared places) (Begins_peer rights group)
-begun_one limit next_handle shared places new rights group left room unused is =
-    let s : State = state_in limit next_handle shared places in
-    ap (λ p. adapter_in limit (next_handle + 1) shared (places ++ p ∷ [])) is
-    ∙ ap (λ ps. let r : AdapterState = record {
-      state = record { places = limit; next_handle = next_handle + 1; shared = shared; peers = ps };
-      held = map held_in (places ++ record { session = new_session next_handle rights group; reader = [] } ∷ []);
-    } in r) (map-append_one session_in places (record { session = new_session next_handle rights group; reader = [] }))
-    ∙ ap (λ h. let r : AdapterState = record { state = with_peer (state_in limit next_handle shared places) rights group; held = h } in r)
-    (map-append_one held_in places (record { session = new_session next_handle rights group; reader = [] }))
-    ∙ ap (λ b. after_begun (map held_in places) (begun_by s rights group false (not b) false)) (sym room)
-    ∙ ap (λ b. after_begun (map held_in places)
-    (begun_by s rights group false (not (ltb (length (map session_in places)) limit)) b)) (sym unused)
-    ∙ ap (λ b. after_begun (map held_in places)
-    (begun_by s rights group (not b) (not (ltb (length (map session_in places)) limit)) (ltb 0xffffffff next_handle)))
-    (sym left)
-
-pub finds_same : (h k : ℕ) (xs ys : List PeerSlot) → h ≡ k → xs ≡ ys → finds h xs ≡ finds k ys
-finds_same h k xs ys e f = ap (λ n. finds n xs) e ∙ ap (finds k) f
-
 -- The last item of a list, all of whose items have a property.
 pub last_of : {X : Type 0} (P : X → Type 0) (xs : List X) (x : X) → All P (xs ++ x ∷ []) → P x
 last_of P [] x all = All-head P x [] all
 last_of P (y ∷ ys) x all = last_of P ys x (All-tail P y (ys ++ x ∷ []) all)
-
-pub ltb-not : (a b : ℕ) → b ≤ a → ltb a b ≡ false
-ltb-not a b le = search (rules, le)

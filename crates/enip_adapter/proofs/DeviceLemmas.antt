@@ -9,7 +9,7 @@ use Rattle.cip_bytes.specs.declared.protocol.Command.TheVariants.{SendRRData, Se
 use Rattle.cip_class3.specs.Item.{sequence_count_of, message_of}
 use Rattle.cip_class3.specs.TargetRule.{TargetStep, has_accepted_size, is_held}
 use Rattle.cip_ledger.specs.Device.{Device, Executed, owned_standing, exec_device, run}
-use Rattle.cip_ledger.specs.Requests.{Command as LedgerCommand}
+use Rattle.cip_message.specs.LedgerCommand.{Command as LedgerCommand}
 use Rattle.cip_ledger.specs.Runs.{Request, slot_in, events_by, journal, reached, router_after}
 use Rattle.cip_ledger.specs.Runs.Event.{Executed as ExecutedCommand, Freed}
 use Rattle.cip_ledger.specs.Runs.{Event as LedgerEvent}

@@ -1,13 +1,13 @@
 -- A command of the ledger whose queued command the device has finished is answered by the owner's reply.
 use Rattle.std.proofs.Common.{◌≡◌, ℕ, ◌+◌, length, true, if◌then◌else◌, Option, Some, None, unwrap_or, List, ◌∷◌, ap, ◌∙◌}
 use Rattle.std.specs.Prelude.{option_map}
-use Rattle.cip_ledger.specs.declared.service.TheConstants as services
+use Rattle.cip_message.specs.declared.ledger_services.TheConstants as services
 use Rattle.cip_ledger.specs.Device.{Device, owned_standing, exec_device, FinishedCommand, finished_command, finished_of, finished_text, with_finished}
 use Rattle.cip_ledger.specs.DoubtLaws.{IsGiven}
 use Rattle.cip_ledger.specs.Ledger.{LedgerState}
 use Rattle.cip_ledger.specs.Pending.{completed}
 use Rattle.cip_ledger.specs.PendingLaws.{IsPending}
-use Rattle.cip_ledger.specs.Requests.{Command}
+use Rattle.cip_message.specs.LedgerCommand.{Command}
 use Rattle.cip_ledger.specs.Runs.{Request, turn_at}
 use Rattle.cip_ledger.specs.Services.{reply_to, success, DONE, HEAD_SIZE}
 use Rattle.cip_ledger.specs.Turn.{Turn, turn_of}

@@ -1,6 +1,6 @@
 -- The index of the first item with a number.
 use Rattle.std.proofs.Common.{◌≡◌, ℕ, suc, ◌+◌, ◌<◌, ◌≤◌, List, [], ◌∷◌, Bool, true, false, cond, not, eqb, ltb, ltb-true, ltb-false, zero, get_or, Some, None, length, refl, ap, subst, arith}
-use Rattle.std.specs.Prelude.{slice_get, remove, MatchOption}
+use Rattle.std.specs.Prelude.{slice_get, MatchOption}
 use Rattle.std.specs.List.{position_or_len, position}
 use Rattle.enip_adapter.specs.Lookup.{first_with, with_first, without_first, IsFoundAt, IsFirstWith}
 
@@ -69,10 +69,6 @@ first-None number n xs e =
 pub slice_get-past : {X : Type 0} → (xs : List X) → slice_get xs (length xs) ≡ None
 slice_get-past [] = refl
 slice_get-past (x ∷ xs) = slice_get-past xs
-
-pub remove-past : {X : Type 0} → (xs : List X) → remove xs (length xs) ≡ xs
-remove-past [] = refl
-remove-past (x ∷ xs) = ap (λ ys. x ∷ ys) (remove-past xs)
 
 pub slice_get-within : {X : Type 0} → (xs : List X) (i : ℕ) (d : X) → i < length xs → slice_get xs i ≡ Some (get_or xs i d)
 slice_get-within [] i d h = absurd (omega arith)

@@ -38,10 +38,6 @@ map-without_first {X} {Y} f number n (x ∷ xs) =
     ≡ cond b (map f xs) (f x ∷ without_first number n (map f xs))
     ) [ true ↦ refl | false ↦ ap (λ ys. f x ∷ ys) rest ]
 
-pub map-append_one : {X Y : Type 0} → (f : X → Y) (xs : List X) (y : X) → map f (xs ++ y ∷ []) ≡ map f xs ++ f y ∷ []
-map-append_one f [] y = refl
-map-append_one f (x ∷ xs) y = ap (λ ys. f x ∷ ys) (map-append_one f xs y)
-
 -- ---- the slots of a group
 
 abbrev pub is_at_group : ℕ → PeerSlot → Bool

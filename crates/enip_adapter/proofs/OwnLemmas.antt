@@ -113,11 +113,6 @@ pub steps-append : (shared : Shared) (session : Session) (fs gs : List Frame) �
 steps-append shared session [] gs = refl
 steps-append shared session (f ∷ fs) gs = steps-append shared (step shared session f) fs gs
 
-steps-same : (s t : Shared) (session : Session) (fs : List Frame) → steps s session fs ≡ steps t session fs
-steps-same s t session [] = refl
-steps-same s t session (f ∷ fs) = ap (λ x. steps s x fs) (step-same s t session f)
-    ∙ steps-same s t (step t session f) fs
-
 pub steps-as : (shared : Shared) (session : Session) (rights : Rights) (group : Option ℕ) (fs : List Frame)
     → with_rights (steps shared session fs) rights group ≡ steps shared (with_rights session rights group) fs
 steps-as shared session rights group [] = refl

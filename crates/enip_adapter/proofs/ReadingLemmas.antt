@@ -9,7 +9,8 @@ use Rattle.cip_bytes.specs.Reading.{◌>>=◌}
 use Rattle.cip_bytes.specs.declared.protocol.TheConstants.{IDENTITY, ASSEMBLY, CONNECTION_MANAGER}
 use Rattle.cip_ledger.specs.Device.{Device, owned_standing, exec_device}
 use Rattle.cip_ledger.specs.Reaching.{listed}
-use Rattle.cip_ledger.specs.Requests.{LedgerRequest, Command, ledger_request}
+use Rattle.cip_ledger.specs.Requests.{LedgerRequest, ledger_request}
+use Rattle.cip_message.specs.LedgerCommand.{Command}
 use Rattle.cip_ledger.specs.Runs.{Request as LimitedRequest, command_by, command_given, command_in_data, forgotten_by, forgotten, forgotten_in_data, reached_by}
 use Rattle.cip_ledger.specs.Services.{Replies, Executes, Queues, Frees}
 use Rattle.cip_ledger.specs.Turn.{Fate, Passed, Served, fate, turn_by}

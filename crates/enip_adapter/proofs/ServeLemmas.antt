@@ -1,11 +1,11 @@
 -- Feeding a piece again and again.
-use Rattle.std.proofs.Common.{◌≡◌, ℕ, suc, ◌+◌, ◌<◌, ◌≤◌, List, [], length, drop, Bool, false, Option, Some, None, refl, sym, ap, subst, ◌∙◌, arith, length-drop}
-use Rattle.std.proofs.lemmas.List.{drop-drop, drop_all}
+use Rattle.std.proofs.Common.{◌≡◌, ℕ, suc, ◌+◌, ◌<◌, ◌≤◌, List, [], length, drop, Bool, false, Option, refl, sym, ap, subst, ◌∙◌, arith, length-drop}
+use Rattle.std.proofs.lemmas.List.{drop-drop}
 use Rattle.std.proofs.KnownBytes.{Appends-nil, Appends-trans}
-use Rattle.std.specs.Io.KnownBytes.{Appends, Consumes, Keeps}
+use Rattle.std.specs.Io.KnownBytes.{Appends}
 use Rattle.enip_adapter.specs.Calls.{AdapterState, call_meaning, call_answer, after_call}
 use Rattle.enip_adapter.specs.Calls.Call.{Feeds}
-use Rattle.enip_adapter.specs.Serving.{FeedState, feeds, fed_more, output_bytes, GoesOn, AllGoOn, FedWhole}
+use Rattle.enip_adapter.specs.Serving.{FeedState, feeds, fed_more, output_bytes, GoesOn, AllGoOn}
 
 -- This many bytes of a piece were fed, each feed went on, and its answers were written.
 pub record HasFed (now peer : ℕ) (a : AdapterState) (piece : List ℕ) (fed : ℕ) (new : AdapterState) (before after : Option (List ℕ)) : Type 0 where
@@ -19,17 +19,6 @@ pub record HasFed (now peer : ℕ) (a : AdapterState) (piece : List ℕ) (fed : 
 pub none_fed : (now peer : ℕ) (a : AdapterState) (piece : List ℕ) (before : Option (List ℕ)) → HasFed now peer a piece 0 a before before
 none_fed now peer a piece before =
     record { times = 0; each = tt; rest = refl; adapter = refl; written = Appends-nil before }
-
--- once nothing is left
-pub all_fed : (now peer : ℕ) (a new : AdapterState) (piece : List ℕ) (fed : ℕ) (before after : Option (List ℕ)) → length piece ≤ fed
-    → HasFed now peer a piece fed new before after → FedWhole now peer a piece new before after
-all_fed now peer a new piece fed before after past h = record {
-  times = h.times;
-  each = h.each;
-  whole = h.rest ∙ drop_all fed piece past;
-  adapter = h.adapter;
-  written = h.written;
-}
 
 -- the state of feeding, by its rest and its adapter
 at_feeding : (now peer : ℕ) (a : AdapterState) (piece rest : List ℕ) (k : ℕ) (seen : AdapterState)
@@ -70,9 +59,3 @@ more_fed now peer a seen new piece rest fed taken close before between after h b
       written = subst (Appends before after) (ap (λ f. (fed_more now peer f).sent) (sym is))
           (Appends-trans before between after (feeds now peer a piece h.times).sent (more_answer now peer seen rest) h.written written);
     }
-
--- a read of no byte
-pub none_consumed : (before after : Option (List ℕ)) → Consumes before after [] → Keeps before after
-none_consumed None after c = tt
-none_consumed (Some xs) None c = c
-none_consumed (Some xs) (Some ys) c = sym c

@@ -4,13 +4,14 @@ use Rattle.std.specs.Prelude.{◌&&◌, option_map}
 use Rattle.std.specs.Option.{option_and_then}
 use Rattle.std.proofs.lemmas.Bool.{and_parts}
 use Rattle.cip_bytes.specs.Numbers.{number_at}
-use Rattle.cip_ledger.specs.declared.service.TheConstants as services
+use Rattle.cip_message.specs.declared.ledger_services.TheConstants as services
 use Rattle.cip_ledger.specs.Device.{Device, FinishedCommand, finished_command, finished_of, finished_text, with_finished, finished_in}
 use Rattle.cip_ledger.specs.Doubt.{is_in_doubt_at, is_in_doubt, is_kept_reply, can_settle, with_last, settled}
 use Rattle.cip_ledger.specs.Ledger.{LedgerState, SlotState, slot_of, with_slot, is_pending}
 use Rattle.cip_ledger.specs.Pending.{completed}
 use Rattle.cip_ledger.specs.Reaching.{listed, embedded_by}
-use Rattle.cip_ledger.specs.Requests.{LedgerRequest, Command, command_of, ledger_request}
+use Rattle.cip_ledger.specs.Requests.{LedgerRequest, command_of, ledger_request}
+use Rattle.cip_message.specs.LedgerCommand.{Command}
 use Rattle.cip_ledger.specs.Runs.{Request, slot_in}
 use Rattle.cip_ledger.specs.Services.{Action, Frees, refuses, size_fault, unless, do_by_slot, do_command, forget, forget_in, action_of}
 use Rattle.cip_ledger.specs.Withdrawing.{withdrawal_of, withdrawn_from, found_by}

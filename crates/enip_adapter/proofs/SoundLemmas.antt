@@ -12,7 +12,7 @@ use Rattle.enip_adapter.specs.declared.peer.Rights.{Rights}
 use Rattle.enip_adapter.specs.declared.peer.Session.{Session}
 use Rattle.enip_adapter.specs.declared.shared.Listen.{Listen}
 use Rattle.enip_adapter.specs.declared.no_reply_reason.NoReplyReason.TheVariants.{NotServed}
-use Rattle.enip_adapter.specs.Adapter.{new_adapter, shared_adapter}
+use Rattle.enip_adapter.specs.Adapter.{shared_adapter}
 use Rattle.enip_adapter.specs.Commands.{command_served, long_refused}
 use Rattle.enip_adapter.specs.Lookup.{first_with, with_first, without_first}
 use Rattle.enip_adapter.specs.Replies.{Served, leaving}
@@ -29,7 +29,6 @@ use Rattle.enip_adapter.proofs.ListLemmas.{AreDrawn, drawn-more, drawn-without, 
 use Rattle.enip_adapter.proofs.NumberLemmas.{next-parsed_frame, next-ended}
 use Rattle.enip_adapter.proofs.PeerLemmas.{at_state, held-call, session-call}
 use Rattle.enip_wire.proofs.RunningLemmas.{IsRunning, running-empty, running-taken, bytes_taken-some}
-use Rattle.enip_adapter.specs.Groups.{no_shares}
 use Rattle.enip_adapter.proofs.BeginLemmas.{each-begun}
 
 -- The handles of the peers, and the numbers of the held bytes.
@@ -293,9 +292,6 @@ sound-shared device listen limits shares = record {
   drawn = record { once = tt; below = tt };
   ready = λ peer session e alive. cc;
 }
-
-pub sound-new : (device : Device) (listen : Listen) (limits : Limits) → IsSound (new_adapter device listen limits)
-sound-new device listen limits = sound-shared device listen limits no_shares
 
 -- A piece is taken in part at least, or dropped.
 pub taken-piece : (a : AdapterState) (now peer b : ℕ) (bs : List ℕ) → IsSound a → (o : Option Session)

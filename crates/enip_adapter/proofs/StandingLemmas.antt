@@ -5,7 +5,8 @@ use Rattle.cip_ledger.specs.declared.target.Standing.{Standing}
 use Rattle.cip_ledger.specs.declared.target.Standing.TheVariants as standings
 use Rattle.cip_ledger.specs.Device.{owned_standing}
 use Rattle.cip_ledger.specs.Ledger.{LedgerState}
-use Rattle.cip_ledger.specs.Requests.{LedgerRequest, Command, ledger_request, is_barred}
+use Rattle.cip_ledger.specs.Requests.{LedgerRequest, ledger_request, is_barred}
+use Rattle.cip_message.specs.LedgerCommand.{Command}
 use Rattle.cip_ledger.specs.Runs.{Request}
 use Rattle.cip_ledger.specs.Services.{Action, Replies, Executes, Queues, Frees, action_of}
 use Rattle.cip_ledger.specs.Standings.{by_standing, new_at_router, at_router}

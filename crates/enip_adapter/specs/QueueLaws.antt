@@ -2,13 +2,13 @@
 -- the queue.
 use Rattle.std.specs.Prelude.{◌≡◌, ◌≢◌, ⊤, ℕ, ◌≤◌, ◌+◌, Bool, true, false, is_some, Option, Some, None, List, [], ◌∷◌, ◌++◌, length, map, option_map}
 use Rattle.std.specs.List.{flat_map, AllByRecursion, range_with_len}
-use Rattle.cip_ledger.specs.declared.service.TheConstants as services
+use Rattle.cip_message.specs.declared.ledger_services.TheConstants as services
 use Rattle.cip_ledger.specs.Device.{Device, owned_standing, queued_device, exec_device, finished_text}
 use Rattle.cip_ledger.specs.DoubtLaws.{IsGiven}
 use Rattle.cip_ledger.specs.Ledger.{LedgerState, SlotState, empty_ledger}
 use Rattle.cip_ledger.specs.Pending.{is_pending_at}
 use Rattle.cip_ledger.specs.PendingLaws.{IsPending}
-use Rattle.cip_ledger.specs.Requests.{Command}
+use Rattle.cip_message.specs.LedgerCommand.{Command}
 use Rattle.cip_ledger.specs.Runs.{Request, slot_in, reached}
 use Rattle.cip_ledger.specs.Services.{reply_to, success, DONE, HEAD_SIZE}
 use Rattle.cip_ledger.specs.Withdrawing.{withdrawal_result}

@@ -1,8 +1,8 @@
 -- What peers may do: a writer everything, a reader whatever changes nothing (ours).
 use Rattle.std.specs.Prelude.{ℕ, ◌==◌, ◌&&◌, ◌||◌, Bool, false, not, if◌then◌else◌, List, [], ◌∷◌, Result, Ok, Err}
 use Rattle.std.specs.Prelude.{Option, Some, None}
-use Rattle.cip_ledger.specs.declared.request.TheConstants.{LEDGER}
-use Rattle.cip_ledger.specs.declared.service.TheConstants.{GET_LAST, GET_SLOTS}
+use Rattle.cip_message.specs.declared.ledger_services.TheConstants.{LEDGER}
+use Rattle.cip_message.specs.declared.ledger_services.TheConstants.{GET_LAST, GET_SLOTS}
 use Rattle.cip_ledger.specs.Device.{Device, Executed, exec_device}
 use Rattle.cip_message.specs.declared.path.Path.{Path}
 use Rattle.cip_message.specs.declared.path.PathFault.{PathFault}

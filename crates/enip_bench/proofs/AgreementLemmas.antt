@@ -1,7 +1,7 @@
 -- From the opening on, both worlds show the same.
 use Rattle.std.proofs.Common.{◌≡◌, ℕ, ◌≤◌, ◌<◌, ◌^◌, List, length, ap, sym, ◌∙◌}
 use Rattle.cip_class3.specs.OriginatorRule.{Idle}
-use Rattle.cip_objects.specs.Router.{IsReplyTo}
+use Rattle.cip_message.specs.Router.{IsReplyTo}
 use Rattle.enip_adapter.specs.OwnWrites.{OwnWrite}
 use Rattle.enip_bench.specs.WorldLaws.{items_after, agreement_law}
 use Rattle.enip_bench.specs.Events.{Event}

@@ -2,7 +2,7 @@
 use Rattle.std.proofs.Common.{◌≡◌, ℕ, true, ◌≤◌, ◌<◌, ◌^◌, Option, Some, None, option_map, List, map, length, slice_get, refl, ap, sym, ◌∙◌, subst, subst₂}
 use Rattle.std.proofs.lemmas.Option.{same_Some, slice_get-map}
 use Rattle.cip_class3.specs.Item.{item}
-use Rattle.cip_objects.specs.Router.{IsReplyTo}
+use Rattle.cip_message.specs.Router.{IsReplyTo}
 use Rattle.enip_adapter.specs.OwnWrites.{OwnWrite}
 use Rattle.enip_bench.specs.Events.{Event}
 use Rattle.enip_bench.specs.Executions.{AreRising, IsOnlyExecution}

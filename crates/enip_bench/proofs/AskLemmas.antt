@@ -15,7 +15,8 @@ use Rattle.cip_objects.specs.OwnRequests.{Asked}
 use Rattle.cip_owner.specs.Owned.{OwnedState, asks, asked_within}
 use Rattle.cip_ledger.specs.Device.{Device, owned_standing}
 use Rattle.cip_ledger.specs.Reaching.{listed}
-use Rattle.cip_ledger.specs.Requests.{Command, is_barred}
+use Rattle.cip_ledger.specs.Requests.{is_barred}
+use Rattle.cip_message.specs.LedgerCommand.{Command}
 use Rattle.cip_ledger.specs.Runs.{Request, reached_by}
 use Rattle.cip_ledger.specs.Services.{Replies, Executes, Queues, Frees, KEPT_LIMIT}
 use Rattle.cip_ledger.specs.Turn.{Fate, Passed, Served, fate}

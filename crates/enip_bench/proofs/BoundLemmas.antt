@@ -7,7 +7,7 @@ use Rattle.cip_class3.specs.OriginatorRule.{MOST_UNACCEPTED, is_request, is_wait
 use Rattle.cip_class3.specs.TargetRule.{TargetStep, is_held}
 use Rattle.cip_class3.specs.declared.originator.Refused.{Refused}
 use Rattle.cip_class3.specs.declared.originator.Refused.TheVariants as refusals
-use Rattle.cip_objects.specs.Router.{IsReplyTo}
+use Rattle.cip_message.specs.Router.{IsReplyTo}
 use Rattle.enip_adapter.specs.OwnWrites.{OwnWrite}
 use Rattle.enip_bench.specs.Bound.{bound_law, abandonings, accepted_then_abandoned, refusals_law, one_more_seen, old_reply_seen, IsOneTooMany, raised_law}
 use Rattle.enip_bench.specs.Events.{Event, Submit, Reach, Back, GiveUp, delivery, with_any}

@@ -3,7 +3,7 @@ use Rattle.std.proofs.Common.{◌≡◌, ℕ, ◌-◌, ◌≤◌, Bool, true, fa
 use Rattle.std.proofs.lemmas.Option.{same_Some, slice_get-map, get_or_from_slice_get}
 use Rattle.cip_class3.specs.Item.{item}
 use Rattle.cip_ledger.specs.Device.{Device}
-use Rattle.cip_objects.specs.Router.{IsReplyTo}
+use Rattle.cip_message.specs.Router.{IsReplyTo}
 use Rattle.cip_ledger.proofs.Devices.{exec_device-begins, exec_device-within}
 use Rattle.enip_client.specs.Calls.{Lent, submits}
 use Rattle.enip_client.specs.Frames.{item_frame}

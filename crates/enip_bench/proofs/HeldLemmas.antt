@@ -6,7 +6,7 @@ use Rattle.cip_class3.specs.TargetRule.{is_held, kept_bytes}
 use Rattle.cip_class3.specs.OriginatorRule.{form_refusal, is_request}
 use Rattle.cip_class3.specs.declared.originator.Refused.{Refused}
 use Rattle.cip_class3.specs.declared.originator.Refused.TheVariants.{TooLong, NoRequest}
-use Rattle.cip_objects.specs.Router.{IsReplyTo}
+use Rattle.cip_message.specs.Router.{IsReplyTo}
 use Rattle.enip_adapter.specs.OwnWrites.{OwnWrite}
 use Rattle.enip_bench.proofs.CountLemmas.{count_of, count_of-differs}
 use Rattle.enip_bench.proofs.Image.{router_of, reply_of, held_of}

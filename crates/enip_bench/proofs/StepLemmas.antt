@@ -11,7 +11,7 @@ use Rattle.cip_class3.specs.TargetRule.{TargetState, KeptReply, TargetStep, step
 use Rattle.cip_class3.specs.declared.originator.Refused.{Refused}
 use Rattle.cip_class3.specs.declared.target.Received.TheVariants.{Repeated, Executed}
 use Rattle.cip_message.specs.Reply.{reply_service}
-use Rattle.cip_objects.specs.Router.{IsReplyTo}
+use Rattle.cip_message.specs.Router.{IsReplyTo}
 use Rattle.cip_bytes.specs.declared.protocol.TheConstants.{UNCONNECTED_LIMIT}
 use Rattle.enip_adapter.specs.OwnWrites.{OwnWrite}
 use Rattle.enip_bench.specs.Events.{Event, Submit, Resend, Reach, Back, Other, Write, Shut, GiveUp, delivery, is_unconnected_request, with_any}

@@ -5,7 +5,7 @@
 //! and repeats, other sessions' requests, writes of the device itself, closings and give-ups. So the count may wrap any
 //! number of times. A router's change by a write of the device is any function (`written`).
 
-ghost use Rattle.cip_objects.specs.Router.{RepliesWellFormed};
+ghost use Rattle.cip_message.specs.Router.{RepliesWellFormed};
 ghost use Rattle.enip_adapter.specs.OwnWrites.{OwnWrite};
 ghost use Rattle.enip_bench.specs.Bound.{bound_law, refusals_law, raised_law};
 ghost use Rattle.enip_bench.specs.FrameAsks.{asks_in_frames, calls_in_frames, first_asks_in_frames, other_asks_in_frames};

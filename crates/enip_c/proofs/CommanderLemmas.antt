@@ -5,7 +5,7 @@ use Rattle.std.proofs.lemmas.List.{length-drop}
 use Rattle.cip_bytes.specs.Numbers.{words_of}
 use Rattle.cip_message.specs.Reply.{Reply, reply_of, reply_service, reply_of_fields}
 use Rattle.cip_message.specs.declared.reply.ReplyFault.TheVariants.{NotReply, Extra}
-use Rattle.cip_ledger.specs.declared.service.TheConstants as services
+use Rattle.cip_message.specs.declared.ledger_services.TheConstants as services
 use Rattle.cip_commander.specs.CommanderRule.{CommanderState, outcome_at, outcome_of, withdrawing_at, withdrawing_of}
 use Rattle.cip_commander.specs.Withdrawing as withdrawing
 use Rattle.cip_commander.specs.Withdrawing.{Withdrawing, withdrawing_of_data, withdrawing_refused, withdrawing_of_reply, withdrawing_of_text}

@@ -1,9 +1,7 @@
 -- What is printed for C, and why.
-use Rattle.std.proofs.Common.{◌≡◌, ℕ, List, Some, inl, inr}
+use Rattle.std.proofs.Common.{◌≡◌, ℕ, List, Some, inr}
 use Rattle.enip_config.specs.Documents.{IsDescribed}
-use Rattle.config_explained.specs.Explained.{IsExplained}
 use Rattle.enip_config.specs.declared.configuration.Configuration.{Configuration}
-use Rattle.config_explained.specs.declared.explanation.Explanation.{Explanation}
 use Rattle.enip_c.specs.ExplainCalls.{IsExplainOutcome, IsPrinted, IsReason, first_queued}
 use Rattle.enip_c.specs.declared.explained.ExplainOutcome.{ExplainOutcome}
 use Rattle.enip_c.specs.declared.explained.ExplainOutcome.TheVariants.{Accepted, Written, Room, Memory}
@@ -14,11 +12,6 @@ printed text old new Accepted reason is = absurd is
 printed text old new (Written count) reason is = (reason, is)
 printed text old new Room reason is = (reason, is)
 printed text old new Memory reason is = is
-
--- a check refuses the text
-pub check_printed : (text old new : List ℕ) (outcome : ExplainOutcome) (explanation : Explanation) → IsExplained text (Some explanation)
-    → IsPrinted old new outcome → IsExplainOutcome text old new outcome
-check_printed text old new outcome explanation explained is = printed text old new outcome (inl (explanation, explained)) is
 
 -- a service of it is queued
 pub service_printed : (text old new : List ℕ) (outcome : ExplainOutcome) (c : Configuration) (service : QueuedService) → IsDescribed text c

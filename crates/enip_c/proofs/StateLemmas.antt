@@ -1,10 +1,10 @@
 -- What the calls for a state return, by what the calls below return.
-use Rattle.std.proofs.Common.{◌≡◌, ℕ, ◌++◌, ◌^◌, List, drop, length, Bool, true, false, not, nat_lt, if◌then◌else◌}
-use Rattle.std.proofs.Common.{Option, Some, None, Result, Ok, Err, refl, sym, ap, ◌∙◌}
+use Rattle.std.proofs.Common.{◌≡◌, ℕ, ◌++◌, ◌^◌, List, length, Bool, true, false, not, nat_lt, if◌then◌else◌}
+use Rattle.std.proofs.Common.{Option, Some, None, Result, Ok, Err, refl, ap, ◌∙◌}
 use Rattle.saved_state.specs.declared.fault.StateFault.{StateFault}
 use Rattle.saved_state.specs.declared.fault.WriteFault.{WriteFault}
 use Rattle.saved_state.specs.declared.fault.WriteFault.TheVariants.{Order, TooLong, Full}
-use Rattle.saved_state.specs.States.{Entry, State, size, rise_from, spelled}
+use Rattle.saved_state.specs.States.{Entry, State, size, rise_from}
 use Rattle.saved_state.specs.Writing.{entries_refusal, write_refusal}
 use Rattle.cip_ledger.specs.declared.doubt.DoubtfulCommand.{DoubtfulCommand}
 use Rattle.enip_adapter.specs.Calls.{AdapterState}
@@ -13,23 +13,6 @@ use Rattle.saved_adapter.specs.Entries.{entries_in_doubt, generation_of}
 use Rattle.enip_c.specs.declared.status.Status.TheVariants as status
 use Rattle.enip_c.specs.Buffer.{returned, status_number}
 use Rattle.enip_c.specs.StateCalls.{entries_kept, generation_by, returned_state, state_by}
-
--- no state has these entries
-pub not_saved : (entries : List Entry) (generation count : ℕ) (buffer : List ℕ) (fault : WriteFault)
-    → entries_refusal entries ≡ Some fault
-    → returned status.State count buffer ≡ returned_state entries generation count buffer
-not_saved entries generation count buffer fault e =
-    go (rise_from 0 entries) (nat_lt (size entries) (2 ^ 32)) (nat_lt (length buffer) (size entries)) e
-  where
-    go : (rises few short : Bool)
-        → (if not rises then Some Order else (if few then None else Some TooLong)) ≡ Some fault
-        → returned status.State count buffer
-        ≡ state_by
-        (if not rises then Some Order else (if not few then Some TooLong else (if short then Some Full else None)))
-        entries generation count buffer
-    go false few short e = refl
-    go true false short e = refl
-    go true true short e = absurd (cc)
 
 -- it does not fit
 pub not_written : (entries : List Entry) (generation count : ℕ) (buffer : List ℕ) (fault : WriteFault)
@@ -50,16 +33,6 @@ not_written entries generation count buffer fault can e =
     go true false short can e = absurd (cc)
     go true true true can e = refl
     go true true false can e = absurd (cc)
-
--- it is written
-pub is_written : (entries : List Entry) (generation count n : ℕ) (buffer new : List ℕ)
-    → write_refusal (length buffer) entries ≡ None → n ≡ size entries
-    → new ≡ spelled (record { generation = generation; entries = entries }) ++ drop n buffer
-    → returned status.Done (size entries) new ≡ returned_state entries generation count buffer
-is_written entries generation count n buffer new can e is =
-    ap (returned status.Done (size entries))
-    (is ∙ ap (λ k. spelled (record { generation = generation; entries = entries }) ++ drop k buffer) e)
-    ∙ ap (λ r. state_by r entries generation count buffer) (sym can)
 
 -- ---- the generation
 

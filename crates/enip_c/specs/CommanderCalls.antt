@@ -1,6 +1,6 @@
 -- What a function of a commander returns to C.
 use Rattle.std.specs.Prelude.{ℕ, List, ◌≡◌, ◌≤◌, ⊤, if◌then◌else◌, length, Bool, Option, Some, None, is_some}
-use Rattle.cip_commander.specs.Worlds.{after_command}
+use Rattle.cip_commander.specs.CommanderRule.{after_command}
 use Rattle.cip_commander.specs.CommanderRule.{CommanderState, command_refusal, with_command, message_of}
 use Rattle.cip_commander.specs.CommanderRule.{pending_message, outcome_of, after_reply, abandoned}
 use Rattle.cip_commander.specs.CommanderRule.{pending_withdrawal, withdrawing_of, after_withdrawal}

@@ -3,8 +3,8 @@ use Rattle.std.specs.Prelude.{ℕ, ◌≡◌, ◌<◌, ◌⊎◌, if◌then◌el
 use Rattle.cip_application.specs.declared.config.ObjectConfig.{ObjectConfig}
 use Rattle.cip_application.specs.declared.config.ServiceConfig.{ServiceConfig}
 use Rattle.enip_config.specs.Commands.{is_queued}
-use Rattle.enip_config.specs.Documents.{IsDescribed}
-use Rattle.config_explained.specs.Explained.{IsExplained}
+use Rattle.enip_config.specs.Documents.{IsDescribed, IsRefused}
+use Rattle.config_explained.specs.Explained.{refusal_of}
 use Rattle.enip_config.specs.declared.configuration.Configuration.{Configuration}
 use Rattle.config_explained.specs.declared.explanation.Explanation.{Explanation}
 use Rattle.enip_c.specs.Buffer.{in_buffer}
@@ -47,7 +47,7 @@ IsQueuedIn text service =
 -- What refuses the text: a check, or a queued service.
 abbrev pub IsReason : List ℕ → Type 0
 IsReason text =
-    ((explanation : Explanation) × IsExplained text (Some explanation))
+    ((explanation : Explanation) × IsRefused text (refusal_of explanation))
     ⊎ ((service : QueuedService) × IsQueuedIn text (Some service))
 
 -- The configuration is accepted and no service of it is queued, or memory ran out, or the reason was printed. Only then

@@ -2,7 +2,7 @@
 use Rattle.std.specs.Prelude.{ℕ, List, [], ◌∷◌, ◌≡◌, nat_le, nat_lt, if◌then◌else◌, Bool, ◌==◌, ◌||◌, length, Option, Some, None}
 use Rattle.std.specs.Prelude.{is_some, unwrap_or}
 use Rattle.cip_objects.specs.OwnRequests.{Asked}
-use Rattle.cip_objects.specs.Router.{REPLY_TOO_LARGE}
+use Rattle.cip_message.specs.Router.{REPLY_TOO_LARGE}
 use Rattle.cip_owner.specs.declared.owner.TheConstants.{OWNER_REPLY_LIMIT}
 use Rattle.cip_owner.specs.Replies.{Reply}
 use Rattle.enip_adapter.specs.declared.reply.TheConstants.{LONGEST_ANSWER}

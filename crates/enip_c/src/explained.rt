@@ -5,8 +5,7 @@ ghost use Rattle.enip_c.specs.ExplainCalls.{explained_count, IsPrinted, IsExplai
 
 use crate::buffer::copy_front;
 use crate::queued_service::first_queued;
-use config_explained::explain;
-use enip_config::Configuration;
+use enip_config::{Configuration, ExplainedFault};
 use std::alloc::Global;
 use std::fmt::Display;
 
@@ -49,19 +48,10 @@ pub extern "C" fn enip_core_explain(alloc: Global, text: &[u8], buffer: &mut [u8
 fn explain_to(alloc: Global, text: &[u8], buffer: &mut [u8]) -> ExplainOutcome
     ensures { IsExplainOutcome text.now buffer.old buffer.new result }
 {
-    match explain(alloc, text) {
-        Ok(None) => explain_queued(alloc, text, buffer),
-        Ok(Some(explanation)) => print_to(alloc, &explanation, buffer),
-        Err(_) => ExplainOutcome::Memory,
-    }
-}
-
-/// Writes which service of an accepted configuration is queued, if one is.
-fn explain_queued(alloc: Global, text: &[u8], buffer: &mut [u8]) -> ExplainOutcome
-    ensures { IsExplainOutcome text.now buffer.old buffer.new result }
-{
-    let Ok(configuration) = Configuration::from_bytes(alloc, text) else {
-        return ExplainOutcome::Memory;
+    let configuration = match Configuration::explained(alloc, text) {
+        Ok(configuration) => configuration,
+        Err(ExplainedFault::Refused(explanation)) => return print_to(alloc, &explanation, buffer),
+        Err(ExplainedFault::Memory) => return ExplainOutcome::Memory,
     };
     match first_queued(&configuration.objects.objects) {
         Some(service) => print_to(alloc, &service, buffer),

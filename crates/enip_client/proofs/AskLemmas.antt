@@ -48,9 +48,6 @@ mild_if : (b : Bool) (t u : TurnResult) → Mild t → Mild u → Mild (if b the
 mild_if true t u p q = p
 mild_if false t u p q = q
 
-mild_tells : (s : State) (heard_event : HeardEvent) → s.fault ≡ None → Mild (turned_to s heard_event)
-mild_tells s heard_event healthy = record { either = inl healthy }
-
 mild_faulted : (s : State) (fault : ClientFault) → Mild (faulted s fault)
 mild_faulted s fault = record { either = inr refl }
 
@@ -180,10 +177,6 @@ IsOwn ask_faults.Spent = ⊥
 abbrev OwnFault : {A : Type 0} → Result A AskFault → Type 0
 OwnFault (Ok x) = ⊤
 OwnFault (Err fault) = IsOwn fault
-
-own_if : {A : Type 0} (b : Bool) (x y : Result A AskFault) → OwnFault x → OwnFault y → OwnFault (if b then x else y)
-own_if true x y p q = p
-own_if false x y p q = q
 
 own_replied : (long connected : Bool)
     → OwnFault (if long then Err (ask_faults.Client faults.Malformed) else if connected then Ok (Some calls.Close) else Ok (Some calls.Leave))

@@ -53,10 +53,6 @@ entry_again lists.Identity bytes (An_identity i) h = ap (option_map An_identity)
 AreBytes-first : (a b : List ℕ) → AreBytes (a ++ b) → AreBytes a
 AreBytes-first a b fits = subst AreBytes (take_at a b (length a) refl) (AreBytes-take (length a) (a ++ b) fits)
 
--- one item before others
-abbrev front_sound : ListCommand → Item → List Item → Type 0
-front_sound command i more = list_all (is_sound command) (i ∷ more) ≡ true
-
 said_in : (command : ListCommand) (i : Item) (o : Option Entry) → i.kind ≡ item_kind command → entry_of command i.bytes ≡ o
     → (is_sound command i ≡ is_some o) × (entry_in command i ≡ o)
 said_in command i o same is =

@@ -156,9 +156,6 @@ close_asked_on path wants = record {
   path = path;
 }
 
-abbrev pub close_asked : Wants → Close
-close_asked wants = close_asked_on message_router wants
-
 -- Forward_Close, with the path of the opening.
 abbrev pub close_request_on : List ℕ → Wants → List ℕ
 close_request_on path wants = manager_request ForwardClose (close (close_asked_on path wants))

@@ -9,7 +9,7 @@ ghost use Rattle.enip_client.specs.AskSteps.{ask_phase_of, IsHealthy, IsPieceFed
 use crate::client::Client;
 use crate::fault::AskFault;
 use crate::step::{Asked, Step, advance, send};
-use cip_objects::ReplyBuf;
+use cip_message::ReplyBuf;
 use cip_route::Route;
 use enip_wire::{Sink, Source};
 

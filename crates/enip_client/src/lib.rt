@@ -66,4 +66,4 @@ pub use listing::ask_list;
 pub use lists::{ListCommand, ListEntries, ListEntry, read_list, write_list};
 pub use sending::{LONGEST_SENT, Sent, write_register, write_request};
 pub use service::ServiceView;
-pub use wants::Wants;
+pub use wants::{USUAL_WANTS, Wants};

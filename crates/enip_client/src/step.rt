@@ -12,7 +12,8 @@ ghost use Rattle.enip_client.specs.AskSteps.{step_in, IsAdvanced, IsHealthy, kep
 use crate::client::Client;
 use crate::fault::{AskFault, ClientFault};
 use crate::hearing::Heard;
-use cip_objects::{REPLY_LIMIT, ReplyBuf};
+use cip_bytes::protocol::REPLY_LIMIT;
+use cip_message::ReplyBuf;
 use cip_route::Route;
 use enip_wire::{Sink, write_all};
 

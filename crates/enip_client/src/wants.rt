@@ -3,17 +3,7 @@
 /// The parameters of the connection that a client opens. (Volume 1, Forward_Open.)
 ///
 /// ```
-/// Wants {
-///     originator_vendor: 66,
-///     originator_serial: 305_419_896,
-///     connection_serial: 1,
-///     t_to_o_id: 287_454_020,
-///     rpi: 2_000_000,
-///     timeout_multiplier: 0,
-///     o_to_t_size: 500,
-///     t_to_o_size: 500,
-///     first_count: 1,
-/// }
+/// let wants = Wants { connection_serial: 2, ..USUAL_WANTS };
 /// ```
 #[derive(Clone, Copy, Debug)]
 pub struct Wants {
@@ -36,3 +26,16 @@ pub struct Wants {
     /// The sequence count of the first request.
     pub first_count: u16,
 }
+
+/// The usual connection: items of 500 bytes both ways, an interval of 2 s, and a timeout of 8 s. (Volume 1, Forward_Open.)
+pub const USUAL_WANTS: Wants = Wants {
+    originator_vendor: 66,
+    originator_serial: 305_419_896,
+    connection_serial: 1,
+    t_to_o_id: 287_454_020,
+    rpi: 2_000_000,
+    timeout_multiplier: 0,
+    o_to_t_size: 500,
+    t_to_o_size: 500,
+    first_count: 1,
+};

@@ -1,21 +1,18 @@
 //! `enip`: an EtherNet/IP adapter and explicit messaging client on the command line.
 #![tactic(auto)]
 
-mod explained;
-
 use clap::ArgMatches;
 use command_line::{Page, parse, run_page};
 use described_device::{run_check, run_eds};
-use enip_cli::{OsArg, PROGRAM, os_args, reserve_streams};
+use enip_cli::PROGRAM;
 use enip_client::ListCommand;
-use enip_common::{ARGUMENTS_REFUSED, CommandError};
+use enip_common::{ARGUMENTS_REFUSED, CommandError, OsArg, os_args, reserve_streams};
 use enip_device::run_serve;
 use enip_requests::{
     Query, is_help_of_objects, run_call, run_get, run_help_of_objects, run_once_file, run_query,
     run_set, run_slots,
 };
 use enip_sessions::{run_batch, run_inspect, run_watch};
-use explained::explained;
 pub use line_commands::{answer, replay, report, show};
 use line_commands::{run_answer, run_replay, run_show};
 use std::process::ExitCode;
@@ -72,7 +69,7 @@ fn run_arguments(rt: &HostRuntime, args: &[OsArg]) -> u8 {
 fn status_of(rt: &HostRuntime, ended: Result<u8, CommandError<'_>>) -> u8 {
     match ended {
         Ok(status) => status,
-        Err(error) => explained(rt.alloc(), error).print(rt),
+        Err(error) => error.print(rt),
     }
 }
 

@@ -10,12 +10,11 @@ use Rattle.std.specs.Prelude.{IfOk}
 use Rattle.std.specs.Fmt.{decimal}
 use Rattle.std.proofs.lemmas.Fmt.{decimal_injective}
 use Rattle.cip_commander.specs.CommanderRule.{CommanderState}
-use Rattle.enip_faults.specs.declared.command_file_fault.CommandFileFault.{CommandFileFault}
 use Rattle.std.specs.Prelude.{nat_lt, not, is_some}
 use Rattle.std.specs.Prelude.{IfSome}
 use Rattle.std.proofs.lemmas.Bool.Decides.{nat_tests}
 use Rattle.std.proofs.lemmas.List.Folds.{list_any-append}
-use Rattle.enip_commands.specs.CommandFiles.{line, head_line, file_text, IsKept}
+use Rattle.enip_commands.specs.CommandFiles.{line, file_text, IsKept}
 use Rattle.enip_commands.specs.CommandRecords.{Done, is_id_byte, is_id, is_lower_digit, are_digits, is_done, has_id, AreDistinct}
 use Rattle.enip_commands.specs.CommandRecords.{done_text, dones_text, AreRead, LacksCommands, commander_lines, is_id_or_none}
 use Rattle.enip_commands.specs.CommandRecords.{pending_id_text, pending_id_line, ids_head, count_line, Record, record_text, has_ids, text_with_ids, text_of_both, IsKeptRecord, is_whole, is_new_id}
@@ -81,9 +80,6 @@ done_texts_agree a b r s of_a of_b e =
     (dones_agree a b ids requests replies, after)
 
 -- ---- different ids
-
-bytes_eq-refl : (xs : List ℕ) → bytes_eq xs xs ≡ true
-bytes_eq-refl xs = (bytes_eq-Decides xs xs).1 refl
 
 bytes_eq-sym : (xs ys : List ℕ) → bytes_eq xs ys ≡ false → bytes_eq ys xs ≡ false
 bytes_eq-sym xs ys differ = false_from_ne_true (bytes_eq ys xs) (λ same.
@@ -172,14 +168,6 @@ lacks_later old d count lines after some of_d whole lacks (m ∷ more) rest coun
     lacks more rest (omega (arith, counted)) of_more apart then
 
 -- ---- the last four lines
-
-pub lines_read : (lines text : List ℕ) (r : Result CommanderState CommandFileFault) → text ≡ head_line ++ lines
-    → IfOk r (λ c. IsKept c × (text ≡ file_text c)) → IfOk r (λ c. IsKept c × (lines ≡ commander_lines c))
-lines_read lines text (Ok c) e is = (is.0, append_cancel_left head_line lines (commander_lines c) (sym e ∙ is.1))
-lines_read lines text (Err fault) e is = tt
-
-pub lines_of_text : (lines text : List ℕ) (c : CommanderState) → text ≡ head_line ++ lines → lines ≡ commander_lines c → text ≡ file_text c
-lines_of_text lines text c e f = e ∙ ap (λ (xs : List ℕ). head_line ++ xs) f
 
 -- ---- the id of the pending command
 

@@ -1,8 +1,8 @@
 -- The values of fields as JSON, field by field.
-use Rattle.std.proofs.Common.{◌≡◌, ℕ, ◌+◌, ◌<◌, ◌≤◌, Bool, true, false, List, [], ◌∷◌, ◌++◌, length, map, take, drop, get_or, Option, Some, None, Result, Ok, Err, Ordering, Less, Equal, Greater, refl, sym, ap, subst, ◌∙◌, append-nil, append_assoc, arith, suc, String, Global, string_bytes}
+use Rattle.std.proofs.Common.{◌≡◌, ℕ, ◌+◌, ◌<◌, ◌≤◌, Bool, true, false, List, [], ◌∷◌, ◌++◌, length, map, take, drop, get_or, Option, Some, None, Result, Ok, Err, Ordering, Less, Equal, Greater, sym, ap, subst, ◌∙◌, append_assoc, arith, suc, String, Global, string_bytes}
 use Rattle.std.specs.Prelude.{OnOk, IfOk, MatchBool}
 use Rattle.std.specs.Ordering.{match_ordering}
-use Rattle.std.proofs.lemmas.List.{drop_more, drop_all, take-map, drop-map}
+use Rattle.std.proofs.lemmas.List.{drop_more, take-map, drop-map}
 use Rattle.json.specs.Lex.{tokens}
 use Rattle.json.specs.Print.{print}
 use Rattle.serde_json.specs.Read.{read, max_depth}
@@ -26,11 +26,6 @@ left_is fields index field inside is =
     drop_more fields index field inside ∙ ap (λ (f : Field). f ∷ drop (index + 1) fields) (sym is)
 
 -- ---- members
-
-pub no_more_members : (fields : List Field) (index : ℕ) (values : List Value) (members : Members) → length fields ≡ index
-    → AreMembersOf (drop index fields) values members members
-no_more_members fields index values members all =
-    subst (λ (fs : List Field). AreMembersOf fs values members members) (sym (drop_all index fields (omega (arith, all)))) refl
 
 one_more_member : (fields : List Field) (index : ℕ) (field : Field) (values : List Value) (before mid after : Members)
     → index < length fields → field ≡ get_or fields index field → AddsMember field (take (count_of field) values) before mid
@@ -67,12 +62,6 @@ more_members (Ok done) fields index field values mine rest before mid after insi
 more_members (Err why) fields index field values mine rest before mid after inside is split one h = h
 
 -- ---- items
-
-pub no_more_items : (fields : List Field) (index : ℕ) (values : List Value) (items : List Json) → length fields ≡ index
-    → AddsItems (drop index fields) values items items
-no_more_items fields index values items all =
-    subst (λ (fs : List Field). AddsItems fs values items items) (sym (drop_all index fields (omega (arith, all))))
-    (record { added = []; items = tt; appended = sym (append-nil items) })
 
 one_more_item : (fields : List Field) (index : ℕ) (field : Field) (values : List Value) (json : Json) (old mid new : List Json)
     → index < length fields → field ≡ get_or fields index field → IsFieldJson field.count (take (count_of field) values) (view json)

@@ -14,13 +14,13 @@ use Rattle.enip_commands.specs.declared.asking.DeviceRequest.{DeviceRequest}
 use Rattle.enip_client.specs.declared.wants.Wants.{Wants}
 use Rattle.enip_commands.specs.declared.asking.ReplyOutcome.{ReplyOutcome}
 use Rattle.enip_commands.specs.declared.asking.ReplyOutcome.TheVariants.{Done, Refused}
-use Rattle.enip_faults.specs.declared.request_failure.RequestFailure.{RequestFailure}
-use Rattle.enip_faults.specs.declared.request_failure.RequestFailure.TheVariants.{Hex, Session, Client}
-use Rattle.enip_faults.specs.declared.request_failure.RequestFailure.TheVariants.{Shape, Fields, Program}
+use Rattle.enip_commands.specs.declared.request_failure.RequestFailure.{RequestFailure}
+use Rattle.enip_commands.specs.declared.request_failure.RequestFailure.TheVariants.{Hex, Session, Client}
+use Rattle.enip_commands.specs.declared.request_failure.RequestFailure.TheVariants.{Shape, Fields, Program}
 use Rattle.enip_faults.specs.declared.fault.ProgramFault.TheVariants.{Memory}
 use Rattle.enip_commands.specs.declared.style.Style.{Style}
 use Rattle.enip_lines.specs.Digits.{bytes_spelled}
-use Rattle.enip_faults.specs.Failures.{stop_of}
+use Rattle.enip_commands.specs.Failures.{stop_of}
 use Rattle.enip_faults.specs.Statuses.{IsOfDevices}
 use Rattle.enip_commands.specs.Styles.{IsUnprinted}
 
@@ -55,11 +55,6 @@ IsExchangedOver wants route request connected old new result =
     ⊎ ((asked : Result (Unit {0}) AskFault) × ((left : ClientState)
     × (IsAskedOver route request connected (old (new_client wants)) (new left) asked
     × (result ≡ exchange_result asked (is_registered left.state.registration)))))
-
--- The same without a route.
-abbrev pub IsExchanged : Wants → List ℕ → Bool → (ClientState → Ends) → (ClientState → Ends)
-    → Result (Unit {0}) RequestFailure → Type 0
-IsExchanged wants request connected old new result = IsExchangedOver wants [] request connected old new result
 
 -- The exchange failed, or a device or memory did.
 abbrev pub IsOfExchange : RequestFailure → Type 0

@@ -11,8 +11,8 @@ use Rattle.enip_commands.specs.declared.command_record.CommandRecord.{CommandRec
 use Rattle.enip_commands.specs.declared.command_record.DoneCommand.{DoneCommand}
 use Rattle.enip_commands.specs.declared.command_record.plan.IdPlan.{IdPlan}
 use Rattle.enip_commands.specs.declared.command_record.plan.IdPlan.TheVariants.{Executed, Send, SettleFirst}
-use Rattle.enip_faults.specs.declared.once_refusal.OnceRefusal.{OnceRefusal}
-use Rattle.enip_faults.specs.declared.once_refusal.OnceRefusal.TheVariants as refusals
+use Rattle.enip_commands.specs.declared.once_refusal.OnceRefusal.{OnceRefusal}
+use Rattle.enip_commands.specs.declared.once_refusal.OnceRefusal.TheVariants as refusals
 
 -- ---- what a file has
 

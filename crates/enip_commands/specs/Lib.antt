@@ -1,3 +1,4 @@
+pub mod Failures
 pub mod Statuses
 pub mod Asking
 pub mod Listing

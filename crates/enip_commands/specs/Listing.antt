@@ -17,9 +17,9 @@ use Rattle.enip_client.specs.declared.lists.ListCommand.{ListCommand}
 use Rattle.enip_client.specs.declared.lists.ListCommand.TheVariants as lists
 use Rattle.enip_lines.specs.Lines.{with_newline}
 use Rattle.enip_faults.specs.Statuses.{IsOfDevices}
-use Rattle.enip_faults.specs.declared.request_failure.RequestFailure.{RequestFailure}
-use Rattle.enip_faults.specs.declared.request_failure.RequestFailure.TheVariants.{Hex, Session, Client}
-use Rattle.enip_faults.specs.declared.request_failure.RequestFailure.TheVariants.{Shape, Fields, Program}
+use Rattle.enip_commands.specs.declared.request_failure.RequestFailure.{RequestFailure}
+use Rattle.enip_commands.specs.declared.request_failure.RequestFailure.TheVariants.{Hex, Session, Client}
+use Rattle.enip_commands.specs.declared.request_failure.RequestFailure.TheVariants.{Shape, Fields, Program}
 
 -- Numbers of two and of four bytes, in hexadecimal.
 abbrev pub hex_word : ℕ → List ℕ

@@ -14,8 +14,8 @@ use Rattle.enip_commands.specs.declared.once.PendingChoice.{PendingChoice}
 use Rattle.enip_commands.specs.declared.once.PendingChoice.TheVariants.{Same, Send, Abandon}
 use Rattle.enip_commands.specs.declared.once.OncePlan.{OncePlan}
 use Rattle.enip_commands.specs.declared.once.OncePlan.TheVariants.{Resend, Submit}
-use Rattle.enip_faults.specs.declared.once_refusal.OnceRefusal.{OnceRefusal}
-use Rattle.enip_faults.specs.declared.once_refusal.OnceRefusal.TheVariants as refusals
+use Rattle.enip_commands.specs.declared.once_refusal.OnceRefusal.{OnceRefusal}
+use Rattle.enip_commands.specs.declared.once_refusal.OnceRefusal.TheVariants as refusals
 
 -- ---- the life of a ledger
 

@@ -15,9 +15,9 @@ use Rattle.enip_client.specs.declared.fault.ClientFault.{ClientFault}
 use Rattle.enip_client.specs.declared.fault.ClientFault.TheVariants as client
 use Rattle.enip_client.specs.declared.state.State.{State}
 use Rattle.enip_client.specs.declared.wants.Wants.{Wants}
-use Rattle.enip_faults.specs.Failures.{stop_of}
-use Rattle.enip_faults.specs.declared.request_failure.RequestFailure.{RequestFailure}
-use Rattle.enip_faults.specs.declared.request_failure.RequestFailure.TheVariants.{Session, Program}
+use Rattle.enip_commands.specs.Failures.{stop_of}
+use Rattle.enip_commands.specs.declared.request_failure.RequestFailure.{RequestFailure}
+use Rattle.enip_commands.specs.declared.request_failure.RequestFailure.TheVariants.{Session, Program}
 use Rattle.enip_faults.specs.declared.fault.ProgramFault.TheVariants.{Memory}
 use Rattle.enip_commands.specs.declared.session.DeviceSession.{DeviceSession}
 use Rattle.enip_commands.specs.declared.turns.Turn.{Turn}
@@ -294,11 +294,6 @@ IsSessionBegunOver wants route connected old new (Err failure) =
     IsWithoutSession wants old new failure
     ⊎ ((left : ClientState) × ((kept : List ℕ)
     × IsBegun route connected (old (new_client wants) []) (new left kept) (Err failure)))
-
--- The same without a route.
-abbrev pub IsSessionBegun : Wants → Bool → (ClientState → List ℕ → SessionEnds) → (ClientState → List ℕ → SessionEnds)
-    → Result DeviceSession RequestFailure → Type 0
-IsSessionBegun wants connected old new result = IsSessionBegunOver wants [] connected old new result
 
 -- A request was asked, by this relation of the ends before and after, and what is lent is the reply that is kept, as it is
 -- after some state of the client.

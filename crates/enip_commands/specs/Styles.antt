@@ -13,9 +13,9 @@ use Rattle.cip_values.specs.Parsing.{AreWritten}
 use Rattle.cip_values.specs.declared.element.ValueType.{ValueType}
 use Rattle.cip_values.specs.declared.fault.ValueFault.TheVariants as faults
 use Rattle.enip_faults.specs.Statuses.{IsOfDevices}
-use Rattle.enip_faults.specs.declared.request_failure.RequestFailure.{RequestFailure}
-use Rattle.enip_faults.specs.declared.request_failure.RequestFailure.TheVariants.{Hex, Session, Client}
-use Rattle.enip_faults.specs.declared.request_failure.RequestFailure.TheVariants.{Shape, Fields, Program}
+use Rattle.enip_commands.specs.declared.request_failure.RequestFailure.{RequestFailure}
+use Rattle.enip_commands.specs.declared.request_failure.RequestFailure.TheVariants.{Hex, Session, Client}
+use Rattle.enip_commands.specs.declared.request_failure.RequestFailure.TheVariants.{Shape, Fields, Program}
 use Rattle.enip_commands.specs.declared.style.Style.{Style}
 use Rattle.enip_commands.specs.declared.typed.LayoutRequest.{LayoutRequest}
 use Rattle.enip_commands.specs.declared.typed.TypedRequest.{TypedRequest}

@@ -7,38 +7,25 @@ ghost use Rattle.cip_message.specs.PathWriting.{short};
 ghost use Rattle.cip_message.specs.Request.{request};
 ghost use Rattle.enip_client.specs.Asking.{ends};
 ghost use Rattle.enip_commands.specs.Asking.{IsRequested, IsReplyPrinted, IsNotPrinted, IsOfExchange};
-ghost use Rattle.enip_commands.specs.Asking.{IsExchanged, IsExchangedOver, IsNotMade, exchange_result};
-ghost use Rattle.enip_commands.specs.Statuses.{asking_status, replied_status};
+ghost use Rattle.enip_commands.specs.Asking.{IsExchangedOver, IsNotMade, exchange_result};
+ghost use Rattle.enip_commands.specs.Statuses.{replied_status};
 ghost use Rattle.enip_commands.specs.Json.{resumed_text};
-ghost use Rattle.enip_faults.specs.Failures.{IsOfDevice};
+ghost use Rattle.enip_commands.specs.Failures.{IsOfDevice};
 ghost use Rattle.enip_faults.specs.Statuses.{IsOfDevices};
 
 use crate::hexadecimal::is_hexadecimal;
 use crate::json_text::{refusal_line, resumed_line};
+use crate::request_failure::RequestFailure;
 use crate::style::{Style, data_object, print_data};
 use arrayvec::ArrayVec;
-use cip_message::{Path, ReplyView, write_path};
-use cip_objects::ReplyBuf;
+use cip_message::{Path, ReplyBuf, ReplyView, write_path};
 use cip_route::Route;
-use enip_client::{AskFault, Client, ClientFault, Wants};
-use enip_faults::{ProgramFault, RequestFailure};
+use enip_client::{AskFault, Client, ClientFault, USUAL_WANTS, Wants};
+use enip_faults::ProgramFault;
 use enip_lines::decode;
 use enip_wire::{Sink, Source};
 use std::alloc::{AllocError, Global};
 use std::io::{BufWriter, Write};
-
-/// The connection that the commands open. (Volume 1, Forward_Open.)
-pub const WANTS: Wants = Wants {
-    originator_vendor: 66,
-    originator_serial: 305_419_896,
-    connection_serial: 1,
-    t_to_o_id: 287_454_020,
-    rpi: 2_000_000,
-    timeout_multiplier: 0,
-    o_to_t_size: 500,
-    t_to_o_size: 500,
-    first_count: 1,
-};
 
 /// The longest path in bytes: class 4, instance 6, attribute 4 and member 4. (Volume 1, logical segments.)
 const LONGEST_PATH: usize = 18;
@@ -128,71 +115,16 @@ impl ReplyOutcome {
     }
 }
 
-/// Sends one request over a reader and a writer, and prints the reply on `output` in a style: its data, or `refused
-/// 0xGG`, with ` 0xEEEE` if the first additional word is not 0. If `connected` is set, the request is sent on a
-/// connection, which is opened before and closed afterwards.
+/// Sends one request over a reader and a writer with a new client that wants this connection, to a device at the end of a
+/// route, and leaves the router's reply in `reply`. If `connected` is set, the request is sent on a connection, which is opened
+/// before and closed afterwards. The session is the first router's.
 ///
 /// # Errors
 ///
-/// `Session` if the device refuses the session. `Client` with `Request` if the request cannot be sent on the
-/// connection, with `Malformed` if the reply is malformed, or with another fault of the client. `Shape` if the data
-/// of the reply are not values of the style's type. `Program` if the reader, the writer or the output failed, the
-/// input ended, or memory was refused.
-pub fn ask_over<R: Source, W: Sink, O: Write + Drop>(
-    alloc: Global,
-    reader: &mut R,
-    writer: &mut W,
-    request: &[u8],
-    connected: bool,
-    style: Style,
-    output: O,
-) -> Result<ReplyOutcome, RequestFailure>
-    requires reads { R.failures reader.old < u64.MAX }
-    requires writes { W.failures writer.old < u64.MAX }
-    ensures { IfErr result IsOfExchange }
-{
-    let mut output = BufWriter::new(alloc, output)?;
-    let mut reply = ReplyBuf::new();
-    let asked = exchange_over(alloc, reader, writer, request, connected, &mut reply);
-    print_asked(alloc, &mut output, style, asked, reply.as_slice())
-}
-
-/// Sends one request over a reader and a writer with a new client, and leaves the router's reply in `reply`. If
-/// `connected` is set, the request is sent on a connection, which is opened before and closed afterwards.
-///
-/// # Errors
-///
-/// `Session` if the device refuses the session. `Client` with `Refused` if the connection was not opened or not closed,
-/// with `Request` if the request cannot be sent on it, with `Malformed` if the reply is malformed, or with another
-/// fault of the client. `Program` if the reader or the writer failed, the input ended, or memory was refused. If memory
-/// was refused, nothing was read or written.
-pub fn exchange_over<R: Source, W: Sink>(
-    alloc: Global,
-    reader: &mut R,
-    writer: &mut W,
-    request: &[u8],
-    connected: bool,
-    reply: &mut ReplyBuf,
-) -> Result<(), RequestFailure>
-    requires reads { R.failures reader.old < u64.MAX }
-    requires writes { W.failures writer.old < u64.MAX }
-    ensures exchanged { IsExchanged WANTS request.now connected
-        (λ client. ends client (R.left reader.old) (R.reads reader.old) (W.written writer.old) reply.old.items)
-        (λ client. ends client (R.left reader.new) (R.reads reader.new) (W.written writer.new) reply.new.items) result }
-    ensures failed { IfErr result IsOfExchange }
-{
-    let route = Route::new();
-    exchange_with(
-        alloc, &WANTS, reader, writer, &route, request, connected, reply,
-    )
-}
-
-/// As [`exchange_over`], with a client that wants this connection, to a device at the end of a route. The session is the
-/// first router's.
-///
-/// # Errors
-///
-/// Those of [`exchange_over`]. It is `Client` with `Refused` as well if a router did not pass the request on.
+/// `Session` if the device refuses the session. `Client` with `Refused` if the connection was not opened or not closed, or if a
+/// router did not pass the request on, with `Request` if the request cannot be sent on it, with `Malformed` if the reply is
+/// malformed, or with another fault of the client. `Program` if the reader or the writer failed, the input ended, or memory was
+/// refused. If memory was refused, nothing was read or written.
 pub fn exchange_with<R: Source, W: Sink>(
     alloc: Global,
     wants: &Wants,
@@ -244,29 +176,7 @@ fn session_refusal(asked: Result<(), AskFault>, is_registered: bool) -> Result<(
     }
 }
 
-/// Prints the reply, or why a connection was not opened or not closed.
-fn print_asked<O: Write>(
-    alloc: Global,
-    output: &mut O,
-    style: Style,
-    asked: Result<(), RequestFailure>,
-    reply: &[u8],
-) -> Result<ReplyOutcome, RequestFailure>
-    requires { IfErr asked IsOfExchange }
-    ensures { IfErr result IsOfExchange }
-{
-    let replied = match asked {
-        Ok(()) => print_reply(alloc, output, style, reply)?,
-        Err(RequestFailure::Client(ClientFault::Refused(status, extended))) => {
-            print_refusal(alloc, output, style, status, extended)?
-        }
-        Err(stop) => return Err(stop),
-    };
-    output.flush()?;
-    Ok(replied)
-}
-
-/// Prints a reply on `output` in a style, as `ask_over` does.
+/// Prints a reply on `output` in a style: its data, or `refused 0xGG`, with ` 0xEEEE` if the first additional word is not 0.
 ///
 /// # Errors
 ///
@@ -332,7 +242,7 @@ fn print_resumed<O: Write>(
     Ok(())
 }
 
-/// Prints a refusal of the connection on `output` in a style, as `ask_over` does.
+/// Prints a refusal of the connection on `output` in a style, as that of a request.
 ///
 /// # Errors
 ///
@@ -455,21 +365,4 @@ fn print_refused<O: Write>(
     }
     output.write_all(b"\n")?;
     Ok(ReplyOutcome::Refused(status, extended))
-}
-
-/// The exit status of the program. If no reply was printed, also prints the reason on `errors`.
-pub fn report_outcome<E: Write + Drop>(
-    rendered: Result<ReplyOutcome, RequestFailure>,
-    errors: E,
-) -> u8
-    ensures { result ≡ asking_status rendered }
-{
-    let mut errors = errors;
-    match rendered {
-        Ok(replied) => replied.exit_status(),
-        Err(stop) => {
-            let _ = writeln!(errors, "{stop}");
-            stop.exit_status()
-        }
-    }
 }

@@ -1,11 +1,9 @@
 //! The commands of the program `enip`: each reads its input from any reader, and prints to any writer.
 //!
 //! - [`show_frames`] prints the fields of frames, one frame per line of input.
-//! - [`ask_over`] sends one request and prints the reply. A [`DeviceRequest`], a [`TypedRequest`] or a
-//!   [`LayoutRequest`] makes the request, and [`report_outcome`] gives the exit status. [`DeviceSession`], [`Readings`] and [`print_reading`] are
-//!   for repeated reads.
-//! - [`exchange_over`] and [`show_reply`] are the two halves of `ask_over`, for commands that are executed once:
-//!   [`read_commander`] and [`write_commander`] keep a commander in a file, [`read_life`] and [`begin_once`] say what is
+//! - A [`DeviceRequest`], a [`TypedRequest`] or a [`LayoutRequest`] makes a request, [`exchange_with`] sends it, and
+//!   [`show_reply`] prints the reply. [`DeviceSession`], [`Readings`] and [`print_reading`] are for repeated reads.
+//! - For commands that are executed once, [`read_commander`] and [`write_commander`] keep a commander in a file, [`read_life`] and [`begin_once`] say what is
 //!   sent, a [`LedgerRefusal`] what a refusal means, and a [`WithdrawalRefusal`] what one of Withdraw means. With ids it is
 //!   a [`CommandRecord`], which [`read_record`] and [`record_text`] keep in the file, and [`plan_id`] says what is sent.
 //! - [`list_over`] and [`objects_over`] ask a device for its identity or its services. [`print_devices`] and
@@ -16,8 +14,8 @@
 //!
 //! A command over lines is built from what `enip_lines` has for them.
 //!
-//! A [`ProgramFault`] or a [`RequestFailure`] of `enip_faults` says why a command ended early. Its text is the line for
-//! standard error.
+//! A [`ProgramFault`] of `enip_faults` or a [`RequestFailure`] says why a command ended early, and an [`OnceRefusal`] why a
+//! command that is executed once is not sent. The text of each is the line for standard error.
 //!
 //! This crate opens no file and no socket, and it knows neither the command line nor the configuration file.
 #![tactic(auto)]
@@ -34,7 +32,9 @@ mod list_objects;
 mod listing;
 mod network;
 mod once;
+mod once_refusal;
 mod reading;
+mod request_failure;
 mod session;
 mod showing;
 mod style;
@@ -42,8 +42,7 @@ mod turns;
 mod typed;
 
 pub use asking::{
-    DeviceRequest, ReplyOutcome, WANTS, ask_over, exchange_over, exchange_with, report_outcome,
-    show_refusal, show_reply, show_resumed,
+    DeviceRequest, ReplyOutcome, exchange_with, show_refusal, show_reply, show_resumed,
 };
 pub use command_file::{CommandFile, read_commander, write_commander};
 pub use command_record::{
@@ -52,8 +51,8 @@ pub use command_record::{
 };
 pub use discovering::{DiscoveryAnswer, Remarks, print_answer, print_answer_object};
 pub use enip_faults::{
-    CommandFileFault, Digits, LedgerRefusal, LineFault, OnceRefusal, ProgramFault, RecordFault,
-    RequestFailure, WithdrawalRefusal,
+    CommandFileFault, Digits, LedgerRefusal, LineFault, ProgramFault, RecordFault,
+    WithdrawalRefusal,
 };
 pub use interface::{InterfaceConfiguration, interface_object};
 pub use list_objects::{objects_over, print_device_objects};
@@ -63,7 +62,9 @@ pub use network::{
     name_object, padded_name,
 };
 pub use once::{LIFE_REQUEST, LifeFault, PendingChoice, begin_once, check_once, read_life};
+pub use once_refusal::OnceRefusal;
 pub use reading::{Readings, print_reading};
+pub use request_failure::RequestFailure;
 pub use session::{DeviceSession, LONG_LIVED};
 pub use showing::show_frames;
 pub use style::{DIGITS, Style};

@@ -9,8 +9,9 @@ ghost use Rattle.enip_commands.specs.Listing.{IsListAsked};
 ghost use Rattle.enip_faults.specs.Statuses.{IsOfDevices};
 
 use crate::json_text::{identity_line, service_line};
+use crate::request_failure::RequestFailure;
 use enip_client::{ListCommand, ListEntries, ListEntry, ask_list, read_list};
-use enip_faults::{ProgramFault, RequestFailure};
+use enip_faults::ProgramFault;
 use enip_wire::{FrameReader, Sink, Source};
 use std::alloc::Global;
 use std::io::{BufWriter, Write};

@@ -7,10 +7,11 @@ ghost use Rattle.enip_client.specs.Lists.{entries_left, entry_shown};
 ghost use Rattle.enip_commands.specs.Listing.{IsListAsked, IsListPrinted, list_text, device_line, datagram_text};
 ghost use Rattle.enip_faults.specs.Statuses.{IsOfDevices};
 
+use crate::request_failure::RequestFailure;
 use enip_client::{
     IdentityView, ListCommand, ListEntries, ListEntry, ServiceView, ask_list, read_list,
 };
-use enip_faults::{Digits, ProgramFault, RequestFailure};
+use enip_faults::{Digits, ProgramFault};
 use enip_wire::{FrameReader, Sink, Source};
 use std::alloc::Global;
 use std::io::{BufWriter, Write};

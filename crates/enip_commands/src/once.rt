@@ -6,9 +6,9 @@ ghost use Rattle.cip_commander.specs.CommanderRule.{CommanderState};
 ghost use Rattle.cip_message.specs.Reply.{reply_of};
 ghost use Rattle.enip_commands.specs.Once.{life_of, plan_of, submitted, begun, checked};
 
+use crate::once_refusal::OnceRefusal;
 use cip_commander::Commander;
 use cip_message::{ReplyView, reply_service};
-use enip_faults::OnceRefusal;
 use thiserror::Error;
 
 /// Get_Attribute_Single. (Volume 1, common services.)

@@ -5,8 +5,9 @@ ghost use Rattle.enip_commands.specs.Asking.{IsReplyPrinted, IsNotPrinted};
 
 use crate::asking::{ReplyOutcome, print_reply, reply_object};
 use crate::json_text::timed_line;
+use crate::request_failure::RequestFailure;
 use crate::style::Style;
-use enip_faults::{ProgramFault, RequestFailure};
+use enip_faults::ProgramFault;
 use std::alloc::{AllocError, Global};
 use std::io::{BufWriter, Write};
 use std::marker::Model;

@@ -4,16 +4,15 @@ ghost use Rattle.std.specs.Prelude.{◌≡◌, ◌≤◌, IfErr};
 ghost use Rattle.cip_bytes.specs.Reading.{map_ok};
 ghost use Rattle.cip_bytes.specs.declared.protocol.TheConstants.{LARGEST_CONNECTION_SIZE};
 ghost use Rattle.enip_commands.specs.Asking.{IsOfExchange};
-ghost use Rattle.enip_commands.specs.Sessions.{session_ends, begin_failure, IsBegun, IsSessionBegun, IsAskedInSession, IsReplyLent, IsClosedIf, IsEnded};
+ghost use Rattle.enip_commands.specs.Sessions.{session_ends, begin_failure, IsBegun, IsAskedInSession, IsReplyLent, IsClosedIf, IsEnded};
 ghost use Rattle.enip_commands.specs.Sessions.{IsSessionBegunOver};
 ghost use Rattle.enip_commands.specs.Sessions.{IsAskedAgain, IsReplyLentAgain};
 
-use crate::asking::WANTS;
+use crate::request_failure::RequestFailure;
 use crate::turns::{ask_again, ask_once, close, open, register, unregister};
-use cip_objects::ReplyBuf;
+use cip_message::ReplyBuf;
 use cip_route::Route;
-use enip_client::{AskFault, Client, ClientFault, Wants};
-use enip_faults::RequestFailure;
+use enip_client::{AskFault, Client, ClientFault, USUAL_WANTS, Wants};
 use enip_wire::{Sink, Source};
 use std::alloc::Global;
 
@@ -21,7 +20,7 @@ use std::alloc::Global;
 /// (Volume 1, connection timeout multiplier.)
 pub const LONG_LIVED: Wants = Wants {
     timeout_multiplier: 7,
-    ..WANTS
+    ..USUAL_WANTS
 };
 
 /// A session with a device, and its connection if it has one.
@@ -45,35 +44,14 @@ impl Drop for DeviceSession {
 }
 
 impl DeviceSession {
-    /// Registers a session over a reader and a writer. If `connected` is set, also opens a connection.
+    /// Registers a session over a reader and a writer, with a client that wants this connection. If `connected` is set, also
+    /// opens a connection. The session is with the first router of a route, and the connection is opened over the route.
     ///
     /// # Errors
     ///
     /// `Session` if the device refuses the session. `Client` with `Refused` if it refuses the connection, or with
     /// another fault of the client. `Program` if the reader or the writer failed, the input ended, or memory was
     /// refused.
-    pub fn begin<R: Source, W: Sink>(
-        alloc: Global,
-        reader: &mut R,
-        writer: &mut W,
-        connected: bool,
-    ) -> Result<DeviceSession, RequestFailure>
-        ensures begun { IsSessionBegun LONG_LIVED connected
-            (λ client reply. session_ends client (R.left reader.old) (R.reads reader.old) (R.failures reader.old)
-            (W.written writer.old) (W.failures writer.old) reply)
-            (λ client reply. session_ends client (R.left reader.new) (R.reads reader.new) (R.failures reader.new)
-            (W.written writer.new) (W.failures writer.new) reply) result }
-        ensures failed { IfErr result IsOfExchange }
-    {
-        DeviceSession::begin_with(alloc, &LONG_LIVED, reader, writer, Route::new(), connected)
-    }
-
-    /// As [`DeviceSession::begin`], with a client that wants this connection. The session is with the first router of a
-    /// route, and the connection is opened over the route.
-    ///
-    /// # Errors
-    ///
-    /// Those of [`DeviceSession::begin`].
     pub fn begin_with<R: Source, W: Sink>(
         alloc: Global,
         wants: &Wants,

@@ -8,9 +8,10 @@ ghost use Rattle.enip_faults.specs.Statuses.{IsOfDevices};
 
 use crate::digits::print_digits;
 use crate::json_text::{data_line, fields_line, values_line};
+use crate::request_failure::RequestFailure;
 use cip_layouts::{Field, FieldsFault, FieldsText, ValueShape, read_fields};
 use cip_values::{Value, ValueFault, ValueType, ValuesText, read_values};
-use enip_faults::{ProgramFault, RequestFailure};
+use enip_faults::ProgramFault;
 use std::alloc::Global;
 use std::io::Write;
 

@@ -8,7 +8,8 @@ ghost use Rattle.enip_client.specs.Client.{heard_event_in};
 ghost use Rattle.enip_commands.specs.Sessions.{SessionEnds, session_ends, is_answer, fault_heard, kept_after, lent_again};
 ghost use Rattle.enip_commands.specs.Sessions.{IsSent, IsAwaited, IsTurn, IsReadBy, IsHeard, IsFaultHeard, IsWrittenBy};
 
-use cip_objects::{REPLY_LIMIT, ReplyBuf};
+use cip_bytes::protocol::REPLY_LIMIT;
+use cip_message::ReplyBuf;
 use cip_route::Route;
 use enip_client::{AskFault, Client, ClientFault, Heard};
 use enip_wire::{Sink, Source, write_all};

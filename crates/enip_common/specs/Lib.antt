@@ -1,3 +1,2 @@
-pub mod Owner
-pub mod Reasons
+pub mod OwnerNeeds
 pub mod Statuses

@@ -2,12 +2,12 @@
 
 ghost use Rattle.std.specs.Prelude.{◌≡◌};
 
+use crate::seconds::microseconds_of;
 use cip_layouts::{Layout, LayoutFault, ValueShape};
 use cip_names::Name;
 use cip_route::RouteFault;
 use cip_values::ValueType;
 use enip_access::parse_address;
-use enip_cli::microseconds_of;
 use std::fmt;
 use std::net::IpAddr;
 use std::time::Duration;

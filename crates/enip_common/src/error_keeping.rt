@@ -3,7 +3,7 @@
 ghost use Rattle.std.specs.Prelude.{◌≡◌, None};
 
 use crate::reason::{Reason, SystemError};
-use crate::retry::read_some;
+use retried_io::read_some;
 use std::io::{self, Read, Write};
 
 /// A stream and its last error.

@@ -1,10 +1,10 @@
 //! The faults of the program's commands, with their texts and exit statuses.
 
 ghost use Rattle.std.specs.Prelude.{◌≡◌};
-ghost use Rattle.enip_common.specs.Statuses.{exit_status, is_of_device, is_device_request, is_device};
+ghost use Rattle.enip_common.specs.Statuses.{exit_status, is_of_device, is_device};
 
 use config_refusal::{ConfigurationRefusal, LoadFault};
-use enip_faults::{OnceRefusal, ReplayFailure, RequestFailure};
+use enip_faults::ReplayFailure;
 use std::alloc::AllocError;
 use std::io;
 use thiserror::Error;
@@ -24,9 +24,21 @@ pub enum Fault {
     /// An argument is not a value of the requested type.
     #[error("value")]
     Value,
-    /// A command that is executed once is not sent.
-    #[error("{0}")]
-    Once(OnceRefusal),
+    /// The data of a request are not hexadecimal.
+    #[error("hex")]
+    Hex,
+    /// A command that is executed once is not sent: another one is pending, or none is.
+    #[error("pending")]
+    Pending,
+    /// A command that is executed once is not sent: it is for another life of the device.
+    #[error("life")]
+    OtherLife,
+    /// A command that is executed once is not sent: the one with its id has another request.
+    #[error("id")]
+    OtherRequest,
+    /// A command that is executed once is not sent: it was withdrawn.
+    #[error("withdrawn")]
+    Withdrawn,
     /// A command with an id is pending in its file, and this run has no reply to it.
     #[error("unsettled")]
     Unsettled,
@@ -42,9 +54,15 @@ pub enum Fault {
     /// A line of a command file is refused: its number, from 1.
     #[error("line {0}")]
     CommandFile(u64),
-    /// A client's request got no reply.
-    #[error("{0}")]
-    Request(RequestFailure),
+    /// The device refused the session of a client.
+    #[error("fault 2")]
+    Session,
+    /// The device, or a router on the route to it, refused a connection or a command of a client.
+    #[error("fault 3")]
+    Refusal,
+    /// A client met another fault, with this number.
+    #[error("fault {0}")]
+    Client(u8),
 }
 
 impl Fault {
@@ -53,8 +71,8 @@ impl Fault {
         ensures { result ≡ exit_status self }
     {
         match self {
-            Fault::Value => 2,
-            Fault::Once(refusal) => refusal.exit_status(),
+            Fault::Value | Fault::Hex => 2,
+            Fault::Pending | Fault::OtherLife | Fault::OtherRequest => 2,
             Fault::Configuration(_) | Fault::State => 3,
             Fault::Setup => ReplayFailure::Setup.exit_status(),
             Fault::CommandFile(_) => 4,
@@ -62,7 +80,7 @@ impl Fault {
             Fault::Unsettled => 8,
             Fault::Blocked => 9,
             Fault::Run(fault) => fault.exit_status(),
-            Fault::Request(failure) => failure.exit_status(),
+            Fault::Withdrawn | Fault::Session | Fault::Refusal | Fault::Client(_) => 7,
         }
     }
 }
@@ -74,31 +92,23 @@ impl Fault {
     {
         match self {
             Fault::Run(fault) => is_device(fault),
-            Fault::Request(failure) => is_device_request(failure),
             Fault::Configuration(_)
             | Fault::Setup
             | Fault::Value
-            | Fault::Once(_)
+            | Fault::Hex
+            | Fault::Pending
+            | Fault::OtherLife
+            | Fault::OtherRequest
+            | Fault::Withdrawn
             | Fault::Unsettled
             | Fault::Blocked
             | Fault::State
             | Fault::Storage
-            | Fault::CommandFile(_) => false,
+            | Fault::CommandFile(_)
+            | Fault::Session
+            | Fault::Refusal
+            | Fault::Client(_) => false,
         }
-    }
-}
-
-/// Whether a request got no reply because a stream or a device failed.
-fn is_device_request(failure: RequestFailure) -> bool
-    ensures { result ≡ is_device_request failure }
-{
-    match failure {
-        RequestFailure::Program(fault) => is_device(fault),
-        RequestFailure::Hex
-        | RequestFailure::Session(_)
-        | RequestFailure::Client(_)
-        | RequestFailure::Shape(..)
-        | RequestFailure::Fields(_) => false,
     }
 }
 

@@ -5,7 +5,6 @@ ghost use Rattle.std.specs.Prelude.{◌≡◌};
 use crate::argument_error::{ArgumentError, parse_seconds};
 use crate::reason::{CLOCK, CommandError, NamedReason, Reason, SystemError};
 use clap::ArgMatches;
-use enip_client::{ListCommand, Sent, write_list};
 use std::io::{self, ErrorKind};
 use std::net::{HostAddrs, IpAddr, SocketAddr, TcpListener, TcpStream, ToSocketAddrs, UdpSocket};
 use std::rt::Clock;
@@ -125,11 +124,15 @@ impl<'a> HostPort<'a> {
         Ok(stream)
     }
 
-    /// Sends a ListIdentity as a datagram to the first address of the host, which may be a broadcast address. The answers
-    /// come to the socket.
-    pub fn send_list_identity(self, rt: &HostRuntime) -> Result<UdpSocket, CommandError<'a>> {
+    /// Sends a datagram to the first address of the host, which may be a broadcast address. The answers come to the
+    /// socket.
+    pub fn send_datagram(
+        self,
+        rt: &HostRuntime,
+        datagram: &[u8],
+    ) -> Result<UdpSocket, CommandError<'a>> {
         for address in self.addresses(rt)? {
-            return send_list_identity_to(rt, address).map_err(|error| CommandError::of_system(
+            return send_datagram_to(rt, address, datagram).map_err(|error| CommandError::of_system(
                 self.text, error,
             ));
         }
@@ -137,23 +140,20 @@ impl<'a> HostPort<'a> {
     }
 }
 
-/// Sends a ListIdentity as a datagram to an address.
-fn send_list_identity_to(rt: &HostRuntime, address: SocketAddr) -> io::Result<UdpSocket> {
+/// Sends a datagram to an address.
+fn send_datagram_to(
+    rt: &HostRuntime,
+    address: SocketAddr,
+    datagram: &[u8],
+) -> io::Result<UdpSocket> {
     let any = match address {
         SocketAddr::V4(_) => "0.0.0.0:0",
         SocketAddr::V6(_) => "[::]:0",
     };
     let socket = UdpSocket::bind(rt, any)?;
     socket.set_broadcast(true)?;
-    socket.send_to(list_request(ListCommand::Identity).as_slice(), address)?;
+    socket.send_to(datagram, address)?;
     Ok(socket)
-}
-
-/// The frame that requests a list.
-fn list_request(command: ListCommand) -> Sent {
-    let mut sent = Sent::new();
-    write_list(command, &mut sent);
-    sent
 }
 
 /// The host and the port of `HOST` or `HOST:PORT`.

@@ -3,9 +3,10 @@
 ghost use Rattle.std.specs.Prelude.{◌≡◌};
 
 use crate::INPUT;
+use crate::file::read_file;
+use crate::os_arg::OsArg;
 use crate::reason::CommandError;
 use clap::ArgMatches;
-use enip_cli::{OsArg, read_file};
 use std::alloc::Global;
 use std::io::Read;
 

@@ -1,18 +1,14 @@
 //! Why a command fails, as text for people. It comes before the line that goes with the exit status.
 
-ghost use Rattle.std.specs.Prelude.{◌≡◌, IfSome, option_map};
-ghost use Rattle.enip_common.specs.Reasons.{refused_content, refused_name};
+ghost use Rattle.std.specs.Prelude.{◌≡◌};
 ghost use Rattle.enip_common.specs.Statuses.{exit_status, pending_fault};
 
 use crate::fault::Fault;
-use crate::owner::OwnerNeed;
+use crate::owner_need::OwnerNeed;
 use cip_bytes::StatusText;
 use cip_route::RouteFailure;
 use cip_values::{ValueFault, ValueType};
-use enip_client::ClientFault;
-use enip_faults::{
-    Digits, LedgerRefusal, LineFault, ProgramFault, RecordFault, RequestFailure, WithdrawalRefusal,
-};
+use enip_faults::{Digits, LedgerRefusal, LineFault, ProgramFault, RecordFault, WithdrawalRefusal};
 use std::alloc::{AllocError, Global};
 use std::fmt;
 use std::io::{self, ErrorKind};
@@ -251,9 +247,6 @@ pub enum ConfigurationReason {
     /// A check of the configuration fails: what is wrong, and in which line.
     #[error("{0}")]
     Check(String),
-    /// A check of a configuration with this content fails. The program says which one before it prints the reason.
-    #[error("refused")]
-    Content(Vec<u8>),
     /// It is longer than any device needs.
     #[error("over 1 MiB")]
     TooLong,
@@ -476,31 +469,11 @@ impl<'a> CommandError<'a> {
         }
     }
 
-    /// The fault, and the name and the content of the configuration that the command refuses. `None` if the reason is
-    /// another one.
-    pub fn refused_content(&self) -> Option<(Fault, &'a str, &[u8])>
-        ensures fault { IfSome result (λ r. r.0 ≡ self.now.fault) }
-        ensures name { option_map (λ r. r.1.now) result ≡ refused_name self.now.reason }
-        ensures content { option_map (λ r. r.2.now) result ≡ refused_content self.now.reason }
-    {
-        match &self.reason {
-            Reason::Configuration(name, ConfigurationReason::Content(content)) => {
-                Some((self.fault, *name, content.as_slice()))
-            }
-            _ => None,
-        }
-    }
-
     /// Whether the same exchange with the device may succeed later: there was no reply, or no session or connection.
     pub fn may_pass(&self) -> bool {
         matches!(
             self.fault,
-            Fault::Run(ProgramFault::Device)
-                | Fault::Request(
-                    RequestFailure::Program(ProgramFault::Device)
-                        | RequestFailure::Session(_)
-                        | RequestFailure::Client(ClientFault::Refused(..))
-                )
+            Fault::Run(ProgramFault::Device) | Fault::Session | Fault::Refusal
         )
     }
 

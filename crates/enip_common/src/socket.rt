@@ -4,8 +4,8 @@ ghost use Rattle.std.specs.Prelude.{◌≡◌, ◌≤◌, None, IfOk, length};
 
 use crate::host_port::Timeout;
 use crate::reason::{NamedReason, Reason};
-use crate::retry::{read_some, write_some};
 use enip_wire::{Failed, Sink, Source};
+use retried_io::{read_some, write_some};
 use std::io::{self, ErrorKind};
 use std::net::TcpStream;
 use std::rt::Clock;

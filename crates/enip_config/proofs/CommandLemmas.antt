@@ -3,11 +3,9 @@ use Rattle.std.proofs.Common.{◌≡◌, ◌≤◌, ℕ, List, [], ◌∷◌, �
 use Rattle.std.specs.Prelude.{unwrap_or, if◌then◌else◌}
 use Rattle.std.specs.List.{list_any}
 use Rattle.cip_application.specs.declared.config.ServiceConfig.{ServiceConfig}
-use Rattle.enip_config.specs.declared.configuration.Configuration.{Configuration}
 use Rattle.config_refusal.specs.declared.fault.LoadFault.{LoadFault}
-use Rattle.enip_config.specs.Commands.{is_queued, is_queued_kind, has_queued, queue_limit}
+use Rattle.enip_config.specs.Commands.{is_queued, is_queued_kind}
 use Rattle.attribute_types.specs.Values.{IsBadOrMemory}
-use Rattle.enip_config.specs.Documents.{IsQueueInRange}
 use Rattle.enip_config.specs.Objects.{ServiceSeen, service_seen, get_result, with_result}
 
 -- a service is seen as queued if it is
@@ -61,9 +59,3 @@ first_of (Some n) within = within.0
 last_of : (limit : Option ℕ) → IfSome limit (λ n. (1 ≤ n) × (n ≤ 256)) → IfSome limit (λ n. n ≤ 256)
 last_of None within = tt
 last_of (Some n) within = within.1
-
-pub limit_from : (c : Configuration) → IsQueueInRange c → IfSome (queue_limit c) (λ n. 1 ≤ n)
-limit_from c within = first_of (queue_limit c) (chosen (has_queued c.objects.objects.items) c.queue within)
-
-pub limit_to : (c : Configuration) → IsQueueInRange c → IfSome (queue_limit c) (λ n. n ≤ 256)
-limit_to c within = last_of (queue_limit c) (chosen (has_queued c.objects.objects.items) c.queue within)

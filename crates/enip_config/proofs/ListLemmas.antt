@@ -1,6 +1,6 @@
 -- The lists of the table `access`.
 use Rattle.std.proofs.Common.{◌≡◌, ℕ, ◌≤◌, List, ◌++◌, length, drop, append-nil, Option, Some, None, option_map, refl, sym, ap, ◌∙◌, arith, le-leb}
-use Rattle.std.proofs.lemmas.Option.{none-some, same_Some}
+use Rattle.std.proofs.lemmas.Option.{none-some}
 use Rattle.std.proofs.NetLemmas.Options.{map_some}
 use Rattle.std.proofs.lemmas.List.{drop_all}
 use Rattle.toml.specs.Data.{Data, Members}
@@ -75,9 +75,3 @@ pub no_table : (found : Option Data) → read_or (Some None) (λ value. option_m
 no_table None is = refl
 no_table (Some value) is =
     map_some (λ shares. Some shares) (shares_in value) None is λ shares read same. absurd (none-some shares (sym same))
-
--- and with shares there is one
-pub a_table : (found : Option Data) (shares : Option ℕ × Option ℕ)
-    → read_or (Some None) (λ value. option_map (λ shares. Some shares) (shares_in value)) found ≡ Some (Some shares) → found ≡ None → ⊥
-a_table None shares is none = none-some shares (same_Some None (Some shares) is)
-a_table (Some value) shares is none = none-some value (sym none)

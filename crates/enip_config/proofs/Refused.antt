@@ -7,7 +7,7 @@ use Rattle.enip_config.specs.declared.configuration.Configuration.{Configuration
 use Rattle.attribute_types.specs.Values.{IsBad, number_in, read_or}
 use Rattle.enip_config.specs.Keys.{KeyRow, row, number_by, number_of, table_with}
 use Rattle.config_refusal.specs.declared.fault.LoadFault.{LoadFault}
-use Rattle.config_refusal.specs.Refusals.{fault_of_objects}
+use Rattle.enip_config.specs.ObjectsFault.{fault_of_objects}
 use Rattle.enip_config.specs.Documents.{number_in as held, IsKnown, HasValues, IsFaultOf, IsInRange, IsUnread}
 use Rattle.enip_config.specs.declared.key.NumberKey.{NumberKey}
 use Rattle.enip_config.specs.declared.key.NumberKey.TheVariants.{Vendor, DeviceType, ProductCode, Major, Minor, Serial, Status, State, Port, Peers, Connections, FirstHandle, FirstId, CounterValue, CounterLimit}

@@ -28,7 +28,7 @@ use Rattle.enip_config.specs.RouterObject.{router_wanted, HasAllObjects}
 use Rattle.enip_config.specs.Interfaces.{interfaces_of, interfaces_seen}
 use Rattle.enip_config.specs.StandardObjects.{all_objects_of}
 use Rattle.enip_config.specs.ObjectTypes.{types_of, types_seen}
-use Rattle.config_refusal.specs.Refusals.{fault_of_objects}
+use Rattle.enip_config.specs.ObjectsFault.{fault_of_objects}
 use Rattle.enip_config.specs.Access.{shares_of, shares_seen, lists_of, lists_seen, HasShares}
 
 -- the number that a configuration has for a key

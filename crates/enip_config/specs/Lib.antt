@@ -9,3 +9,5 @@ pub mod Known
 pub mod Access
 pub mod Documents
 pub mod Numbers
+pub mod Explained
+pub mod ObjectsFault

@@ -12,38 +12,55 @@ use crate::values::{flag_of, number_by};
 use crate::width::Width;
 use attribute_types::{BAD_VALUE, number_in, value_of};
 use cip_objects::AssemblyConfig;
+use config_explained::{Expected, Finding};
 use config_refusal::LoadFault;
 use std::alloc::Global;
 use toml::{Table, Value};
 
 /// Reads the assemblies, in the order of the file. Empty if the key is left out.
-pub(crate) fn assemblies_of(alloc: Global, text: &Table) -> Result<Vec<AssemblyConfig>, LoadFault>
+pub(crate) fn assemblies_of(
+    alloc: Global,
+    text: &Table,
+    finding: &mut Finding,
+) -> Result<Vec<AssemblyConfig>, LoadFault>
     ensures read { IfOk result (λ assemblies. assemblies_of (table_view text.now)
         ≡ Some (map assembly_seen assemblies.items)) }
     ensures refused { IfErr result (IsUnread (table_view text.now)) }
 {
+    finding.enter_text();
+    finding.expect("assembly", Expected::Tables);
     match value_of(text, "assembly") {
         None => Ok(Vec::new(alloc)),
-        Some(Value::Array(values)) => each_assembly(alloc, values.as_slice()),
+        Some(Value::Array(values)) => each_assembly(alloc, values.as_slice(), finding),
         Some(_) => Err(BAD_VALUE),
     }
 }
 
 /// Reads each value as an assembly.
-fn each_assembly(alloc: Global, values: &[Value]) -> Result<Vec<AssemblyConfig>, LoadFault>
+fn each_assembly(
+    alloc: Global,
+    values: &[Value],
+    finding: &mut Finding,
+) -> Result<Vec<AssemblyConfig>, LoadFault>
     ensures read { IfOk result (λ assemblies. each assembly_in (items_view values.now)
         ≡ Some (map assembly_seen assemblies.items)) }
     ensures refused { IfErr result (IsBadOrMemory (each assembly_in (items_view values.now))) }
 {
     let mut assemblies = Vec::new(alloc);
+    finding.enter_table("assembly");
     for value in values {
-        assemblies.push(assembly_of(alloc, value)?)?;
+        assemblies.push(assembly_of(alloc, value, finding)?)?;
+        finding.enter_next();
     }
     Ok(assemblies)
 }
 
 /// Reads one table `assembly`.
-fn assembly_of(alloc: Global, value: &Value) -> Result<AssemblyConfig, LoadFault>
+fn assembly_of(
+    alloc: Global,
+    value: &Value,
+    finding: &mut Finding,
+) -> Result<AssemblyConfig, LoadFault>
     ensures read { IfOk result (λ assembly. assembly_in (view value.now) ≡ Some (assembly_seen assembly)) }
     ensures refused { IfErr result (IsBadOrMemory (assembly_in (view value.now))) }
 {
@@ -51,18 +68,19 @@ fn assembly_of(alloc: Global, value: &Value) -> Result<AssemblyConfig, LoadFault
         return Err(BAD_VALUE);
     };
     Ok(AssemblyConfig {
-        instance: number_by(table, INSTANCE)?,
-        settable: flag_of(table, "settable", false)?,
-        members: sizes_of(alloc, table)?,
-        lists: flag_of(table, "lists", false)?,
+        instance: number_by(table, INSTANCE, finding)?,
+        settable: flag_of(table, "settable", false, finding)?,
+        members: sizes_of(alloc, table, finding)?,
+        lists: flag_of(table, "lists", false, finding)?,
     })
 }
 
 /// The sizes of an assembly's members, in bytes.
-fn sizes_of(alloc: Global, table: &Table) -> Result<Vec<u16>, LoadFault>
+fn sizes_of(alloc: Global, table: &Table, finding: &mut Finding) -> Result<Vec<u16>, LoadFault>
     ensures read { IfOk result (λ sizes. sizes_of (table_view table.now) ≡ Some sizes.items) }
     ensures refused { IfErr result (IsBadOrMemory (sizes_of (table_view table.now))) }
 {
+    finding.expect("members", Expected::MemberSizes);
     match value_of(table, "members") {
         Some(Value::Array(values)) => each_size(alloc, values.as_slice()),
         _ => Err(BAD_VALUE),

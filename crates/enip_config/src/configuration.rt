@@ -7,22 +7,26 @@ ghost use Rattle.cip_objects.specs.Configuration.{fault_of};
 ghost use Rattle.enip_config.specs.Access.{lists_of, lists_seen, IsBadList};
 ghost use Rattle.enip_config.specs.Commands.{queue_limit};
 ghost use Rattle.enip_config.specs.Documents.{IsDescribed, IsFaultOf, IsInRange, IsLedgerInRange, IsQueueInRange, IsAheadInRange};
-ghost use Rattle.enip_config.specs.Documents.{AreSharesInRange, IsUnread, HasValues, has_unused_queue};
+ghost use Rattle.enip_config.specs.Documents.{AreSharesInRange, IsUnread, IsDocument, HasValues, has_unused_queue};
+ghost use Rattle.enip_config.specs.Explained.{IsExplained};
 ghost use Rattle.enip_config.specs.Numbers.{HasIdentity, HasCounter, HasLimits};
 
 use crate::access::{shares_of, with_lists};
 use crate::assemblies::assemblies_of;
 use crate::commands::{ahead_of, has_queued, queue_of};
+use crate::explained::explained;
 use crate::interfaces::{NamedInterfaces, interfaces_of};
 use crate::key::{DEFAULT_QUEUE, NumberKey};
 use crate::known::has_unknown_key;
 use crate::ledger::{LedgerConfig, ledger_of};
 use crate::message_router::objects_with_router;
 use crate::object_types::types_of;
+use crate::objects_fault::fault_of_objects;
 use crate::values::{address_of, counter_enabled, name_of, number, reset_of};
 use attribute_types::AttributeType;
 use cip_application::MessageRouter;
 use cip_objects::{Config, CounterConfig};
+use config_explained::{Document, ExplainedFault, Explanation, Finding};
 use config_refusal::{ConfigurationRefusal, LoadFault};
 use enip_access::Access;
 use std::alloc::Global;
@@ -119,19 +123,68 @@ impl Configuration {
         ensures shares { IfOk result AreSharesInRange }
         ensures refused { IfErr result (IsFaultOf bytes.now) }
     {
+        match Configuration::explained(alloc, bytes) {
+            Ok(configuration) => Ok(configuration),
+            Err(fault) => Err(fault.fault()),
+        }
+    }
+
+    /// The same. If the configuration is refused, it says what is wrong with it, and in which line.
+    ///
+    /// # Errors
+    ///
+    /// Those of [`Configuration::from_bytes`], with an explanation of the check that fails.
+    pub fn explained(alloc: Global, bytes: &[u8]) -> Result<Configuration, ExplainedFault>
+        ensures read { IfOk result (IsDescribed bytes.now) }
+        ensures in_range { IfOk result IsInRange }
+        ensures ledger { IfOk result IsLedgerInRange }
+        ensures queue { IfOk result IsQueueInRange }
+        ensures ahead { IfOk result IsAheadInRange }
+        ensures shares { IfOk result AreSharesInRange }
+        ensures refused { IfErr result (IsExplained bytes.now) }
+    {
         let table = match toml::table_from_slice(alloc, bytes) {
             Ok(table) => table,
-            Err(error) if error.is_memory() => return Err(LoadFault::Memory),
-            Err(_) => return Err(LoadFault::Refused(ConfigurationRefusal::NotToml)),
+            Err(error) if error.is_memory() => return Err(ExplainedFault::Memory),
+            Err(error) => {
+                return Err(ExplainedFault::Refused(Explanation::of_text(bytes, error)));
+            }
         };
-        if has_unknown_key(&table) {
+        let document = Document {
+            bytes,
+            table: &table,
+        };
+        let mut finding = Finding::new();
+        match Configuration::of_document(alloc, document, &mut finding) {
+            Ok(configuration) => Ok(configuration),
+            Err(fault) => Err(explained(alloc, document, fault, &finding)),
+        }
+    }
+
+    /// Reads a configuration from its document. If it is refused, the finding is where the reader was.
+    fn of_document(
+        alloc: Global,
+        document: Document<'_>,
+        finding: &mut Finding,
+    ) -> Result<Configuration, LoadFault>
+        requires { IsDocument document.bytes.now (table_view document.table.now) }
+        ensures read { IfOk result (IsDescribed document.entry.bytes.now) }
+        ensures in_range { IfOk result IsInRange }
+        ensures ledger { IfOk result IsLedgerInRange }
+        ensures queue { IfOk result IsQueueInRange }
+        ensures ahead { IfOk result IsAheadInRange }
+        ensures shares { IfOk result AreSharesInRange }
+        ensures refused { IfErr result (IsFaultOf document.entry.bytes.now) }
+    {
+        let table = document.table;
+        if has_unknown_key(table, finding) {
             return Err(LoadFault::Refused(ConfigurationRefusal::UnknownKey));
         }
-        let values = Configuration::from_table(alloc, &table)?;
+        let values = Configuration::from_table(alloc, table, finding)?;
         if let Some(check) = values.objects.fault() {
-            return Err(LoadFault::from(check));
+            return Err(fault_of_objects(check));
         }
-        let configuration = values.with_lists(&table)?;
+        let configuration = values.with_lists(table, finding)?;
         if configuration.has_unused_queue() {
             return Err(LoadFault::Refused(ConfigurationRefusal::Commands));
         }
@@ -161,6 +214,29 @@ impl Configuration {
         described
     }
 
+    /// The objects of the device, and the types of the attributes of each own object.
+    pub(crate) fn into_objects_and_types(self) -> (Config, Vec<Vec<AttributeType>>)
+        ensures { result ≡ (self.objects, self.attribute_types) }
+    {
+        let Configuration {
+            objects,
+            reset: _,
+            address: _,
+            port: _,
+            peers: _,
+            connections: _,
+            first_handle: _,
+            first_id: _,
+            ledger: _,
+            queue: _,
+            ahead: _,
+            access: _,
+            interfaces: _,
+            attribute_types,
+        } = self;
+        (objects, attribute_types)
+    }
+
     /// How many queued commands can wait. `None` if no service is queued, so that the device has no queue.
     pub fn queue_limit(&self) -> Option<u16>
         ensures value { result ≡ queue_limit self.now }
@@ -181,7 +257,7 @@ impl Configuration {
     }
 
     /// The same configuration with the lists of the table `access`.
-    fn with_lists(self, text: &Table) -> Result<Configuration, LoadFault>
+    fn with_lists(self, text: &Table, finding: &mut Finding) -> Result<Configuration, LoadFault>
         requires { HasValues (table_view text.now) self }
         ensures read { IfOk result (HasValues (table_view text.now)) }
         ensures objects { IfOk result (λ c. c.objects ≡ self.objects) }
@@ -204,7 +280,7 @@ impl Configuration {
             interfaces,
             attribute_types,
         } = self;
-        let access = with_lists(text, access)?;
+        let access = with_lists(text, access, finding)?;
         Ok(Configuration {
             objects,
             reset,
@@ -230,24 +306,29 @@ impl Configuration {
     ///
     /// `LoadFault::Refused` with `BadValue` if a required key is missing, or a value has another type or is out of range.
     /// `LoadFault::Memory` if memory is refused.
-    pub fn from_table(alloc: Global, text: &Table) -> Result<Configuration, LoadFault>
+    pub(crate) fn from_table(
+        alloc: Global,
+        text: &Table,
+        finding: &mut Finding,
+    ) -> Result<Configuration, LoadFault>
         ensures read { IfOk result (HasValues (table_view text.now)) }
         ensures refused { IfErr result (IsUnread (table_view text.now)) }
     {
         // What needs no memory comes first: nothing has to be dropped if one of it is refused.
-        let identity = identity_of(text)?;
-        let counter = counter_of(text)?;
-        let reset = reset_of(text)?;
-        let limits = limits_of(text)?;
-        let address = address_of(text)?;
-        let ledger = ledger_of(text)?;
-        let queue = queue_of(text)?;
-        let ahead = ahead_of(text)?;
-        let access = shares_of(text)?;
-        let name = name_of(text)?;
-        let interfaces = interfaces_of(text)?;
-        let assemblies = assemblies_of(alloc, text)?;
-        let objects = objects_with_router(alloc, text, router_of(counter, ledger, limits))?;
+        let identity = identity_of(text, finding)?;
+        let counter = counter_of(text, finding)?;
+        let reset = reset_of(text, finding)?;
+        let limits = limits_of(text, finding)?;
+        let address = address_of(text, finding)?;
+        let ledger = ledger_of(text, finding)?;
+        let queue = queue_of(text, finding)?;
+        let ahead = ahead_of(text, finding)?;
+        let access = shares_of(text, finding)?;
+        let name = name_of(text, finding)?;
+        let interfaces = interfaces_of(text, finding)?;
+        let assemblies = assemblies_of(alloc, text, finding)?;
+        let router = router_of(counter, ledger, limits);
+        let objects = objects_with_router(alloc, text, router, finding)?;
         let attribute_types = types_of(alloc, text)?;
         Ok(Configuration {
             objects: Config {
@@ -295,31 +376,31 @@ struct Identity {
 }
 
 /// Reads the numbers of the Identity object.
-fn identity_of(text: &Table) -> Result<Identity, LoadFault>
+fn identity_of(text: &Table, finding: &mut Finding) -> Result<Identity, LoadFault>
     ensures read { IfOk result (HasIdentity (table_view text.now)) }
     ensures refused { IfErr result (IsUnread (table_view text.now)) }
 {
     Ok(Identity {
-        vendor: number(text, NumberKey::Vendor)?,
-        device_type: number(text, NumberKey::DeviceType)?,
-        product_code: number(text, NumberKey::ProductCode)?,
-        major: number(text, NumberKey::Major)?,
-        minor: number(text, NumberKey::Minor)?,
-        serial: number(text, NumberKey::Serial)?,
-        status: number(text, NumberKey::Status)?,
-        state: number(text, NumberKey::State)?,
+        vendor: number(text, NumberKey::Vendor, finding)?,
+        device_type: number(text, NumberKey::DeviceType, finding)?,
+        product_code: number(text, NumberKey::ProductCode, finding)?,
+        major: number(text, NumberKey::Major, finding)?,
+        minor: number(text, NumberKey::Minor, finding)?,
+        serial: number(text, NumberKey::Serial, finding)?,
+        status: number(text, NumberKey::Status, finding)?,
+        state: number(text, NumberKey::State, finding)?,
     })
 }
 
 /// Reads the counter.
-fn counter_of(text: &Table) -> Result<CounterConfig, LoadFault>
+fn counter_of(text: &Table, finding: &mut Finding) -> Result<CounterConfig, LoadFault>
     ensures read { IfOk result (HasCounter (table_view text.now)) }
     ensures refused { IfErr result (IsUnread (table_view text.now)) }
 {
     Ok(CounterConfig {
-        enabled: counter_enabled(text)?,
-        value: number(text, NumberKey::CounterValue)?,
-        limit: number(text, NumberKey::CounterLimit)?,
+        enabled: counter_enabled(text, finding)?,
+        value: number(text, NumberKey::CounterValue, finding)?,
+        limit: number(text, NumberKey::CounterLimit, finding)?,
     })
 }
 
@@ -349,15 +430,15 @@ struct Limits {
 }
 
 /// Reads the port and the limits.
-fn limits_of(text: &Table) -> Result<Limits, LoadFault>
+fn limits_of(text: &Table, finding: &mut Finding) -> Result<Limits, LoadFault>
     ensures read { IfOk result (HasLimits (table_view text.now)) }
     ensures refused { IfErr result (IsUnread (table_view text.now)) }
 {
     Ok(Limits {
-        port: number(text, NumberKey::Port)?,
-        peers: number(text, NumberKey::Peers)?,
-        connections: number(text, NumberKey::Connections)?,
-        first_handle: number(text, NumberKey::FirstHandle)?,
-        first_id: number(text, NumberKey::FirstId)?,
+        port: number(text, NumberKey::Port, finding)?,
+        peers: number(text, NumberKey::Peers, finding)?,
+        connections: number(text, NumberKey::Connections, finding)?,
+        first_handle: number(text, NumberKey::FirstHandle, finding)?,
+        first_id: number(text, NumberKey::FirstId, finding)?,
     })
 }

@@ -11,6 +11,7 @@ ghost use Rattle.enip_config.specs.Interfaces.{interfaces_seen, is_interface_nam
 ghost use Rattle.enip_config.specs.Interfaces.{named_by_link, named_by_tcp_ip, named_in, tcp_ip_interface};
 
 use attribute_types::{BAD_VALUE, value_of};
+use config_explained::{Expected, Finding};
 use config_refusal::LoadFault;
 use toml::{Table, Value};
 
@@ -36,12 +37,15 @@ impl Drop for NamedInterfaces {
 
 /// Reads the names of the interfaces.
 #[tactic(auto, using(crate::proofs::InterfaceLemmas::unread_interfaces))]
-pub(crate) fn interfaces_of(text: &Table) -> Result<NamedInterfaces, LoadFault>
+pub(crate) fn interfaces_of(
+    text: &Table,
+    finding: &mut Finding,
+) -> Result<NamedInterfaces, LoadFault>
     ensures read { IfOk result (λ named. interfaces_of (table_view text.now) ≡ Some (interfaces_seen named)) }
     ensures refused { IfErr result (IsUnread (table_view text.now)) }
 {
-    let tcp_ip = tcp_ip_interface(text)?;
-    let ethernet_link = link_interface(text)?;
+    let tcp_ip = tcp_ip_interface(text, finding)?;
+    let ethernet_link = link_interface(text, finding)?;
     Ok(NamedInterfaces {
         tcp_ip,
         ethernet_link,
@@ -49,25 +53,26 @@ pub(crate) fn interfaces_of(text: &Table) -> Result<NamedInterfaces, LoadFault>
 }
 
 /// The interface that the table `tcp_ip` names.
-fn tcp_ip_interface(text: &Table) -> Result<Option<String>, LoadFault>
+fn tcp_ip_interface(text: &Table, finding: &mut Finding) -> Result<Option<String>, LoadFault>
     ensures read { IfOk result (λ name. tcp_ip_interface (table_view text.now) ≡ Some (option_map string_bytes name)) }
     ensures refused { IfErr result (IsBadOrMemory (tcp_ip_interface (table_view text.now))) }
 {
+    finding.enter_table("tcp_ip");
     match value_of(text, "tcp_ip") {
         None => Ok(None),
-        Some(value) => named_by_tcp_ip(value),
+        Some(value) => named_by_tcp_ip(value, finding),
     }
 }
 
 /// Reads a value as a table `tcp_ip` that may name an interface.
-fn named_by_tcp_ip(value: &Value) -> Result<Option<String>, LoadFault>
+fn named_by_tcp_ip(value: &Value, finding: &mut Finding) -> Result<Option<String>, LoadFault>
     ensures read { IfOk result (λ name. named_by_tcp_ip (view value.now) ≡ Some (option_map string_bytes name)) }
     ensures refused { IfErr result (IsBadOrMemory (named_by_tcp_ip (view value.now))) }
 {
     let Value::Table(table) = value else {
         return Err(BAD_VALUE);
     };
-    named_in(table, has_own_address(table))
+    named_in(table, has_own_address(table), finding)
 }
 
 /// Whether a table `tcp_ip` has a value that an interface has, too.
@@ -78,25 +83,26 @@ fn has_own_address(table: &Table) -> bool
 }
 
 /// The interface that the table `ethernet_link` names.
-fn link_interface(text: &Table) -> Result<Option<String>, LoadFault>
+fn link_interface(text: &Table, finding: &mut Finding) -> Result<Option<String>, LoadFault>
     ensures read { IfOk result (λ name. link_interface (table_view text.now) ≡ Some (option_map string_bytes name)) }
     ensures refused { IfErr result (IsBadOrMemory (link_interface (table_view text.now))) }
 {
+    finding.enter_table("ethernet_link");
     match value_of(text, "ethernet_link") {
         None => Ok(None),
-        Some(value) => named_by_link(value),
+        Some(value) => named_by_link(value, finding),
     }
 }
 
 /// Reads a value as a table `ethernet_link` that may name an interface.
-fn named_by_link(value: &Value) -> Result<Option<String>, LoadFault>
+fn named_by_link(value: &Value, finding: &mut Finding) -> Result<Option<String>, LoadFault>
     ensures read { IfOk result (λ name. named_by_link (view value.now) ≡ Some (option_map string_bytes name)) }
     ensures refused { IfErr result (IsBadOrMemory (named_by_link (view value.now))) }
 {
     let Value::Table(table) = value else {
         return Err(BAD_VALUE);
     };
-    named_in(table, has_own_link(table))
+    named_in(table, has_own_link(table), finding)
 }
 
 /// Whether a table `ethernet_link` has a value that an interface has, too.
@@ -110,10 +116,11 @@ fn has_own_link(table: &Table) -> bool
 }
 
 /// The interface that a table names, which must not have a value that is read from there.
-fn named_in(table: &Table, given: bool) -> Result<Option<String>, LoadFault>
+fn named_in(table: &Table, given: bool, finding: &mut Finding) -> Result<Option<String>, LoadFault>
     ensures read { IfOk result (λ name. named_in given (table_view table.now) ≡ Some (option_map string_bytes name)) }
     ensures refused { IfErr result (IsBadOrMemory (named_in given (table_view table.now))) }
 {
+    finding.expect("interface", Expected::Interface);
     match value_of(table, "interface") {
         None => Ok(None),
         Some(_) if given => Err(BAD_VALUE),
@@ -134,7 +141,7 @@ fn interface_name(value: &Value) -> Result<String, LoadFault>
 
 /// Whether a text can be the name of an interface: 1 to 15 characters from 0x21 to 0x7e without `/` and `:`, and not the
 /// name of a folder.
-pub fn is_interface_name(name: &str) -> bool
+fn is_interface_name(name: &str) -> bool
     ensures { result ≡ is_interface_name name.now }
 {
     1 <= name.len()
@@ -164,7 +171,7 @@ fn is_no_name_byte(byte: u8) -> bool
 }
 
 /// Whether a table has a key.
-pub fn has(table: &Table, name: &str) -> bool
+pub(crate) fn has(table: &Table, name: &str) -> bool
     ensures { result ≡ has name.now (table_view table.now) }
 {
     value_of(table, name).is_some()

@@ -56,19 +56,19 @@ pub enum NumberKey {
 
 /// A row of the table: the name of a key, the range of its number, and the default.
 #[derive(Clone, Copy)]
-pub struct Row {
+pub(crate) struct Row {
     /// The name of the key.
-    pub name: &'static str,
+    pub(crate) name: &'static str,
     /// The least number.
-    pub least: u64,
+    pub(crate) least: u64,
     /// The greatest number.
-    pub greatest: u64,
+    pub(crate) greatest: u64,
     /// `None` if the key is required.
-    pub default: Option<u64>,
+    pub(crate) default: Option<u64>,
 }
 
 /// The key `instance` of a table `assembly` or `object`.
-pub const INSTANCE: Row = Row {
+pub(crate) const INSTANCE: Row = Row {
     name: "instance",
     least: 0,
     greatest: 0xffff,
@@ -76,7 +76,7 @@ pub const INSTANCE: Row = Row {
 };
 
 /// The key `class` of a table `object`.
-pub const CLASS: Row = Row {
+pub(crate) const CLASS: Row = Row {
     name: "class",
     least: 0,
     greatest: 0xffff,
@@ -84,7 +84,7 @@ pub const CLASS: Row = Row {
 };
 
 /// The key `number` of a table `object.attribute`.
-pub const ATTRIBUTE_NUMBER: Row = Row {
+pub(crate) const ATTRIBUTE_NUMBER: Row = Row {
     name: "number",
     least: 0,
     greatest: 0xffff,
@@ -92,7 +92,7 @@ pub const ATTRIBUTE_NUMBER: Row = Row {
 };
 
 /// The key `number` of a table `object.service`.
-pub const SERVICE_NUMBER: Row = Row {
+pub(crate) const SERVICE_NUMBER: Row = Row {
     name: "number",
     least: 0,
     greatest: 0xff,
@@ -100,7 +100,7 @@ pub const SERVICE_NUMBER: Row = Row {
 };
 
 /// The key `reply` of a table `object.service`.
-pub const REPLY: Row = Row {
+pub(crate) const REPLY: Row = Row {
     name: "reply",
     least: 0,
     greatest: 0xffff,
@@ -108,7 +108,7 @@ pub const REPLY: Row = Row {
 };
 
 /// The key `originators` of the table `ledger`.
-pub const ORIGINATORS: Row = Row {
+pub(crate) const ORIGINATORS: Row = Row {
     name: "originators",
     least: 1,
     greatest: 64,
@@ -116,7 +116,7 @@ pub const ORIGINATORS: Row = Row {
 };
 
 /// The key `life` of the table `ledger`. TOML has no greater integers.
-pub const LIFE: Row = Row {
+pub(crate) const LIFE: Row = Row {
     name: "life",
     least: 1,
     greatest: 0x7fff_ffff_ffff_ffff,
@@ -124,7 +124,7 @@ pub const LIFE: Row = Row {
 };
 
 /// The key `inactivity_timeout` of the table `tcp_ip`. (Volume 2, TCP/IP Interface object.)
-pub const INACTIVITY_TIMEOUT: Row = Row {
+pub(crate) const INACTIVITY_TIMEOUT: Row = Row {
     name: "inactivity_timeout",
     least: 0,
     greatest: INACTIVITY_LIMIT as u64,
@@ -132,7 +132,7 @@ pub const INACTIVITY_TIMEOUT: Row = Row {
 };
 
 /// The key `speed` of the table `ethernet_link`, in Mbit/s.
-pub const SPEED: Row = Row {
+pub(crate) const SPEED: Row = Row {
     name: "speed",
     least: 0,
     greatest: GREATEST_UDINT,
@@ -140,7 +140,7 @@ pub const SPEED: Row = Row {
 };
 
 /// The key `flags` of the table `ethernet_link`. The default is an active link, full duplex, negotiated.
-pub const FLAGS: Row = Row {
+pub(crate) const FLAGS: Row = Row {
     name: "flags",
     least: 0,
     greatest: GREATEST_UDINT,
@@ -148,7 +148,7 @@ pub const FLAGS: Row = Row {
 };
 
 /// The key `type` of the table `ethernet_link`. The default is twisted pair.
-pub const INTERFACE_TYPE: Row = Row {
+pub(crate) const INTERFACE_TYPE: Row = Row {
     name: "type",
     least: 0,
     greatest: 0xff,
@@ -156,7 +156,7 @@ pub const INTERFACE_TYPE: Row = Row {
 };
 
 /// The key `state` of the table `ethernet_link`. The default is enabled.
-pub const INTERFACE_STATE: Row = Row {
+pub(crate) const INTERFACE_STATE: Row = Row {
     name: "state",
     least: 0,
     greatest: 0xff,
@@ -164,7 +164,7 @@ pub const INTERFACE_STATE: Row = Row {
 };
 
 /// The key `queue` of the table `commands`.
-pub const QUEUE: Row = Row {
+pub(crate) const QUEUE: Row = Row {
     name: "queue",
     least: 1,
     greatest: 256,
@@ -172,7 +172,7 @@ pub const QUEUE: Row = Row {
 };
 
 /// The key `ahead` of the table `commands`.
-pub const AHEAD: Row = Row {
+pub(crate) const AHEAD: Row = Row {
     name: "ahead",
     least: 1,
     greatest: 256,
@@ -181,7 +181,7 @@ pub const AHEAD: Row = Row {
 
 impl NumberKey {
     /// The key's row in the table.
-    pub fn row(self) -> Row
+    pub(crate) fn row(self) -> Row
         ensures { row_seen result ≡ row self }
     {
         let (name, least, greatest, default) = match self {

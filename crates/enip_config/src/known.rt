@@ -14,11 +14,12 @@ use crate::key::{
     AHEAD, ATTRIBUTE_NUMBER, CLASS, FLAGS, INACTIVITY_TIMEOUT, INSTANCE, INTERFACE_STATE,
     INTERFACE_TYPE, LIFE, NumberKey, ORIGINATORS, QUEUE, REPLY, SERVICE_NUMBER, SPEED,
 };
+use config_explained::{Finding, Place};
 use toml::{Table, Value};
 
 /// The kinds of tables in a configuration.
 #[derive(Clone, Copy)]
-pub enum TableKind {
+pub(crate) enum TableKind {
     /// The top level, without the tables in it.
     Text,
     /// The table `counter`.
@@ -46,7 +47,7 @@ pub enum TableKind {
 }
 
 /// The keys at the top level whose values are numbers.
-pub static TEXT_NUMBERS: [NumberKey; 13] = [
+static TEXT_NUMBERS: [NumberKey; 13] = [
     NumberKey::Vendor,
     NumberKey::DeviceType,
     NumberKey::ProductCode,
@@ -63,8 +64,44 @@ pub static TEXT_NUMBERS: [NumberKey; 13] = [
 ];
 
 impl TableKind {
+    /// The kind of a table.
+    fn of(place: Place) -> TableKind {
+        match place {
+            Place::Text => TableKind::Text,
+            Place::Table("counter", _) => TableKind::Counter,
+            Place::Table("identity", _) => TableKind::Identity,
+            Place::Table("assembly", _) => TableKind::Assembly,
+            Place::Table("ledger", _) => TableKind::Ledger,
+            Place::Table("commands", _) => TableKind::Commands,
+            Place::Table("access", _) => TableKind::Access,
+            Place::Table("tcp_ip", _) => TableKind::TcpIp,
+            Place::Table("ethernet_link", _) => TableKind::EthernetLink,
+            Place::Table(..) => TableKind::Object,
+            Place::Part(_, "service", _) => TableKind::Service,
+            Place::Part(..) => TableKind::Attribute,
+        }
+    }
+
+    /// The reader enters the first table of this kind.
+    fn enter(self, finding: &mut Finding) {
+        match self {
+            TableKind::Text => finding.enter_text(),
+            TableKind::Counter => finding.enter_table("counter"),
+            TableKind::Identity => finding.enter_table("identity"),
+            TableKind::Assembly => finding.enter_table("assembly"),
+            TableKind::Ledger => finding.enter_table("ledger"),
+            TableKind::Commands => finding.enter_table("commands"),
+            TableKind::Access => finding.enter_table("access"),
+            TableKind::TcpIp => finding.enter_table("tcp_ip"),
+            TableKind::EthernetLink => finding.enter_table("ethernet_link"),
+            TableKind::Object => finding.enter_table("object"),
+            TableKind::Attribute => finding.enter_part("attribute"),
+            TableKind::Service => finding.enter_part("service"),
+        }
+    }
+
     /// Whether a key is known in this kind of table.
-    pub fn knows(self, name: &str) -> bool
+    fn knows(self, name: &str) -> bool
         ensures { result ≡ is_among (keys_of self) name.now }
     {
         match self {
@@ -167,11 +204,11 @@ fn is_number(keys: &[NumberKey], name: &str) -> bool
 }
 
 /// Whether there is an unknown key, at any depth.
-pub(crate) fn has_unknown_key(table: &Table) -> bool
+pub(crate) fn has_unknown_key(table: &Table, finding: &mut Finding) -> bool
     ensures { result ≡ has_unknown_key (table_view table.now) }
 {
     for (key, value) in table.iter() {
-        if is_unknown(key.as_str(), value) {
+        if is_unknown(key.as_str(), value, finding) {
             return true;
         }
     }
@@ -179,41 +216,46 @@ pub(crate) fn has_unknown_key(table: &Table) -> bool
 }
 
 /// Whether a key at the top level is unknown, or one within its value.
-fn is_unknown(key: &str, value: &Value) -> bool
+fn is_unknown(key: &str, value: &Value, finding: &mut Finding) -> bool
     ensures { result ≡ is_unknown key.now (view value.now) }
 {
     match key {
-        "counter" => has_other_keys_within(value, TableKind::Counter),
-        "identity" => has_other_keys_within(value, TableKind::Identity),
-        "assembly" => has_other_keys_within(value, TableKind::Assembly),
-        "ledger" => has_other_keys_within(value, TableKind::Ledger),
-        "commands" => has_other_keys_within(value, TableKind::Commands),
-        "access" => has_other_keys_within(value, TableKind::Access),
-        "tcp_ip" => has_other_keys_within(value, TableKind::TcpIp),
-        "ethernet_link" => has_other_keys_within(value, TableKind::EthernetLink),
-        "object" => has_other_keys_in_objects(value),
-        name => !TableKind::Text.knows(name) || has_key(value),
+        "counter" => has_other_keys_within(value, TableKind::Counter, finding),
+        "identity" => has_other_keys_within(value, TableKind::Identity, finding),
+        "assembly" => has_other_keys_within(value, TableKind::Assembly, finding),
+        "ledger" => has_other_keys_within(value, TableKind::Ledger, finding),
+        "commands" => has_other_keys_within(value, TableKind::Commands, finding),
+        "access" => has_other_keys_within(value, TableKind::Access, finding),
+        "tcp_ip" => has_other_keys_within(value, TableKind::TcpIp, finding),
+        "ethernet_link" => has_other_keys_within(value, TableKind::EthernetLink, finding),
+        "object" => has_other_keys_in_objects(value, finding),
+        name => {
+            finding.enter_text();
+            !TableKind::Text.knows(name) || has_key(value)
+        }
     }
 }
 
 /// Whether a value has a key that is unknown in this kind of table: in the table itself, or in the tables of an array.
-fn has_other_keys_within(value: &Value, kind: TableKind) -> bool
+fn has_other_keys_within(value: &Value, kind: TableKind, finding: &mut Finding) -> bool
     ensures { result ≡ has_other_keys_within (keys_of kind) (view value.now) }
 {
+    kind.enter(finding);
     match value {
-        Value::Array(values) => any_has_other_keys(values.as_slice(), kind),
+        Value::Array(values) => any_has_other_keys(values.as_slice(), kind, finding),
         _ => has_other_keys(value, kind),
     }
 }
 
 /// Whether one of these values has an unknown key.
-fn any_has_other_keys(values: &[Value], kind: TableKind) -> bool
+fn any_has_other_keys(values: &[Value], kind: TableKind, finding: &mut Finding) -> bool
     ensures { result ≡ list_any (λ value. has_other_keys (keys_of kind) (view value)) values.now }
 {
     for value in values {
         if has_other_keys(value, kind) {
             return true;
         }
+        finding.enter_next();
     }
     false
 }
@@ -241,43 +283,46 @@ fn are_other_keys(table: &Table, kind: TableKind) -> bool
 }
 
 /// Whether the value of `object` has an unknown key, at any depth: in a table, or in the tables of an array.
-fn has_other_keys_in_objects(value: &Value) -> bool
+fn has_other_keys_in_objects(value: &Value, finding: &mut Finding) -> bool
     ensures { result ≡ has_other_keys_in_objects (view value.now) }
 {
+    TableKind::Object.enter(finding);
     match value {
-        Value::Array(values) => any_object_has_other_keys(values.as_slice()),
-        _ => object_has_other_keys(value),
+        Value::Array(values) => any_object_has_other_keys(values.as_slice(), finding),
+        _ => object_has_other_keys(value, finding),
     }
 }
 
 /// Whether one of these objects has an unknown key.
-fn any_object_has_other_keys(values: &[Value]) -> bool
+fn any_object_has_other_keys(values: &[Value], finding: &mut Finding) -> bool
     ensures { result ≡ list_any (λ value. object_has_other_keys (view value)) values.now }
 {
     for value in values {
-        if object_has_other_keys(value) {
+        if object_has_other_keys(value, finding) {
             return true;
         }
+        finding.enter_object();
+        finding.enter_next();
     }
     false
 }
 
 /// Whether an object has an unknown key.
-fn object_has_other_keys(value: &Value) -> bool
+fn object_has_other_keys(value: &Value, finding: &mut Finding) -> bool
     ensures { result ≡ object_has_other_keys (view value.now) }
 {
     match value {
-        Value::Table(table) => are_other_object_keys(table),
+        Value::Table(table) => are_other_object_keys(table, finding),
         _ => has_key(value),
     }
 }
 
 /// Whether a table `object` has an unknown key.
-fn are_other_object_keys(table: &Table) -> bool
+fn are_other_object_keys(table: &Table, finding: &mut Finding) -> bool
     ensures { result ≡ are_other_object_keys (table_view table.now) }
 {
     for (key, value) in table.iter() {
-        if is_unknown_in_object(key.as_str(), value) {
+        if is_unknown_in_object(key.as_str(), value, finding) {
             return true;
         }
     }
@@ -285,19 +330,55 @@ fn are_other_object_keys(table: &Table) -> bool
 }
 
 /// Whether a key of a table `object` is unknown, or one within its value.
-fn is_unknown_in_object(key: &str, value: &Value) -> bool
+fn is_unknown_in_object(key: &str, value: &Value, finding: &mut Finding) -> bool
     ensures { result ≡ is_unknown_in_object key.now (view value.now) }
 {
     match key {
-        "attribute" => has_other_keys_within(value, TableKind::Attribute),
-        "service" => has_other_keys_within(value, TableKind::Service),
-        name => !TableKind::Object.knows(name) || has_key(value),
+        "attribute" => has_other_keys_within(value, TableKind::Attribute, finding),
+        "service" => has_other_keys_within(value, TableKind::Service, finding),
+        name => {
+            finding.enter_object();
+            !TableKind::Object.knows(name) || has_key(value)
+        }
+    }
+}
+
+/// The first key of a table that is unknown there, or has keys within, and whether it is known.
+pub(crate) fn first_other_key(table: &Table, place: Place) -> Option<(&str, bool)> {
+    let kind = TableKind::of(place);
+    for (key, value) in table.iter() {
+        let key = key.as_str();
+        let is_known = kind.knows(key);
+        if !is_table_name(place, key) && (!is_known || has_key(value)) {
+            return Some((key, is_known));
+        }
+    }
+    None
+}
+
+/// Whether a table has tables of this name, which have keys of their own.
+fn is_table_name(place: Place, name: &str) -> bool {
+    match place {
+        Place::Text => matches!(
+            name,
+            "counter"
+                | "identity"
+                | "assembly"
+                | "ledger"
+                | "commands"
+                | "access"
+                | "tcp_ip"
+                | "ethernet_link"
+                | "object"
+        ),
+        Place::Table("object", _) => name == "attribute" || name == "service",
+        Place::Table(..) | Place::Part(..) => false,
     }
 }
 
 /// Whether a value has a key within it, at any depth.
 #[cycle(keys)]
-pub fn has_key(value: &Value) -> bool
+fn has_key(value: &Value) -> bool
     ensures { result ≡ has_key (view value.now) }
 {
     match value {

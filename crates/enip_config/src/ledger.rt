@@ -9,6 +9,7 @@ ghost use Rattle.enip_config.specs.Documents.{IsUnread, ledger_seen};
 use crate::key::{LIFE, ORIGINATORS};
 use crate::values::number_by;
 use attribute_types::{BAD_VALUE, value_of};
+use config_explained::Finding;
 use config_refusal::LoadFault;
 use toml::{Table, Value};
 
@@ -22,18 +23,22 @@ pub struct LedgerConfig {
 }
 
 /// Reads the table `ledger`. `None` if it is left out.
-pub(crate) fn ledger_of(text: &Table) -> Result<Option<LedgerConfig>, LoadFault>
+pub(crate) fn ledger_of(
+    text: &Table,
+    finding: &mut Finding,
+) -> Result<Option<LedgerConfig>, LoadFault>
     ensures read { IfOk result (λ ledger. ledger_of (table_view text.now) ≡ Some (option_map ledger_seen ledger)) }
     ensures refused { IfErr result (IsUnread (table_view text.now)) }
 {
+    finding.enter_table("ledger");
     match value_of(text, "ledger") {
         None => Ok(None),
-        Some(value) => Ok(Some(ledger_in(value)?)),
+        Some(value) => Ok(Some(ledger_in(value, finding)?)),
     }
 }
 
 /// Reads a value as a table `ledger`.
-fn ledger_in(value: &Value) -> Result<LedgerConfig, LoadFault>
+fn ledger_in(value: &Value, finding: &mut Finding) -> Result<LedgerConfig, LoadFault>
     ensures read { IfOk result (λ ledger. ledger_in (view value.now) ≡ Some (ledger_seen ledger)) }
     ensures refused { IfErr result (IsBad (ledger_in (view value.now))) }
 {
@@ -41,7 +46,7 @@ fn ledger_in(value: &Value) -> Result<LedgerConfig, LoadFault>
         return Err(BAD_VALUE);
     };
     Ok(LedgerConfig {
-        originators: number_by(table, ORIGINATORS)?,
-        life: number_by(table, LIFE)?,
+        originators: number_by(table, ORIGINATORS, finding)?,
+        life: number_by(table, LIFE, finding)?,
     })
 }

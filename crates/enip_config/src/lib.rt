@@ -12,10 +12,10 @@
 //!   (`specs/Interfaces.antt`).
 //! - The table `access` has the rules of `enip_access`: who may connect, and who may change something
 //!   (`specs/Access.antt`).
-//! - [`rules`] has the rules that say more of a configuration than whether it is read.
+//! - [`Configuration::explained`] says what is wrong with a refused configuration, and in which line. The readers keep a
+//!   finding of `config_explained`: where they are, and what they look for there. It has no part in what they read.
 //!
-//! `config_explained` says what is wrong with a refused configuration, and in which line. `configured_adapter` makes the
-//! adapter of a configuration.
+//! `configured_adapter` makes the adapter of a configuration.
 #![tactic(auto)]
 
 mod access;
@@ -23,6 +23,7 @@ mod assemblies;
 mod commands;
 mod configuration;
 mod example;
+mod explained;
 mod interfaces;
 mod key;
 mod known;
@@ -30,15 +31,17 @@ mod ledger;
 mod message_router;
 mod object_types;
 mod objects;
-pub mod rules;
+mod objects_fault;
 mod standard;
 mod values;
 mod width;
 
 pub use attribute_types::AttributeType;
+pub use config_explained::{ExplainedFault, Explanation};
 pub use config_refusal::{ConfigurationRefusal, LoadFault};
 pub use configuration::Configuration;
 pub use example::EXAMPLE;
 pub use interfaces::NamedInterfaces;
 pub use key::NumberKey;
 pub use ledger::LedgerConfig;
+pub use objects_fault::fault_of_objects;

@@ -10,6 +10,7 @@ ghost use Rattle.enip_config.specs.RouterObject.{router_wanted, with_router, Has
 use crate::standard::all_objects_of;
 use crate::values::flag_of;
 use cip_application::{MessageRouter, OBJECT_LIMIT, ObjectConfig};
+use config_explained::Finding;
 use config_refusal::LoadFault;
 use std::alloc::{AllocError, Global};
 use toml::Table;
@@ -20,24 +21,26 @@ pub(crate) fn objects_with_router(
     alloc: Global,
     text: &Table,
     router: MessageRouter,
+    finding: &mut Finding,
 ) -> Result<Vec<ObjectConfig>, LoadFault>
     ensures read { IfOk result (λ objects. HasAllObjects (table_view text.now) router objects.items) }
     ensures refused { IfErr result (IsUnread (table_view text.now)) }
 {
     // What needs no memory comes first: nothing has to be dropped if it is refused.
-    let wanted = router_wanted(text)?;
-    let mut objects = all_objects_of(alloc, text)?;
+    let wanted = router_wanted(text, finding)?;
+    let mut objects = all_objects_of(alloc, text, finding)?;
     push_router(alloc, wanted, router, &mut objects)?;
     Ok(objects)
 }
 
 /// Whether the device has the Message Router as an object. False if the key is left out.
 #[tactic(auto, using(crate::proofs::RouterLemmas::unread_router))]
-fn router_wanted(text: &Table) -> Result<bool, LoadFault>
+fn router_wanted(text: &Table, finding: &mut Finding) -> Result<bool, LoadFault>
     ensures read { IfOk result (λ wanted. router_wanted (table_view text.now) ≡ Some wanted) }
     ensures refused { IfErr result (IsUnread (table_view text.now)) }
 {
-    flag_of(text, "message_router", false)
+    finding.enter_text();
+    flag_of(text, "message_router", false, finding)
 }
 
 /// Adds the Message Router to the other objects, if it is wanted.

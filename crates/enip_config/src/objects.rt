@@ -19,6 +19,7 @@ use attribute_types::{BAD_VALUE, number_in, typed_in, value_of};
 use cip_application::{
     AttributeConfig, GET_RESULT, ObjectConfig, QUEUED_REPLY_LIMIT, ServiceConfig, ServiceKind,
 };
+use config_explained::{Expected, Finding};
 use config_refusal::LoadFault;
 use std::alloc::Global;
 use toml::{Table, Value};
@@ -39,32 +40,45 @@ const RESULT_SERVICE: ServiceConfig = ServiceConfig {
 };
 
 /// Reads the own objects, in the order of the file. Empty if the key is left out.
-pub(crate) fn objects_of(alloc: Global, text: &Table) -> Result<Vec<ObjectConfig>, LoadFault>
+pub(crate) fn objects_of(
+    alloc: Global,
+    text: &Table,
+    finding: &mut Finding,
+) -> Result<Vec<ObjectConfig>, LoadFault>
     ensures read { IfOk result (λ objects. objects_of (table_view text.now) ≡ Some (map object_seen objects.items)) }
     ensures refused { IfErr result (IsBadOrMemory (objects_of (table_view text.now))) }
 {
+    finding.enter_text();
+    finding.expect("object", Expected::Tables);
     match value_of(text, "object") {
         None => Ok(Vec::new(alloc)),
-        Some(Value::Array(values)) => each_object(alloc, values.as_slice()),
+        Some(Value::Array(values)) => each_object(alloc, values.as_slice(), finding),
         Some(_) => Err(BAD_VALUE),
     }
 }
 
 /// Reads each value as an object.
-fn each_object(alloc: Global, values: &[Value]) -> Result<Vec<ObjectConfig>, LoadFault>
+fn each_object(
+    alloc: Global,
+    values: &[Value],
+    finding: &mut Finding,
+) -> Result<Vec<ObjectConfig>, LoadFault>
     ensures read { IfOk result (λ objects. each object_in (items_view values.now)
         ≡ Some (map object_seen objects.items)) }
     ensures refused { IfErr result (IsBadOrMemory (each object_in (items_view values.now))) }
 {
     let mut objects = Vec::new(alloc);
+    finding.enter_table("object");
     for value in values {
-        objects.push(object_of(alloc, value)?)?;
+        objects.push(object_of(alloc, value, finding)?)?;
+        finding.enter_object();
+        finding.enter_next();
     }
     Ok(objects)
 }
 
 /// Reads one table `object`.
-fn object_of(alloc: Global, value: &Value) -> Result<ObjectConfig, LoadFault>
+fn object_of(alloc: Global, value: &Value, finding: &mut Finding) -> Result<ObjectConfig, LoadFault>
     ensures read { IfOk result (λ object. object_in (view value.now) ≡ Some (object_seen object)) }
     ensures refused { IfErr result (IsBadOrMemory (object_in (view value.now))) }
 {
@@ -72,21 +86,22 @@ fn object_of(alloc: Global, value: &Value) -> Result<ObjectConfig, LoadFault>
         return Err(BAD_VALUE);
     };
     Ok(ObjectConfig {
-        class: number_by(table, CLASS)?,
-        instance: number_by(table, INSTANCE)?,
+        class: number_by(table, CLASS, finding)?,
+        instance: number_by(table, INSTANCE, finding)?,
         standard: false,
-        name: name_of(table)?,
-        attributes: attributes_of(alloc, table)?,
-        services: services_of(alloc, table)?,
-        lists: flag_of(table, "lists", false)?,
+        name: name_of(table, finding)?,
+        lists: flag_of(table, "lists", false, finding)?,
+        attributes: attributes_of(alloc, table, finding)?,
+        services: services_of(alloc, table, finding)?,
     })
 }
 
 /// The name of an object, if it has one.
-fn name_of(table: &Table) -> Result<Option<String>, LoadFault>
+fn name_of(table: &Table, finding: &mut Finding) -> Result<Option<String>, LoadFault>
     ensures read { IfOk result (λ name. object_name (table_view table.now) ≡ Some (option_map string_bytes name)) }
     ensures refused { IfErr result (IsBadOrMemory (object_name (table_view table.now))) }
 {
+    finding.expect("name", Expected::String);
     match value_of(table, "name") {
         None => Ok(None),
         Some(Value::String(name)) => Ok(Some(name.clone()?)),
@@ -95,43 +110,61 @@ fn name_of(table: &Table) -> Result<Option<String>, LoadFault>
 }
 
 /// Reads the attributes of an object, in the order of the file. Empty if the key is left out.
-fn attributes_of(alloc: Global, table: &Table) -> Result<Vec<AttributeConfig>, LoadFault>
+fn attributes_of(
+    alloc: Global,
+    table: &Table,
+    finding: &mut Finding,
+) -> Result<Vec<AttributeConfig>, LoadFault>
     ensures read { IfOk result (λ attributes. attributes_of (table_view table.now)
         ≡ Some (map attribute_seen attributes.items)) }
     ensures refused { IfErr result (IsBadOrMemory (attributes_of (table_view table.now))) }
 {
+    finding.expect("attribute", Expected::Tables);
     match value_of(table, "attribute") {
         None => Ok(Vec::new(alloc)),
-        Some(Value::Array(values)) => each_attribute(alloc, values.as_slice()),
+        Some(Value::Array(values)) => each_attribute(alloc, values.as_slice(), finding),
         Some(_) => Err(BAD_VALUE),
     }
 }
 
 /// Reads each value as an attribute.
-fn each_attribute(alloc: Global, values: &[Value]) -> Result<Vec<AttributeConfig>, LoadFault>
+fn each_attribute(
+    alloc: Global,
+    values: &[Value],
+    finding: &mut Finding,
+) -> Result<Vec<AttributeConfig>, LoadFault>
     ensures read { IfOk result (λ attributes. each attribute_in (items_view values.now)
         ≡ Some (map attribute_seen attributes.items)) }
     ensures refused { IfErr result (IsBadOrMemory (each attribute_in (items_view values.now))) }
 {
     let mut attributes = Vec::new(alloc);
+    finding.enter_part("attribute");
     for value in values {
-        attributes.push(attribute_of(alloc, value)?)?;
+        attributes.push(attribute_of(alloc, value, finding)?)?;
+        finding.enter_next();
     }
     Ok(attributes)
 }
 
 /// Reads one table `object.attribute`.
-fn attribute_of(alloc: Global, value: &Value) -> Result<AttributeConfig, LoadFault>
+fn attribute_of(
+    alloc: Global,
+    value: &Value,
+    finding: &mut Finding,
+) -> Result<AttributeConfig, LoadFault>
     ensures read { IfOk result (λ attribute. attribute_in (view value.now) ≡ Some (attribute_seen attribute)) }
     ensures refused { IfErr result (IsBadOrMemory (attribute_in (view value.now))) }
 {
     let Value::Table(table) = value else {
         return Err(BAD_VALUE);
     };
-    let number = number_by(table, ATTRIBUTE_NUMBER)?;
-    let settable = flag_of(table, "settable", false)?;
-    let checked = flag_of(table, "checked", false)?;
-    let typed = typed_in(alloc, table)?;
+    let number = number_by(table, ATTRIBUTE_NUMBER, finding)?;
+    let settable = flag_of(table, "settable", false, finding)?;
+    let checked = flag_of(table, "checked", false, finding)?;
+    finding.expect("type", Expected::String);
+    let mut fault = None;
+    let typed = typed_in(alloc, table, &mut fault)?;
+    finding.add_type(fault);
     Ok(AttributeConfig {
         number,
         kind: typed.kind,
@@ -143,12 +176,16 @@ fn attribute_of(alloc: Global, value: &Value) -> Result<AttributeConfig, LoadFau
 
 /// Reads the own services of an object. If one of them is queued, Get_Result is added.
 #[tactic(auto, using(crate::proofs::CommandLemmas::without_queued, crate::proofs::CommandLemmas::with_queued, crate::proofs::CommandLemmas::bad_services))]
-fn services_of(alloc: Global, table: &Table) -> Result<Vec<ServiceConfig>, LoadFault>
+fn services_of(
+    alloc: Global,
+    table: &Table,
+    finding: &mut Finding,
+) -> Result<Vec<ServiceConfig>, LoadFault>
     ensures read { IfOk result (λ services. services_of (table_view table.now)
         ≡ Some (map service_seen services.items)) }
     ensures refused { IfErr result (IsBadOrMemory (services_of (table_view table.now))) }
 {
-    let mut services = described_services(alloc, table)?;
+    let mut services = described_services(alloc, table, finding)?;
     if !has_queued_service(&services) {
         return Ok(services);
     }
@@ -157,43 +194,56 @@ fn services_of(alloc: Global, table: &Table) -> Result<Vec<ServiceConfig>, LoadF
 }
 
 /// Reads the services that are described, in the order of the file. Empty if the key is left out.
-fn described_services(alloc: Global, table: &Table) -> Result<Vec<ServiceConfig>, LoadFault>
+fn described_services(
+    alloc: Global,
+    table: &Table,
+    finding: &mut Finding,
+) -> Result<Vec<ServiceConfig>, LoadFault>
     ensures read { IfOk result (λ services. described_services (table_view table.now)
         ≡ Some (map service_seen services.items)) }
     ensures refused { IfErr result (IsBadOrMemory (described_services (table_view table.now))) }
 {
+    finding.enter_object();
+    finding.expect("service", Expected::Tables);
     match value_of(table, "service") {
         None => Ok(Vec::new(alloc)),
-        Some(Value::Array(values)) => each_service(alloc, values.as_slice()),
+        Some(Value::Array(values)) => each_service(alloc, values.as_slice(), finding),
         Some(_) => Err(BAD_VALUE),
     }
 }
 
 /// Reads each value as a service.
-fn each_service(alloc: Global, values: &[Value]) -> Result<Vec<ServiceConfig>, LoadFault>
+fn each_service(
+    alloc: Global,
+    values: &[Value],
+    finding: &mut Finding,
+) -> Result<Vec<ServiceConfig>, LoadFault>
     ensures read { IfOk result (λ services. each service_in (items_view values.now)
         ≡ Some (map service_seen services.items)) }
     ensures refused { IfErr result (IsBadOrMemory (each service_in (items_view values.now))) }
 {
     let mut services = Vec::new(alloc);
+    finding.enter_part("service");
     for value in values {
-        services.push(service_of(value)?)?;
+        services.push(service_of(value, finding)?)?;
+        finding.enter_next();
     }
     Ok(services)
 }
 
 /// Reads one table `object.service`.
-fn service_of(value: &Value) -> Result<ServiceConfig, LoadFault>
+fn service_of(value: &Value, finding: &mut Finding) -> Result<ServiceConfig, LoadFault>
     ensures read { IfOk result (λ service. service_in (view value.now) ≡ Some (service_seen service)) }
     ensures refused { IfErr result (IsBad (service_in (view value.now))) }
 {
     let Value::Table(table) = value else {
         return Err(BAD_VALUE);
     };
-    let number = number_by(table, SERVICE_NUMBER)?;
+    let number = number_by(table, SERVICE_NUMBER, finding)?;
+    finding.expect("size", Expected::Sizes);
     let (least, most) = sizes_from(value_of(table, "size"), value_of(table, "sizes"))?;
-    let reply = number_by(table, REPLY)?;
-    let kind = kind_by(table)?;
+    let reply = number_by(table, REPLY, finding)?;
+    let kind = kind_by(table, finding)?;
     Ok(ServiceConfig {
         number,
         least,
@@ -204,11 +254,11 @@ fn service_of(value: &Value) -> Result<ServiceConfig, LoadFault>
 }
 
 /// How a service is executed, by its key `queued`.
-fn kind_by(table: &Table) -> Result<ServiceKind, LoadFault>
+fn kind_by(table: &Table, finding: &mut Finding) -> Result<ServiceKind, LoadFault>
     ensures read { IfOk result (λ kind. kind_by (table_view table.now) ≡ Some kind) }
     ensures refused { IfErr result (IsBad (kind_by (table_view table.now))) }
 {
-    if flag_of(table, "queued", false)? {
+    if flag_of(table, "queued", false, finding)? {
         Ok(ServiceKind::Queued)
     } else {
         Ok(ServiceKind::Asked)

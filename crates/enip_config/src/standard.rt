@@ -23,6 +23,7 @@ use attribute_types::{BAD_VALUE, value_of};
 use cip_application::{
     DOMAIN_LIMIT, EthernetLink, HOST_LIMIT, LABEL_LIMIT, ObjectConfig, TcpIpInterface,
 };
+use config_explained::{Expected, Finding};
 use config_refusal::LoadFault;
 use std::alloc::{AllocError, Global};
 use toml::{Table, Value};
@@ -33,14 +34,18 @@ const NO_ADDRESS: [u8; 4] = [0; 4];
 /// Reads the own objects, in the order of the file, and the objects of the tables `tcp_ip` and `ethernet_link` after
 /// them.
 #[tactic(auto, using(crate::proofs::StandardLemmas::unread_interface, crate::proofs::StandardLemmas::unread_link, crate::proofs::StandardLemmas::unread_objects))]
-pub(crate) fn all_objects_of(alloc: Global, text: &Table) -> Result<Vec<ObjectConfig>, LoadFault>
+pub(crate) fn all_objects_of(
+    alloc: Global,
+    text: &Table,
+    finding: &mut Finding,
+) -> Result<Vec<ObjectConfig>, LoadFault>
     ensures read { IfOk result (λ objects. all_objects_of (table_view text.now) ≡ Some (map object_seen objects.items)) }
     ensures refused { IfErr result (IsUnread (table_view text.now)) }
 {
     // What needs no memory comes first: nothing has to be dropped if one of it is refused.
-    let interface = interface_of(text)?;
-    let link = link_of(text)?;
-    let mut objects = objects_of(alloc, text)?;
+    let interface = interface_of(text, finding)?;
+    let link = link_of(text, finding)?;
+    let mut objects = objects_of(alloc, text, finding)?;
     push_interface(alloc, interface, &mut objects)?;
     push_link(alloc, link, &mut objects)?;
     Ok(objects)
@@ -79,20 +84,27 @@ fn push_link(
 }
 
 /// Reads the table `tcp_ip`. `None` if it is left out.
-fn interface_of(text: &Table) -> Result<Option<TcpIpInterface<'_>>, LoadFault>
+fn interface_of<'a>(
+    text: &'a Table,
+    finding: &mut Finding,
+) -> Result<Option<TcpIpInterface<'a>>, LoadFault>
     ensures read { IfOk result (λ interface. interface_of (table_view text.now)
         ≡ Some (option_map interface_seen interface)) }
     ensures short { IfOk result (λ interface. IfSome interface HasShortTexts) }
     ensures refused { IfErr result (IsBad (interface_of (table_view text.now))) }
 {
+    finding.enter_table("tcp_ip");
     match value_of(text, "tcp_ip") {
         None => Ok(None),
-        Some(value) => Ok(Some(interface_in(value)?)),
+        Some(value) => Ok(Some(interface_in(value, finding)?)),
     }
 }
 
 /// Reads a value as a table `tcp_ip`.
-fn interface_in(value: &Value) -> Result<TcpIpInterface<'_>, LoadFault>
+fn interface_in<'a>(
+    value: &'a Value,
+    finding: &mut Finding,
+) -> Result<TcpIpInterface<'a>, LoadFault>
     ensures read { IfOk result (λ interface. interface_in (view value.now) ≡ Some (interface_seen interface)) }
     ensures short { IfOk result HasShortTexts }
     ensures refused { IfErr result (IsBad (interface_in (view value.now))) }
@@ -100,13 +112,13 @@ fn interface_in(value: &Value) -> Result<TcpIpInterface<'_>, LoadFault>
     let Value::Table(table) = value else {
         return Err(BAD_VALUE);
     };
-    let address = own_address(table, "address")?;
-    let mask = own_address(table, "mask")?;
-    let gateway = optional_address(table, "gateway")?;
-    let (name_server, second_name_server) = name_servers(table)?;
-    let domain = text_by(table, "domain", DOMAIN_LIMIT)?;
-    let host = text_by(table, "host", HOST_LIMIT)?;
-    let inactivity_timeout = number_by(table, INACTIVITY_TIMEOUT)?;
+    let address = own_address(table, "address", finding)?;
+    let mask = own_address(table, "mask", finding)?;
+    let gateway = optional_address(table, "gateway", finding)?;
+    let (name_server, second_name_server) = name_servers(table, finding)?;
+    let domain = text_by(table, "domain", DOMAIN_LIMIT, finding)?;
+    let host = text_by(table, "host", HOST_LIMIT, finding)?;
+    let inactivity_timeout = number_by(table, INACTIVITY_TIMEOUT, finding)?;
     Ok(TcpIpInterface {
         address,
         mask,
@@ -120,19 +132,23 @@ fn interface_in(value: &Value) -> Result<TcpIpInterface<'_>, LoadFault>
 }
 
 /// Reads the table `ethernet_link`. `None` if it is left out.
-fn link_of(text: &Table) -> Result<Option<EthernetLink<'_>>, LoadFault>
+fn link_of<'a>(
+    text: &'a Table,
+    finding: &mut Finding,
+) -> Result<Option<EthernetLink<'a>>, LoadFault>
     ensures read { IfOk result (λ link. link_of (table_view text.now) ≡ Some (option_map link_seen link)) }
     ensures short { IfOk result (λ link. IfSome link HasShortLabel) }
     ensures refused { IfErr result (IsBad (link_of (table_view text.now))) }
 {
+    finding.enter_table("ethernet_link");
     match value_of(text, "ethernet_link") {
         None => Ok(None),
-        Some(value) => Ok(Some(link_in(value)?)),
+        Some(value) => Ok(Some(link_in(value, finding)?)),
     }
 }
 
 /// Reads a value as a table `ethernet_link`.
-fn link_in(value: &Value) -> Result<EthernetLink<'_>, LoadFault>
+fn link_in<'a>(value: &'a Value, finding: &mut Finding) -> Result<EthernetLink<'a>, LoadFault>
     ensures read { IfOk result (λ link. link_in (view value.now) ≡ Some (link_seen link)) }
     ensures short { IfOk result HasShortLabel }
     ensures refused { IfErr result (IsBad (link_in (view value.now))) }
@@ -141,20 +157,25 @@ fn link_in(value: &Value) -> Result<EthernetLink<'_>, LoadFault>
         return Err(BAD_VALUE);
     };
     Ok(EthernetLink {
-        speed: number_by(table, SPEED)?,
-        flags: number_by(table, FLAGS)?,
-        physical_address: physical_address(table)?,
-        interface_type: number_by(table, INTERFACE_TYPE)?,
-        state: number_by(table, INTERFACE_STATE)?,
-        label: text_by(table, "label", LABEL_LIMIT)?,
+        speed: number_by(table, SPEED, finding)?,
+        flags: number_by(table, FLAGS, finding)?,
+        physical_address: physical_address(table, finding)?,
+        interface_type: number_by(table, INTERFACE_TYPE, finding)?,
+        state: number_by(table, INTERFACE_STATE, finding)?,
+        label: text_by(table, "label", LABEL_LIMIT, finding)?,
     })
 }
 
 /// The address of a key. It is required, unless the table names an interface of the system, which has it.
-fn own_address(table: &Table, name: &str) -> Result<[u8; 4], LoadFault>
+fn own_address(
+    table: &Table,
+    name: &'static str,
+    finding: &mut Finding,
+) -> Result<[u8; 4], LoadFault>
     ensures read { IfOk result (λ address. own_address name.now (table_view table.now) ≡ Some address) }
     ensures refused { IfErr result (IsBad (own_address name.now (table_view table.now))) }
 {
+    finding.expect(name, Expected::Address);
     match value_of(table, name) {
         None if has(table, "interface") => Ok(NO_ADDRESS),
         None => Err(BAD_VALUE),
@@ -163,10 +184,15 @@ fn own_address(table: &Table, name: &str) -> Result<[u8; 4], LoadFault>
 }
 
 /// The address of a key. Zeros if it is left out.
-fn optional_address(table: &Table, name: &str) -> Result<[u8; 4], LoadFault>
+fn optional_address(
+    table: &Table,
+    name: &'static str,
+    finding: &mut Finding,
+) -> Result<[u8; 4], LoadFault>
     ensures read { IfOk result (λ address. optional_address name.now (table_view table.now) ≡ Some address) }
     ensures refused { IfErr result (IsBad (optional_address name.now (table_view table.now))) }
 {
+    finding.expect(name, Expected::Address);
     match value_of(table, name) {
         None => Ok(NO_ADDRESS),
         Some(value) => address_in(value),
@@ -185,10 +211,11 @@ fn address_in(value: &Value) -> Result<[u8; 4], LoadFault>
 }
 
 /// The name servers: zeros for each that is left out.
-fn name_servers(table: &Table) -> Result<([u8; 4], [u8; 4]), LoadFault>
+fn name_servers(table: &Table, finding: &mut Finding) -> Result<([u8; 4], [u8; 4]), LoadFault>
     ensures read { IfOk result (λ servers. name_servers (table_view table.now) ≡ Some (servers.0, servers.1)) }
     ensures refused { IfErr result (IsBad (name_servers (table_view table.now))) }
 {
+    finding.expect("name_servers", Expected::NameServers);
     match value_of(table, "name_servers") {
         None => Ok((NO_ADDRESS, NO_ADDRESS)),
         Some(Value::Array(values)) => two_addresses(values.as_slice()),
@@ -210,10 +237,11 @@ fn two_addresses(values: &[Value]) -> Result<([u8; 4], [u8; 4]), LoadFault>
 }
 
 /// The MAC address. Zeros if it is left out.
-fn physical_address(table: &Table) -> Result<[u8; 6], LoadFault>
+fn physical_address(table: &Table, finding: &mut Finding) -> Result<[u8; 6], LoadFault>
     ensures read { IfOk result (λ address. physical_address (table_view table.now) ≡ Some address) }
     ensures refused { IfErr result (IsBad (physical_address (table_view table.now))) }
 {
+    finding.expect("physical_address", Expected::MacAddress);
     match value_of(table, "physical_address") {
         None => Ok([0; 6]),
         Some(Value::Array(values)) => six_bytes(values.as_slice()),
@@ -263,11 +291,17 @@ fn three_bytes(a: &Value, b: &Value, c: &Value) -> Result<Half, LoadFault>
 }
 
 /// The text of a key, of this many bytes at most. Nothing if it is left out.
-fn text_by<'a>(table: &'a Table, name: &str, most: usize) -> Result<&'a str, LoadFault>
+fn text_by<'a>(
+    table: &'a Table,
+    name: &'static str,
+    most: usize,
+    finding: &mut Finding,
+) -> Result<&'a str, LoadFault>
     ensures read { IfOk result (λ text. text_by name.now most (table_view table.now) ≡ Some text.now) }
     ensures short { IfOk result (λ text. length text.now ≤ most) }
     ensures refused { IfErr result (IsBad (text_by name.now most (table_view table.now))) }
 {
+    finding.expect(name, Expected::Text(most));
     match value_of(table, name) {
         None => Ok(""),
         Some(value) => text_in(value, most),
@@ -290,7 +324,7 @@ fn text_in(value: &Value, most: usize) -> Result<&str, LoadFault>
 }
 
 /// Whether a text has this many bytes at most, each of which can be printed.
-pub fn is_text(text: &[u8], most: usize) -> bool
+fn is_text(text: &[u8], most: usize) -> bool
     ensures { result ≡ is_text most text.now }
 {
     if text.len() > most {

@@ -12,16 +12,22 @@ ghost use Rattle.enip_config.specs.Documents.{IsUnread};
 use crate::key::{NumberKey, Row};
 use crate::width::Width;
 use attribute_types::{BAD_VALUE, number_in, value_of};
+use config_explained::{Expected, Finding};
 use config_refusal::LoadFault;
 use toml::{Table, Value};
 
 /// The number of a key in a table, or its default.
-pub(crate) fn number_by<N: Width>(table: &Table, key: Row) -> Result<N, LoadFault>
+pub(crate) fn number_by<N: Width>(
+    table: &Table,
+    key: Row,
+    finding: &mut Finding,
+) -> Result<N, LoadFault>
     requires fits { key.greatest ≤ N.most }
     requires default { IfSome key.default (λ n. n ≤ N.most) }
     ensures read { IfOk result (λ n. number_by (row_seen key) (table_view table.now) ≡ Some (N.number n)) }
     ensures refused { IfErr result (IsBad (number_by (row_seen key) (table_view table.now))) }
 {
+    finding.expect(key.name, Expected::Number(key.least, key.greatest));
     match value_of(table, key.name) {
         Some(value) => Ok(N::of(number_in(value, key.least, key.greatest)?)),
         None => default_of(key),
@@ -42,34 +48,46 @@ fn default_of<N: Width>(key: Row) -> Result<N, LoadFault>
 
 /// The number of a key, from the table that it belongs to.
 #[tactic(auto, using(crate::proofs::Refused::unread_table, crate::proofs::Refused::unread_in))]
-pub(crate) fn number<N: Width>(text: &Table, key: NumberKey) -> Result<N, LoadFault>
+pub(crate) fn number<N: Width>(
+    text: &Table,
+    key: NumberKey,
+    finding: &mut Finding,
+) -> Result<N, LoadFault>
     requires fits { (row key).greatest ≤ N.most }
     requires default { IfSome (row key).default (λ n. n ≤ N.most) }
     ensures read { IfOk result (λ n. number_of key (table_view text.now) ≡ Some (N.number n)) }
     ensures refused { IfErr result (IsUnread (table_view text.now)) }
 {
-    match table_with(text, key)? {
-        Some(table) => number_by(table, key.row()),
+    match table_with(text, key, finding)? {
+        Some(table) => number_by(table, key.row(), finding),
         None => default_of(key.row()),
     }
 }
 
 /// The table that a key belongs to. `None` if that table is left out.
-fn table_with(text: &Table, key: NumberKey) -> Result<Option<&Table>, LoadFault>
+fn table_with<'a>(
+    text: &'a Table,
+    key: NumberKey,
+    finding: &mut Finding,
+) -> Result<Option<&'a Table>, LoadFault>
     ensures read { IfOk result (λ found. table_with key (table_view text.now) ≡ Some (members_found found)) }
     ensures refused { IfErr result (IsBad (table_with key (table_view text.now))) }
 {
     match key {
-        NumberKey::CounterValue | NumberKey::CounterLimit => counter_table(text),
-        _ => Ok(Some(text)),
+        NumberKey::CounterValue | NumberKey::CounterLimit => counter_table(text, finding),
+        _ => {
+            finding.enter_text();
+            Ok(Some(text))
+        }
     }
 }
 
 /// The table `counter`. `None` if it is left out.
-fn counter_table(text: &Table) -> Result<Option<&Table>, LoadFault>
+fn counter_table<'a>(text: &'a Table, finding: &mut Finding) -> Result<Option<&'a Table>, LoadFault>
     ensures read { IfOk result (λ found. counter_table (table_view text.now) ≡ Some (members_found found)) }
     ensures refused { IfErr result (IsBad (counter_table (table_view text.now))) }
 {
+    finding.enter_table("counter");
     match value_of(text, "counter") {
         None => Ok(None),
         Some(value) => Ok(Some(value.as_table().ok_or(BAD_VALUE)?)),
@@ -77,10 +95,16 @@ fn counter_table(text: &Table) -> Result<Option<&Table>, LoadFault>
 }
 
 /// Whether the key with this name is true in a table, or the default if it is left out.
-pub(crate) fn flag_of(table: &Table, name: &str, default: bool) -> Result<bool, LoadFault>
+pub(crate) fn flag_of(
+    table: &Table,
+    name: &'static str,
+    default: bool,
+    finding: &mut Finding,
+) -> Result<bool, LoadFault>
     ensures read { IfOk result (λ flag. flag_of name.now default (table_view table.now) ≡ Some flag) }
     ensures refused { IfErr result (IsBad (flag_of name.now default (table_view table.now))) }
 {
+    finding.expect(name, Expected::Flag);
     match value_of(table, name) {
         None => Ok(default),
         Some(value) => value.as_bool().ok_or(BAD_VALUE),
@@ -88,21 +112,25 @@ pub(crate) fn flag_of(table: &Table, name: &str, default: bool) -> Result<bool, 
 }
 
 /// Whether the device has the counter. True if the table or the key is left out.
-pub(crate) fn counter_enabled(text: &Table) -> Result<bool, LoadFault>
+pub(crate) fn counter_enabled(text: &Table, finding: &mut Finding) -> Result<bool, LoadFault>
     ensures read { IfOk result (λ enabled. counter_enabled (table_view text.now) ≡ Some enabled) }
     ensures refused { IfErr result (IsUnread (table_view text.now)) }
 {
-    match counter_table(text)? {
+    match counter_table(text, finding)? {
         None => Ok(true),
-        Some(table) => flag_of(table, "enabled", true),
+        Some(table) => flag_of(table, "enabled", true, finding),
     }
 }
 
 /// The table `identity`. `None` if it is left out.
-fn identity_table(text: &Table) -> Result<Option<&Table>, LoadFault>
+fn identity_table<'a>(
+    text: &'a Table,
+    finding: &mut Finding,
+) -> Result<Option<&'a Table>, LoadFault>
     ensures read { IfOk result (λ found. identity_table (table_view text.now) ≡ Some (members_found found)) }
     ensures refused { IfErr result (IsBad (identity_table (table_view text.now))) }
 {
+    finding.enter_table("identity");
     match value_of(text, "identity") {
         None => Ok(None),
         Some(value) => Ok(Some(value.as_table().ok_or(BAD_VALUE)?)),
@@ -110,21 +138,23 @@ fn identity_table(text: &Table) -> Result<Option<&Table>, LoadFault>
 }
 
 /// Whether clients can reset the device. False if the table or the key is left out.
-pub(crate) fn reset_of(text: &Table) -> Result<bool, LoadFault>
+pub(crate) fn reset_of(text: &Table, finding: &mut Finding) -> Result<bool, LoadFault>
     ensures read { IfOk result (λ reset. reset_of (table_view text.now) ≡ Some reset) }
     ensures refused { IfErr result (IsUnread (table_view text.now)) }
 {
-    match identity_table(text)? {
+    match identity_table(text, finding)? {
         None => Ok(false),
-        Some(table) => flag_of(table, "reset", false),
+        Some(table) => flag_of(table, "reset", false, finding),
     }
 }
 
 /// The product name.
-pub(crate) fn name_of(text: &Table) -> Result<String, LoadFault>
+pub(crate) fn name_of(text: &Table, finding: &mut Finding) -> Result<String, LoadFault>
     ensures read { IfOk result (λ name. name_of (table_view text.now) ≡ Some (string_bytes name)) }
     ensures refused { IfErr result (IsUnread (table_view text.now)) }
 {
+    finding.enter_text();
+    finding.expect("name", Expected::String);
     match value_of(text, "name") {
         Some(Value::String(name)) => Ok(name.clone()?),
         _ => Err(BAD_VALUE),
@@ -132,10 +162,12 @@ pub(crate) fn name_of(text: &Table) -> Result<String, LoadFault>
 }
 
 /// The address that ListIdentity reports. 0.0.0.0 if it is left out.
-pub(crate) fn address_of(text: &Table) -> Result<[u8; 4], LoadFault>
+pub(crate) fn address_of(text: &Table, finding: &mut Finding) -> Result<[u8; 4], LoadFault>
     ensures read { IfOk result (λ address. address_of (table_view text.now) ≡ Some address) }
     ensures refused { IfErr result (IsUnread (table_view text.now)) }
 {
+    finding.enter_text();
+    finding.expect("address", Expected::Address);
     match value_of(text, "address") {
         None => Ok([0; 4]),
         Some(Value::Array(values)) => four_bytes(values.as_slice()),

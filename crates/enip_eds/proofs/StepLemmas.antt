@@ -1,6 +1,6 @@
 -- Lists that are written one item after another.
 use Rattle.std.proofs.Common.{◌≡◌, ℕ, ◌+◌, ◌<◌, ◌≤◌, List, [], ◌∷◌, ◌++◌, length, take, get_or, sym, ap, subst, ◌∙◌, arith}
-use Rattle.std.proofs.lemmas.List.{take_more, take_all, length-take-le}
+use Rattle.std.proofs.lemmas.List.{take_more, length-take-le}
 use Rattle.std.proofs.lemmas.List.{flat_map_more}
 use Rattle.std.specs.List.{flat_map}
 use Rattle.enip_eds.specs.Steps.{Written, written, Steps, More}
@@ -20,11 +20,6 @@ pub more_steps : {X : Type 0} (step : ℕ → X → Written → Written → Type
     → Steps step start (take (index + 1) items) after
 more_steps step items index item start before after inside is steps next =
     more_steps_at step items index item start before after inside steps (subst (λ x. step index x before after) is next)
-
--- All items were written.
-pub all_steps : {X : Type 0} (step : ℕ → X → Written → Written → Type 0) (items : List X) (index : ℕ) (start after : Written)
-    → length items ≤ index → Steps step start (take index items) after → Steps step start items after
-all_steps step items index start after done steps = subst (λ l. Steps step start l after) (take_all index items done) steps
 
 -- The same number and the same text.
 pub written_is : (next next' : ℕ) (text text' : List ℕ) → next ≡ next' → text ≡ text' → written next text ≡ written next' text'

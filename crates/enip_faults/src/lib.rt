@@ -3,10 +3,10 @@
 //!
 //! - A [`ProgramFault`] is about a line of the input, a file, a stream or memory. A [`LineFault`] says what is wrong with
 //!   the line.
-//! - A [`RequestFailure`] is about a request to a device, and a [`ReplayFailure`] about a replay.
-//! - A [`OnceRefusal`] says why a command that is executed once is not sent, a [`CommandFileFault`] or a [`RecordFault`]
-//!   what is wrong with its file, a [`LedgerRefusal`] what it means that a ledger refuses it, and a
-//!   [`WithdrawalRefusal`] what it means that a ledger refuses to withdraw it.
+//! - A [`ReplayFailure`] is about a replay.
+//! - A [`CommandFileFault`] or a [`RecordFault`] says what is wrong with the file of a command that is executed once, a
+//!   [`LedgerRefusal`] what it means that a ledger refuses the command, and a [`WithdrawalRefusal`] what it means that a
+//!   ledger refuses to withdraw it.
 //! - [`Digits`] prints bytes in hexadecimal.
 #![tactic(auto)]
 
@@ -15,9 +15,7 @@ mod digits;
 mod fault;
 mod ledger_refusal;
 mod line_fault;
-mod once_refusal;
 mod replay_failure;
-mod request_failure;
 mod withdrawal_refusal;
 
 pub use command_file_fault::{CommandFileFault, RecordFault};
@@ -25,7 +23,5 @@ pub use digits::Digits;
 pub use fault::ProgramFault;
 pub use ledger_refusal::LedgerRefusal;
 pub use line_fault::LineFault;
-pub use once_refusal::OnceRefusal;
 pub use replay_failure::ReplayFailure;
-pub use request_failure::RequestFailure;
 pub use withdrawal_refusal::WithdrawalRefusal;

@@ -6,7 +6,7 @@ ghost use Rattle.enip_keep.specs.Causes.{IsCause};
 ghost use Rattle.enip_keep.specs.Kept.{Kept, pairs_of, set_all, IsKeepable};
 ghost use Rattle.enip_keep.specs.Rounds.{without_round, round_in, round_bytes_in, are_of_device, is_whole, IsLoaded};
 
-use crate::entries::set_all;
+use crate::entries::{copy_all, set_all};
 use crate::rounds::{ROUND_KEY, are_of_device, is_whole, round_entry, round_in, with_entry};
 use crate::{Entry, KeepError, Keeper, Restart, StorageFault};
 use std::alloc::Global;
@@ -148,8 +148,9 @@ impl<K: Keeper + Drop, N: RoundNote + Drop> Keeper for Numbered<K, N> {
     ghost stays = { λ n sure up. stays_without (K.may_leave n.keeper) (K.kept n.keeper) (K.stays n.keeper sure up.0) };
 
     fn load(&mut self, alloc: Global) -> Result<Vec<Entry>, KeepError> {
-        let mut all = self.keeper.load(alloc)?;
-        all.retain(|entry| entry.key != ROUND_KEY);
+        // They were loaded at the start, and each commit has changed them as what is kept.
+        let mut all = Vec::new(alloc);
+        copy_all(alloc, &self.entries, &mut all)?;
         Ok(all)
     }
 

@@ -169,14 +169,6 @@ pub record Taking {S : Type 0} (does : LineEffect S) (chunk begun_before : List 
   pub taken : (bytes : List ℕ) (first : S) (from : Option (List ℕ)) → AreTaken does bytes begun_before number_before first old from before
       → AreTaken does (bytes ++ done) begun number first new from after
 
-pub none_done : {S : Type 0} (does : LineEffect S) (chunk begun : List ℕ) (number : ℕ) (state : S) (out : Option (List ℕ))
-    → Taking does chunk begun number state out chunk begun number state out
-none_done does chunk begun number state out = record {
-  done = [];
-  parts = refl;
-  taken = λ bytes first from taken. subst (λ (l : List ℕ). AreTaken does l begun number first state from out) (sym (append-nil bytes)) taken;
-}
-
 done_more : (done head tail : List ℕ) → done ++ (head ++ 10 ∷ tail) ≡ (done ++ (head ++ 10 ∷ [])) ++ tail
 done_more done head tail =
     sym (append_assoc done (head ++ 10 ∷ []) tail ∙ ap (λ (l : List ℕ). done ++ l) (append_assoc head (10 ∷ []) tail))
@@ -210,12 +202,6 @@ line_stops does refuses chunk begun_before number_before old mid new before betw
     (line_refused does refuses (bytes ++ t.done) begun head tail number first mid from between after (t.taken bytes first from taken) none so.1))
 line_stops does refuses chunk begun_before number_before old mid new before between after rest begun head tail left number Device t is none so bytes first from taken = tt
 line_stops does refuses chunk begun_before number_before old mid new before between after rest begun head tail left number Memory t is none so bytes first from taken = tt
-
-pub chunk_fails : {S : Type 0} (does : LineEffect S) (refuses : List ℕ → Type 0) (bytes left : List ℕ) (old new : S) (before after : Option (List ℕ)) (fault : ProgramFault)
-    → IsOfDevices fault → IsChunkTaken does refuses bytes left old new before after (Err fault)
-chunk_fails does refuses bytes left old new before after (Line n why) so = absurd so
-chunk_fails does refuses bytes left old new before after Device so = tt
-chunk_fails does refuses bytes left old new before after Memory so = tt
 
 -- No line ends in the rest of a chunk.
 pub chunk_done : {S : Type 0} (does : LineEffect S) (chunk begun_before : List ℕ) (number_before : ℕ) (old new : S)
@@ -299,12 +285,6 @@ refused_in does refuses None left bytes old before after number consumed r =
 refused_in does refuses (Some known) None bytes old before after number consumed r = absurd consumed
 refused_in does refuses (Some known) (Some rest) bytes old before after number consumed r =
     refused_with does refuses (Some known) bytes rest old before after number (sym consumed) r
-
-pub reading_fails : {S : Type 0} (does : LineEffect S) (refuses : List ℕ → Type 0) (input : Option (List ℕ)) (old new : S)
-    (before after : Option (List ℕ)) (fault : ProgramFault) → IsOfDevices fault → IsTakenToEnd does refuses input old new before after (Err fault)
-reading_fails does refuses input old new before after (Line n why) so = absurd so
-reading_fails does refuses input old new before after Device so = tt
-reading_fails does refuses input old new before after Memory so = tt
 
 stops_in : {S : Type 0} (does : LineEffect S) (refuses : List ℕ → Type 0) (input left : Option (List ℕ)) (bytes begun : List ℕ) (old new : S)
     (before after : Option (List ℕ)) (fault : ProgramFault) → Consumes input left bytes → IsChunkTaken does refuses bytes begun old new before after (Err fault)

@@ -115,11 +115,6 @@ pub nothing_read : (rest : Option (List ℕ)) → with_front [] rest ≡ rest
 nothing_read None = refl
 nothing_read (Some bytes) = refl
 
-pub byte_read : (front : List ℕ) (byte : ℕ) (rest : Option (List ℕ))
-    → with_front front (option_map (λ bytes. byte ∷ bytes) rest) ≡ with_front (front ++ byte ∷ []) rest
-byte_read front byte None = refl
-byte_read front byte (Some bytes) = ap Some (sym (append_assoc front (byte ∷ []) bytes))
-
 pub all_read : (front rest : List ℕ) → length rest ≡ 0 → with_front front (latin_bytes rest) ≡ Some front
 unfolding latin_bytes
 all_read front [] none = ap Some (append-nil front)

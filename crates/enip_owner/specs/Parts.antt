@@ -20,10 +20,6 @@ number_member name n = key name ∷ number (decimal n) ∷ []
 abbrev pub text_member : List ℕ → List ℕ → List Token
 text_member name text = key name ∷ string text ∷ []
 
-abbrev pub maybe_text : List ℕ → Option (List ℕ) → List Token
-maybe_text name None = []
-maybe_text name (Some text) = text_member name text
-
 -- The tokens of a part.
 abbrev pub part_tokens : Part → List Token
 part_tokens parts.Open = begin_object ∷ []

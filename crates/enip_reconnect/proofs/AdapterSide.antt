@@ -9,14 +9,14 @@ use Rattle.cip_bytes.specs.declared.protocol.Command.TheVariants.{RegisterSessio
 use Rattle.cip_bytes.specs.declared.protocol.TheConstants.{UNCONNECTED_LIMIT}
 use Rattle.cip_message.specs.PathReading.{path_of, class_of, instance_of, attribute_of, member_of, whole_of, segment_of}
 use Rattle.cip_message.specs.Request.{Request, request_of}
-use Rattle.cip_ledger.specs.declared.service.TheConstants as services
+use Rattle.cip_message.specs.declared.ledger_services.TheConstants as services
 use Rattle.cip_ledger.specs.Device.{exec_device, run, owned_standing}
 use Rattle.cip_ledger.specs.Runs.{Request as LedgerRequest, next, node_after}
 use Rattle.cip_ledger.proofs.Devices.{run-ends}
 use Rattle.cip_owner.specs.Owned.{OwnedState}
-use Rattle.cip_ledger.specs.Requests.{Command}
+use Rattle.cip_message.specs.LedgerCommand.{Command}
 use Rattle.cip_commander.specs.CommanderRule.{do_once}
-use Rattle.cip_commander.specs.Worlds.{Event, Other, BothEnds, ends_step}
+use Rattle.enip_reconnect.specs.Worlds.{Event, Other, BothEnds, ends_step}
 use Rattle.enip_wire.specs.Bodies.{rr_body_bytes, rr_body_of}
 use Rattle.enip_wire.specs.Frames.{Frame, frame, IsFrame, end_after}
 use Rattle.enip_wire.specs.Stream.{parsed, held_and_taken, bytes_taken, cleared}

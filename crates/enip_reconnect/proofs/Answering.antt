@@ -6,21 +6,22 @@ use Rattle.std.specs.List.{AllByRecursion}
 use Rattle.std.proofs.lemmas.Bool.{eq-eqb, lt-ltb, le-ltb}
 use Rattle.cip_bytes.specs.declared.protocol.TheConstants.{UNCONNECTED_LIMIT}
 use Rattle.cip_commander.specs.CommanderRule.{IsInRange, message_of, do_once}
-use Rattle.cip_commander.specs.Laws.{IsOthers, IsAmong, WasGiven, numbers_in}
-use Rattle.cip_commander.specs.NumberedWorld.{NumberedWorld, Entry, Own, IsDone, IsRefused, said_bytes, Arrival}
-use Rattle.cip_commander.specs.NumberedWorld.{Appended, Answered, Device, device_after, arrival, arrival_by, last_again, world_at, world_step}
+use Rattle.enip_reconnect.specs.CommanderLaws.{IsOthers, IsAmong, WasGiven, numbers_in}
+use Rattle.enip_reconnect.specs.NumberedWorld.{NumberedWorld, Entry, Own, IsDone, IsRefused, said_bytes, Arrival}
+use Rattle.enip_reconnect.specs.NumberedWorld.{Appended, Answered, Device, device_after, arrival, arrival_by, last_again, world_at, world_step}
 use Rattle.cip_commander.specs.Outcome.{Done, outcome_of_text}
-use Rattle.cip_commander.specs.Worlds.{BothEnds}
-use Rattle.cip_commander.specs.Worlds as messages
-use Rattle.cip_commander.proofs.Arrivals.{filled_by, IsPlaced, arrived_turn, arrival-turn}
-use Rattle.cip_commander.proofs.DoOnce.{IsCommand}
-use Rattle.cip_commander.proofs.Images.{IsSound, image, step-sound, opening-sound, worlds-image}
-use Rattle.cip_commander.proofs.Logged.{IsExecuted, after-logged}
-use Rattle.cip_commander.proofs.Numbered.{after-numbered}
-use Rattle.cip_commander.proofs.Rising.{all_second}
+use Rattle.enip_reconnect.specs.Worlds.{BothEnds}
+use Rattle.enip_reconnect.specs.Worlds as messages
+use Rattle.enip_reconnect.proofs.Arrivals.{filled_by, IsPlaced, arrived_turn, arrival-turn}
+use Rattle.enip_reconnect.proofs.DoOnce.{IsCommand}
+use Rattle.enip_reconnect.proofs.Images.{IsSound, image, step-sound, opening-sound, worlds-image}
+use Rattle.enip_reconnect.proofs.Logged.{IsExecuted, after-logged}
+use Rattle.enip_reconnect.proofs.Numbered.{after-numbered}
+use Rattle.enip_reconnect.proofs.Rising.{all_second}
 use Rattle.cip_ledger.specs.Device.{owned_standing}
 use Rattle.cip_ledger.specs.Ledger.{LedgerState}
-use Rattle.cip_ledger.specs.Requests.{Command, is_barred}
+use Rattle.cip_ledger.specs.Requests.{is_barred}
+use Rattle.cip_message.specs.LedgerCommand.{Command}
 use Rattle.cip_ledger.specs.Runs.{answer_to}
 use Rattle.cip_ledger.specs.Services.{KEPT_LIMIT, HEAD_SIZE}
 use Rattle.cip_ledger.proofs.Finals.{final-embedded}

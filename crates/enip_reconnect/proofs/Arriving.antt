@@ -5,11 +5,11 @@ use Rattle.std.specs.List.{slice_get}
 use Rattle.std.proofs.lemmas.Bool.{eqb-true, eqb-false}
 use Rattle.cip_bytes.specs.declared.protocol.TheConstants.{UNCONNECTED_LIMIT}
 use Rattle.cip_commander.specs.CommanderRule.{do_once}
-use Rattle.cip_commander.specs.Laws.{request_in}
-use Rattle.cip_commander.specs.Worlds.{BothEnds, ends_reach}
-use Rattle.cip_commander.specs.Worlds as messages
+use Rattle.enip_reconnect.specs.CommanderLaws.{request_in}
+use Rattle.enip_reconnect.specs.Worlds.{BothEnds, ends_reach}
+use Rattle.enip_reconnect.specs.Worlds as messages
 use Rattle.cip_ledger.specs.Device.{owned_standing}
-use Rattle.cip_ledger.specs.Requests.{Command}
+use Rattle.cip_message.specs.LedgerCommand.{Command}
 use Rattle.cip_owner.specs.Owned.{OwnedState}
 use Rattle.enip_adapter.specs.Calls.{AdapterState, Call, call_answer, after_call}
 use Rattle.enip_adapter.specs.DeviceRuns.{objects_after, objects_answer, requests_of_calls}

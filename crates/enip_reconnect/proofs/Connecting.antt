@@ -4,9 +4,9 @@ use Rattle.std.proofs.Common.{length, Result, Err, refl, ap, sym, ◌∙◌, sub
 use Rattle.std.proofs.lemmas.Bool.{eq-eqb}
 use Rattle.cip_bytes.specs.declared.protocol.TheConstants.{UNCONNECTED_LIMIT}
 use Rattle.cip_commander.specs.CommanderRule.{do_once, command_with, message_of}
-use Rattle.cip_commander.specs.Worlds as messages
+use Rattle.enip_reconnect.specs.Worlds as messages
 use Rattle.cip_ledger.specs.Laws.{IsOfAnother}
-use Rattle.cip_ledger.specs.Requests.{Command}
+use Rattle.cip_message.specs.LedgerCommand.{Command}
 use Rattle.enip_adapter.specs.Calls.{AdapterState, call_answer, after_call}
 use Rattle.enip_adapter.specs.SendRRData.{Executes, route_of}
 use Rattle.enip_adapter.specs.Turn.{Output}

@@ -2,14 +2,14 @@
 use Rattle.std.proofs.Common.{◌≡◌, ℕ, Some, List, [], map, ap, sym, ◌∙◌, subst, append-nil}
 use Rattle.std.specs.List.{slice_get, AllByRecursion}
 use Rattle.cip_commander.specs.CommanderRule.{CommanderState, IsInRange}
-use Rattle.cip_commander.specs.Laws.{IsExecutedOnce, Rises, WasGiven, executions_in}
-use Rattle.cip_commander.specs.NumberedWorld.{NumberedWorld}
-use Rattle.cip_commander.specs.Worlds as messages
-use Rattle.cip_commander.proofs.Images.{worlds-agree}
-use Rattle.cip_commander.proofs.Journals.{log-journal}
-use Rattle.cip_commander.proofs.Logged.{IsExecuted, after-logged, grows_above, once}
-use Rattle.cip_commander.proofs.Numbered.{after-numbered}
-use Rattle.cip_commander.proofs.Rising.{all_at, all_map}
+use Rattle.enip_reconnect.specs.CommanderLaws.{IsExecutedOnce, Rises, WasGiven, executions_in}
+use Rattle.enip_reconnect.specs.NumberedWorld.{NumberedWorld}
+use Rattle.enip_reconnect.specs.Worlds as messages
+use Rattle.enip_reconnect.proofs.Images.{worlds-agree}
+use Rattle.enip_reconnect.proofs.Journals.{log-journal}
+use Rattle.enip_reconnect.proofs.Logged.{IsExecuted, after-logged, grows_above, once}
+use Rattle.enip_reconnect.proofs.Numbered.{after-numbered}
+use Rattle.enip_reconnect.proofs.Rising.{all_at, all_map}
 use Rattle.cip_ledger.specs.Device.{Device, owned_standing}
 use Rattle.cip_ledger.specs.Runs.{journal}
 use Rattle.cip_owner.specs.Owned.{OwnedState}

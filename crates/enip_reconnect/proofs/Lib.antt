@@ -16,3 +16,13 @@ pub mod Retrying
 pub mod Steps
 pub mod Streams
 pub mod Tracking
+pub mod Arrivals
+pub mod DoOnce
+pub mod Filled
+pub mod Images
+pub mod Journals
+pub mod Logged
+pub mod Numbered
+pub mod OtherOriginators
+pub mod Rising
+pub mod Losses

@@ -5,14 +5,14 @@ use Rattle.std.specs.Prelude.{fold}
 use Rattle.std.specs.List.{slice_get, AllByRecursion}
 use Rattle.std.proofs.lemmas.List.Sums.{fold-append}
 use Rattle.cip_commander.specs.CommanderRule.{IsInRange}
-use Rattle.cip_commander.specs.Laws.{IsOthers, requests_of, request_of}
-use Rattle.cip_commander.specs.NumberedWorld.{NumberedWorld, world_at, world_step, world_reach, world_back, arrived}
-use Rattle.cip_commander.specs.NumberedWorld.{Arrival, Appended, Answered, Said, IsDone, IsRefused, said_of}
-use Rattle.cip_commander.specs.NumberedWorld.{device_after}
-use Rattle.cip_commander.specs.Worlds.{BothEnds, awaits}
-use Rattle.cip_commander.specs.Worlds as messages
-use Rattle.cip_commander.proofs.Images.{IsSound, image, step-image, step-sound, opening-sound}
-use Rattle.cip_commander.proofs.Rising.{all_append}
+use Rattle.enip_reconnect.specs.CommanderLaws.{IsOthers, requests_of, request_of}
+use Rattle.enip_reconnect.specs.NumberedWorld.{NumberedWorld, world_at, world_step, world_reach, world_back, arrived}
+use Rattle.enip_reconnect.specs.NumberedWorld.{Arrival, Appended, Answered, Said, IsDone, IsRefused, said_of}
+use Rattle.enip_reconnect.specs.NumberedWorld.{device_after}
+use Rattle.enip_reconnect.specs.Worlds.{BothEnds, awaits}
+use Rattle.enip_reconnect.specs.Worlds as messages
+use Rattle.enip_reconnect.proofs.Images.{IsSound, image, step-image, step-sound, opening-sound}
+use Rattle.enip_reconnect.proofs.Rising.{all_append}
 use Rattle.cip_ledger.specs.Device.{owned_standing}
 use Rattle.cip_owner.specs.Owned.{OwnedState}
 use Rattle.enip_adapter.specs.DeviceRuns.{objects_after, objects_answer, requests_of_calls}

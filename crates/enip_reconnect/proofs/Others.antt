@@ -3,9 +3,9 @@ use Rattle.std.proofs.Common.{◌≡◌, ◌≢◌, ℕ, Bool, true, false, not,
 use Rattle.std.proofs.Common.{List, [], ◌∷◌, ◌++◌, refl, ap, sym, ◌∙◌, append-nil}
 use Rattle.std.proofs.lemmas.Bool.{eqb-true, eqb-false}
 use Rattle.std.specs.List.{AllByRecursion}
-use Rattle.cip_commander.specs.Laws.{IsOthers, requests_of}
-use Rattle.cip_commander.specs.Worlds.{BothEnds}
-use Rattle.cip_commander.specs.Worlds as messages
+use Rattle.enip_reconnect.specs.CommanderLaws.{IsOthers, requests_of}
+use Rattle.enip_reconnect.specs.Worlds.{BothEnds}
+use Rattle.enip_reconnect.specs.Worlds as messages
 use Rattle.cip_ledger.specs.Device.{owned_standing}
 use Rattle.cip_ledger.specs.Laws.{IsOfAnother}
 use Rattle.cip_ledger.specs.Runs.{Request}

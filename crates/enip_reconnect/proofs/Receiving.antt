@@ -3,8 +3,8 @@ use Rattle.std.proofs.Common.{◌≡◌, ℕ, arith, length-append, Bool, true, 
 use Rattle.std.proofs.Common.{[], ◌∷◌, ◌++◌, length, take, drop, refl, ap, sym, ◌∙◌, subst, append_assoc, append-nil}
 use Rattle.std.proofs.lemmas.List.{take-append-drop}
 use Rattle.cip_commander.specs.CommanderRule.{outcome_of}
-use Rattle.cip_commander.specs.Worlds.{awaits}
-use Rattle.cip_commander.specs.Worlds as messages
+use Rattle.enip_reconnect.specs.Worlds.{awaits}
+use Rattle.enip_reconnect.specs.Worlds as messages
 use Rattle.enip_wire.specs.Frames.{Frame, frame, IsFrame}
 use Rattle.enip_client.specs.Client.{ClientState, Fed, fed}
 use Rattle.enip_client.specs.Frames.{request_frame}

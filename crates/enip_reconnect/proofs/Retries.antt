@@ -3,7 +3,7 @@ use Rattle.std.proofs.Common.{ℕ, Option, List, [], ◌∷◌, ap, sym, ◌∙�
 use Rattle.cip_bytes.specs.declared.protocol.TheConstants.{UNCONNECTED_LIMIT}
 use Rattle.cip_commander.specs.CommanderRule.{CommanderState, message_of}
 use Rattle.cip_commander.specs.Outcome.{Outcome, outcome_of_text}
-use Rattle.cip_commander.specs.Worlds.{BothEnds}
+use Rattle.enip_reconnect.specs.Worlds.{BothEnds}
 use Rattle.cip_ledger.specs.Device.{Device, exec_device}
 use Rattle.cip_owner.specs.Owned.{OwnedState}
 use Rattle.enip_adapter.proofs.SoundLemmas.{IsSound, sound-calls, sound-shared}

@@ -7,7 +7,7 @@ use Rattle.cip_commander.specs.CommanderRule.{do_once, command_with}
 use Rattle.cip_commander.specs.Outcome.{Done, outcome_of_text}
 use Rattle.cip_commander.specs.declared.refusal.TheConstants.{LONGEST_EMBEDDED}
 use Rattle.cip_ledger.specs.Device.{exec_device}
-use Rattle.cip_ledger.specs.Requests.{Command}
+use Rattle.cip_message.specs.LedgerCommand.{Command}
 use Rattle.enip_adapter.specs.Calls.{AdapterState, Call, call_answer, call_meaning, after_call}
 use Rattle.enip_adapter.specs.Calls.Call.{Feeds}
 use Rattle.enip_adapter.specs.Runs.{after_calls}

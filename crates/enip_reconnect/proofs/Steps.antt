@@ -3,9 +3,9 @@ use Rattle.std.proofs.Common.{◌≡◌, ℕ, Option, Some, List, [], ◌∷◌,
 use Rattle.std.specs.Prelude.{fold}
 use Rattle.std.specs.List.{AllByRecursion}
 use Rattle.cip_commander.specs.CommanderRule.{command_refusal}
-use Rattle.cip_commander.specs.Laws.{IsOthers, requests_of}
-use Rattle.cip_commander.specs.Worlds.{BothEnds, gives}
-use Rattle.cip_commander.specs.Worlds as messages
+use Rattle.enip_reconnect.specs.CommanderLaws.{IsOthers, requests_of}
+use Rattle.enip_reconnect.specs.Worlds.{BothEnds, gives}
+use Rattle.enip_reconnect.specs.Worlds as messages
 use Rattle.cip_ledger.specs.Device.{Device, owned_standing}
 use Rattle.cip_owner.specs.Owned.{OwnedState}
 use Rattle.enip_adapter.specs.Calls.{AdapterState, Call, after_call}

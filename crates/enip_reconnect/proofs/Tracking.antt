@@ -6,9 +6,9 @@ use Rattle.std.specs.Prelude.{⊤}
 use Rattle.std.specs.List.{slice_get}
 use Rattle.cip_bytes.specs.declared.protocol.TheConstants.{UNCONNECTED_LIMIT}
 use Rattle.cip_commander.specs.CommanderRule.{do_once}
-use Rattle.cip_commander.specs.Worlds.{BothEnds}
+use Rattle.enip_reconnect.specs.Worlds.{BothEnds}
 use Rattle.cip_ledger.specs.Laws.{IsOfAnother}
-use Rattle.cip_ledger.specs.Requests.{Command}
+use Rattle.cip_message.specs.LedgerCommand.{Command}
 use Rattle.cip_owner.specs.Owned.{OwnedState}
 use Rattle.enip_adapter.specs.declared.peer.Rights.TheVariants.{Write}
 use Rattle.enip_adapter.specs.declared.peer.Session.{Session}

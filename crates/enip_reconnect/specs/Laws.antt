@@ -4,11 +4,11 @@ use Rattle.std.specs.Prelude.{◌≡◌, ⊤, ℕ, Some, None, List, [], ◌∷�
 use Rattle.std.specs.List.{slice_get, AllByRecursion}
 use Rattle.cip_bytes.specs.declared.protocol.TheConstants.{UNCONNECTED_LIMIT}
 use Rattle.cip_commander.specs.CommanderRule.{CommanderState, IsInRange}
-use Rattle.cip_commander.specs.Laws.{IsOthers, requests_of, numbers_in, Rises, WasGiven, GrowsAbove, IsExecutedOnce}
-use Rattle.cip_commander.specs.Laws.{executions_in, executions_of}
-use Rattle.cip_commander.specs.NumberedWorld.{NumberedWorld, world_after, device_after, device_at as numbered_device_at}
-use Rattle.cip_commander.specs.Worlds.{BothEnds}
-use Rattle.cip_commander.specs.Worlds as messages
+use Rattle.enip_reconnect.specs.CommanderLaws.{IsOthers, requests_of, numbers_in, Rises, WasGiven, GrowsAbove, IsExecutedOnce}
+use Rattle.enip_reconnect.specs.CommanderLaws.{executions_in, executions_of}
+use Rattle.enip_reconnect.specs.NumberedWorld.{NumberedWorld, world_after, device_after, device_at as numbered_device_at}
+use Rattle.enip_reconnect.specs.Worlds.{BothEnds}
+use Rattle.enip_reconnect.specs.Worlds as messages
 use Rattle.cip_ledger.specs.Device.{owned_standing}
 use Rattle.cip_ledger.specs.Laws.{IsOfAnother}
 use Rattle.cip_ledger.specs.Runs.{Request, journal}

@@ -8,7 +8,8 @@ use Rattle.std.specs.Prelude.{Option, Some, None, is_some, Result, Ok, Err}
 use Rattle.cip_commander.specs.CommanderRule.{CommanderState, command_refusal, abandoned, pending_message, outcome_of}
 use Rattle.cip_commander.specs.CommanderRule.{after_outcome}
 use Rattle.cip_commander.specs.Outcome.{Outcome}
-use Rattle.cip_commander.specs.Worlds.{after_command, gives, sends, awaits, accepted_by}
+use Rattle.enip_reconnect.specs.Worlds.{gives, sends, awaits, accepted_by}
+use Rattle.cip_commander.specs.CommanderRule.{after_command}
 use Rattle.cip_ledger.specs.Device.{Device, device_of}
 use Rattle.cip_ledger.specs.Ledger.{empty_ledger}
 use Rattle.cip_objects.specs.Contents.{Contents}

@@ -10,7 +10,7 @@ ghost use Rattle.enip_reconnect.specs.Laws.{accepted_law, accepted_once_law, nev
 ghost use Rattle.enip_reconnect.specs.Retry.{retry_law};
 
 /// Whatever happens in bytes and frames is what happens in whole messages between a commander and a device, over which
-/// `cip_commander` has its laws: the same requests reach the device in the same order, the same commands are given, and
+/// `commander_laws` states laws: the same requests reach the device in the same order, the same commands are given, and
 /// the same replies are accepted. The laws below say what follows.
 pub fn runs_amount_to_messages()
     ensures { messages_law }

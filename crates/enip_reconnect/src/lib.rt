@@ -5,7 +5,10 @@
 //! flight lost or still arriving late, and other peers send what they like. Commands go as unconnected requests
 //! (SendRRData).
 //!
-//! [`laws`] states what follows. This crate has no other code.
+//! [`laws`] states what follows. [`commander_laws`] states it in whole messages, between a commander and any device with
+//! a ledger, and [`crash_laws`] for a client that crashes (`kept_commander`). This crate has no other code.
 #![tactic(auto)]
 
+pub mod commander_laws;
+pub mod crash_laws;
 pub mod laws;

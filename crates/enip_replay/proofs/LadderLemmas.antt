@@ -1,11 +1,8 @@
 use Rattle.std.proofs.Common.{ℕ, List, [], ◌++◌, Option, Result, Ok, Err, OnOk}
-use Rattle.std.proofs.KnownBytes.{Appends-nil, Appends-trans}
+use Rattle.std.proofs.KnownBytes.{Appends-trans}
 use Rattle.std.specs.Io.KnownBytes.{Appends}
 use Rattle.enip_faults.specs.declared.fault.ProgramFault.{ProgramFault}
 use Rattle.enip_replay.specs.Drawing.{Grows}
-
-pub grown-none : (a : Option (List ℕ)) → Grows a a
-grown-none a = ([], Appends-nil a)
 
 pub grown-more : (a b c : Option (List ℕ)) → Grows a b → Grows b c → Grows a c
 grown-more a b c first second = (first.0 ++ second.0, Appends-trans a b c first.0 second.0 first.1 second.1)

@@ -1,4 +1,4 @@
-use Rattle.std.proofs.Common.{◌≡◌, ◌∙◌, ℕ, List, [], ◌∷◌, ◌++◌, true, Option, Some, None, refl, sym, ap, subst, append_assoc, append-nil}
+use Rattle.std.proofs.Common.{◌≡◌, ◌∙◌, ℕ, List, [], ◌∷◌, ◌++◌, Option, Some, None, refl, sym, ap, subst, append_assoc, append-nil}
 use Rattle.std.proofs.KnownBytes.{Appends-nil, Appends-trans}
 use Rattle.std.specs.Io.KnownBytes.{Appends, Keeps}
 use Rattle.enip_bench.specs.CountingWorld.{CountingWorld, counting_run, counting_step}
@@ -9,7 +9,7 @@ use Rattle.enip_replay.specs.Drawing.{nothing}
 use Rattle.enip_lines.specs.Lines.{with_newline}
 use Rattle.enip_replay.specs.Outcome.{outcome, outcomes}
 use Rattle.enip_replay.specs.Replay.{IsDone, IsRun}
-use Rattle.enip_replay.specs.Script.{Means, Say, is_skipped}
+use Rattle.enip_replay.specs.Script.{Means, Say}
 
 -- Events are done one after the other.
 pub counting_run-append : (world : CountingWorld) (first more : List Event)
@@ -85,11 +85,6 @@ module _ {S : Type 0} (world : S → CountingWorld) (prints : CountingWorld → 
         printed = printed-more (world old) (world run.0) first.events rest.events before run.1 run.2 after first.done run.3 first.printed rest.printed;
       }
 
--- What a skipped line does, and a line that means an event.
-pub run-skipped : (text : List ℕ) (world : CountingWorld) (output : Option (List ℕ)) → is_skipped text ≡ true
-    → IsRun outcomes text world world output output
-run-skipped text world output skipped = record { events = []; said = skipped; done = refl; printed = Appends-nil output }
-
 pub run-event : (text : List ℕ) (event : Event) (old new : CountingWorld) (before after : Option (List ℕ)) → Means text event
     → IsDone event old new before after → IsRun outcomes text old new before after
 run-event text event old new before after meant done = record {
@@ -98,10 +93,6 @@ run-event text event old new before after meant done = record {
   done = done.world;
   printed = subst (Appends before after) (sym (append-nil (with_newline (outcome event (event_result old event))))) done.printed;
 }
-
-pub silent-skipped : (text : List ℕ) (world : CountingWorld) (output : Option (List ℕ)) → is_skipped text ≡ true
-    → IsRun nothing text world world output output
-silent-skipped text world output skipped = record { events = []; said = skipped; done = refl; printed = Appends-nil output }
 
 pub silent-event : (text : List ℕ) (event : Event) (old new : CountingWorld) (output : Option (List ℕ)) → Means text event
     → new ≡ counting_step old event → IsRun nothing text old new output output

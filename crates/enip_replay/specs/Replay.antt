@@ -17,7 +17,7 @@ use Rattle.enip_replay.specs.Script.{Says, Say, IsRefusedAt}
 use Rattle.enip_lines.specs.InputLines.{lines_of}
 use Rattle.enip_lines.specs.Lines.{with_newline}
 use Rattle.enip_faults.specs.Statuses.{IsOfDevices}
-use Rattle.enip_commands.specs.declared.asking.TheConstants.{WANTS}
+use Rattle.enip_client.specs.declared.wants.TheConstants.{USUAL_WANTS}
 use Rattle.enip_faults.specs.declared.fault.ProgramFault.{ProgramFault}
 use Rattle.enip_faults.specs.declared.fault.ProgramFault.TheVariants.{Line, Memory}
 use Rattle.enip_faults.specs.declared.replay_failure.ReplayFailure.{ReplayFailure}
@@ -30,11 +30,11 @@ stop_of benches.Setup = stops.Setup
 
 -- The state after the opening between this adapter and the program's client.
 abbrev pub IsOpeningOf : AdapterState → CountingWorld → Type 0
-IsOpeningOf adapter world = opening_between adapter (new_client WANTS) ≡ Ok world
+IsOpeningOf adapter world = opening_between adapter (new_client USUAL_WANTS) ≡ Ok world
 
 -- The adapter refuses this opening.
 abbrev pub IsOpeningRefused : AdapterState → Type 0
-IsOpeningRefused adapter = opening_between adapter (new_client WANTS) ≡ Err ARefusal
+IsOpeningRefused adapter = opening_between adapter (new_client USUAL_WANTS) ≡ Err ARefusal
 
 -- Why no bench is made: the adapter refuses the opening, or memory failed.
 abbrev pub IsUnopened : AdapterState → ReplayFailure → Type 0

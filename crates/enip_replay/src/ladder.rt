@@ -28,8 +28,8 @@ use byteorder::{ByteOrder, LittleEndian};
 use cip_bytes::protocol::SEQUENCE_COUNT_SIZE;
 use enip_adapter::Adapter;
 use enip_bench::{Bench, Event, Frames, Step};
-use enip_commands::{ProgramFault, WANTS};
-use enip_faults::ReplayFailure;
+use enip_client::USUAL_WANTS;
+use enip_faults::{ProgramFault, ReplayFailure};
 use enip_lines::{TakeLines, read_lines};
 use enip_wire::{Header, unit_body};
 use std::alloc::Global;
@@ -188,7 +188,9 @@ impl Ladder {
             way: Direction::ToAdapter,
             arrives,
             // counts go up from the first one and wrap at 65,536 (Volume 1, transport class 3)
-            count: WANTS.first_count.wrapping_add((number % COUNTS) as u16),
+            count: USUAL_WANTS
+                .first_count
+                .wrapping_add((number % COUNTS) as u16),
             message: self
                 .requests
                 .get(number)

@@ -8,7 +8,7 @@ use cip_bytes::protocol::COUNTER;
 use cip_class3::Stage;
 use cip_objects::Objects;
 use enip_bench::{Event, OwnWrite, Step};
-use enip_commands::Digits;
+use enip_faults::Digits;
 use std::fmt;
 
 /// The line of an event, without the digits of a request or of a reply.

@@ -19,9 +19,8 @@ use cip_class3::Stage;
 use cip_objects::{Objects, ReplyBuf};
 use enip_adapter::Adapter;
 use enip_bench::{Bench, BenchFault, Event};
-use enip_client::Client;
-use enip_commands::{ProgramFault, WANTS};
-use enip_faults::ReplayFailure;
+use enip_client::{Client, USUAL_WANTS};
+use enip_faults::{ProgramFault, ReplayFailure};
 use enip_lines::{TakeLines, read_lines};
 use std::alloc::Global;
 use std::io::Write;
@@ -82,7 +81,7 @@ pub(crate) fn bench_of(alloc: Global, adapter: Adapter) -> Result<Bench, ReplayF
     ensures made { IfOk result (IsOpeningOf adapter) }
     ensures refused { IfErr result (IsUnopened adapter) }
 {
-    let Ok(client) = Client::new(alloc, &WANTS) else {
+    let Ok(client) = Client::new(alloc, &USUAL_WANTS) else {
         return Err(ReplayFailure::Program(ProgramFault::Memory));
     };
     match Bench::new(alloc, adapter, client) {

@@ -6,7 +6,7 @@ ghost use Rattle.std.specs.Prelude.{◌≡◌, ◌≤◌, ◌*◌, min, length, 
 ghost use Rattle.std.specs.Fmt.{WritesOnOk};
 ghost use Rattle.enip_replay.specs.Ladder.{digits_of};
 
-use enip_commands::Digits;
+use enip_faults::Digits;
 use std::fmt;
 
 /// The width of a column between an end and the wire, in characters.

@@ -13,7 +13,7 @@ ghost use Rattle.enip_faults.specs.Statuses.{IsOfDevices};
 use cip_bytes::protocol::GeneralStatus;
 use cip_owner::OwnerReply;
 use enip_bench::{Event, OwnWrite};
-use enip_commands::{LineFault, ProgramFault};
+use enip_faults::{LineFault, ProgramFault};
 use enip_lines::{decimal, decode};
 use std::alloc::Global;
 

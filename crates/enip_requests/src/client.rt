@@ -9,9 +9,8 @@ use crate::once_options::OnceOptions;
 use crate::polling::{PollOptions, run_polling};
 use crate::request::run_request;
 use clap::ArgMatches;
-use enip_cli::OsArg;
 use enip_client::ListCommand;
-use enip_common::{ArgumentError, CommandError, Timeout, print_argument_error, service_of};
+use enip_common::{ArgumentError, CommandError, OsArg, Timeout, print_argument_error, service_of};
 use remote_device::{Device, Request, service_of_get, service_of_set};
 
 /// What is requested without a session.
@@ -95,8 +94,7 @@ fn task_of<'a>(
     rt: &HostRuntime,
     matches: &ArgMatches<'a>,
 ) -> Result<(Device<'a>, LedgerTask<'a>), ArgumentError<'a>> {
-    let timeout = Timeout::from_matches(rt, matches)?;
-    let device = Device::from_matches(matches, timeout)?;
+    let device = Device::of_command(rt, matches)?;
     Ok((device, LedgerTask::from_matches(matches)?))
 }
 
@@ -142,11 +140,11 @@ fn command_of<'a, 'm>(
     service: Option<u8>,
     matches: &'m ArgMatches<'a>,
 ) -> Result<(Device<'a>, Option<Request<'a, 'm>>), ArgumentError<'a>> {
-    let timeout = Timeout::from_matches(rt, matches)?;
     let is_left_out = !matches.contains_id("SERVICE") && !matches.contains_id("CLASS");
     if is_left_out {
-        return Ok((Device::from_matches(matches, timeout)?, None));
+        return Ok((Device::of_command(rt, matches)?, None));
     }
+    let timeout = Timeout::from_matches(rt, matches)?;
     let request = Request::from_matches(service, matches, timeout)?;
     Ok((request.device, Some(request)))
 }

@@ -6,12 +6,12 @@
 use crate::once::{OnceRun, Settled};
 use cip_bytes::StatusText;
 use cip_message::ReplyView;
-use enip_cli::LockedFile;
 use enip_commands::{
     CommandRecord, IdPlan, PendingChoice, begin_once, check_once, plan_id, reply_of_digits,
 };
 use enip_common::{
-    CommandError, Fault, NamedReason, Note, OwnedDigits, OwnedReply, Reason, print_reason,
+    CommandError, Fault, LockedFile, NamedReason, Note, OwnedDigits, OwnedReply, Reason,
+    print_reason,
 };
 
 /// How often the file is looked at: before another command is settled, and after that.

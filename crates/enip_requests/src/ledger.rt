@@ -6,16 +6,11 @@ use crate::once::slot_of_file;
 use crate::slot_texts::{print_freed, print_slots};
 use cip_bytes::StatusText;
 use cip_commander::SlotsFault;
-use enip_cli::OsArg;
 use enip_client::ClientFault;
-use enip_commands::{DeviceSession, LONG_LIVED, ReplyOutcome, RequestFailure, show_refusal};
-use enip_common::{
-    CLOCK, CommandError, ErrorKeeping, HostPort, NamedReason, OUTPUT, Reason, SocketSink,
-    SocketSource, print_reason,
-};
-use remote_device::{Device, ask, error_in_session, error_of_failure, reason_of_refusal};
+use enip_commands::{RequestFailure, show_refusal};
+use enip_common::{CommandError, ErrorKeeping, NamedReason, OUTPUT, OsArg, Reason, print_reason};
+use remote_device::{Device, OpenSession, error_of_failure, reason_of_refusal};
 use std::io::Write;
-use std::time::Instant;
 
 /// The general status of a ledger's class that the device does not have. (Volume 1, general status codes.)
 const NO_LEDGER: u8 = 0x05;
@@ -87,36 +82,16 @@ fn run_job<'a, J: LedgerJob>(
     device: Device<'a>,
     job: &mut J,
 ) -> Result<(), CommandError<'a>> {
-    let address = HostPort::parse(device.address)?;
-    let route = device.route.route()?;
-    let wants = device.connection.wants(rt, LONG_LIVED.timeout_multiplier)?;
-    let start = Instant::now(rt).map_err(|error| CommandError::of_system(CLOCK, error))?;
-    let stream = address.connect(rt, device.timeout)?;
-    let mut source = SocketSource::new(&stream, rt, start, device.timeout);
-    let mut sink = SocketSink::new(&stream);
-    let begun = DeviceSession::begin_with(
-        rt.alloc(),
-        &wants,
-        &mut source,
-        &mut sink,
-        route,
-        device.connected,
-    );
-    let mut session = match begun {
-        Ok(session) => session,
-        Err(failure) => return Err(error_in_session(device, failure, &source, &sink)),
-    };
+    let stream = device.connect(rt)?;
+    let mut session = OpenSession::open(rt, device, &stream)?;
     for _ in 0..u64::MAX {
         let Some(request) = job.request() else {
             break;
         };
-        let bytes = request.as_slice();
-        match ask(rt, &mut session, &mut source, &mut sink, device, bytes) {
-            Ok(()) => job.take_reply(session.reply()),
-            Err(failure) => return Err(error_in_session(device, failure, &source, &sink)),
-        }
+        session.ask(request.as_slice())?;
+        job.take_reply(session.reply());
     }
-    let _ = session.end(&mut source, &mut sink);
+    let _ = session.end();
     Ok(())
 }
 

@@ -5,7 +5,7 @@ use cip_commander::{
     WithdrawalOutcome, forget_request, last_request, read_forgotten, read_last, read_withdrawal,
     slots_request, withdraw_request,
 };
-use cip_ledger::MOST_ORIGINATORS;
+use cip_message::MOST_ORIGINATORS;
 use enip_commands::{LIFE_REQUEST, LifeFault, read_life};
 use std::alloc::Global;
 

@@ -3,13 +3,13 @@
 ghost use Rattle.std.specs.Prelude.{◌≤◌, length, IfOk, IfSome};
 
 use crate::found_devices::{DeviceForm, FoundDevices};
-use enip_client::ListCommand;
+use enip_client::{ListCommand, Sent, write_list};
 use enip_commands::{RequestFailure, list_over, objects_over};
 use enip_common::{
-    CLOCK, CommandError, ErrorKeeping, Fault, HostPort, NamedReason, Reason, SocketSink,
-    SocketSource, Timeout,
+    CLOCK, CommandError, ErrorKeeping, HostPort, NamedReason, Reason, SocketSink, SocketSource,
+    Timeout,
 };
-use remote_device::reason_of_client;
+use remote_device::{fault_of_request, reason_of_client};
 use std::io::{ErrorKind, Write};
 use std::net::{SocketAddr, UdpSocket};
 use std::time::Instant;
@@ -64,7 +64,7 @@ fn error_of_failure<'a>(failure: RequestFailure, stream_reason: Reason<'a>) -> C
         RequestFailure::Program(enip_commands::ProgramFault::Memory) => Reason::Memory,
         _ => stream_reason,
     };
-    CommandError::new(Fault::Request(failure), reason)
+    CommandError::new(fault_of_request(failure), reason)
 }
 
 /// Sends one ListIdentity as a datagram, and prints the devices that answer within the timeout. Returns the exit status.
@@ -75,7 +75,9 @@ pub(crate) fn run_discovery<'a>(
     timeout: Timeout<'a>,
 ) -> Result<u8, CommandError<'a>> {
     let target = HostPort::parse(address)?;
-    let socket = target.send_list_identity(rt)?;
+    let mut request = Sent::new();
+    write_list(ListCommand::Identity, &mut request);
+    let socket = target.send_datagram(rt, request.as_slice())?;
     let start = Instant::now(rt).map_err(|error| CommandError::of_system(CLOCK, error))?;
     let mut buffer = Vec::from_elem(rt.alloc(), 0, DATAGRAM_CAPACITY)?;
     let mut output = ErrorKeeping::new(rt.stdout());

@@ -1,8 +1,7 @@
 //! `enip help objects`: the names of classes, attributes and services.
 
 use cip_names::{CLASS_ATTRIBUTES, CLASSES, COMMON_SERVICES, Name, attribute_names, service_names};
-use enip_cli::OsArg;
-use enip_common::{CommandError, ErrorKeeping, NamedReason, OUTPUT, Reason};
+use enip_common::{CommandError, ErrorKeeping, NamedReason, OUTPUT, OsArg, Reason};
 use std::convert::AsStr;
 use std::io::{self, BufWriter, Write};
 

@@ -11,23 +11,19 @@ use crate::pauses::next_pause;
 use crate::request::print_refusal;
 use cip_bytes::StatusText;
 use cip_commander::{CommandOutcome, Commander};
-use cip_objects::ReplyBuf;
-use enip_cli::{LockedFile, OsArg, exists, option_file_name};
+use cip_message::ReplyBuf;
 use enip_client::ClientFault;
 use enip_commands::{
-    CommandRecord, DoneCommand, LIFE_REQUEST, LifeFault, OnceRefusal, PendingChoice, ReplyOutcome,
-    RequestFailure, WANTS, begin_once, check_once, exchange_with, read_life, show_reply,
-    show_resumed, text_after,
+    CommandRecord, DoneCommand, LIFE_REQUEST, LifeFault, PendingChoice, ReplyOutcome,
+    RequestFailure, begin_once, check_once, read_life, show_reply, show_resumed, text_after,
 };
 use enip_common::{
-    CLOCK, CommandError, ErrorKeeping, Fault, HostPort, NamedReason, Note, Reason, SocketSink,
-    SocketSource, print_reason,
+    CLOCK, CommandError, ErrorKeeping, Fault, HostPort, LockedFile, NamedReason, Note, OUTPUT,
+    OsArg, Reason, exists, option_file_name, print_reason,
 };
-use remote_device::{Device, Request, error_of_failure};
+use remote_device::{Device, Request, error_of_failure, exchange, fault_of_request};
 use std::thread;
 use std::time::{Duration, Instant};
-
-const OUTPUT: &str = "standard output";
 
 /// How long to wait before a device is tried again, in milliseconds (ours).
 const RETRY_DELAY: u64 = 100;
@@ -51,7 +47,6 @@ pub(crate) enum Settled {
 pub(crate) struct OnceRun<'a, 'r> {
     pub(crate) rt: &'r HostRuntime,
     pub(crate) device: Device<'a>,
-    address: HostPort<'a>,
     pub(crate) options: OnceOptions<'a>,
     /// The name of the command file.
     pub(crate) name: &'r [u8],
@@ -66,10 +61,10 @@ pub(crate) fn run_once<'a>(
     request: Option<Request<'a, '_>>,
     options: OnceOptions<'a>,
 ) -> Result<u8, CommandError<'a>> {
+    HostPort::parse(device.address)?;
     let run = OnceRun {
         rt,
         device,
-        address: HostPort::parse(device.address)?,
         options,
         name: option_file_name(args, "--once", options.file),
     };
@@ -91,10 +86,10 @@ pub(crate) fn slot_of_file<'a>(
     device: Device<'a>,
     file: &'a str,
 ) -> Result<(u64, u32), CommandError<'a>> {
+    HostPort::parse(device.address)?;
     let run = OnceRun {
         rt,
         device,
-        address: HostPort::parse(device.address)?,
         options: OnceOptions::of_file(file),
         name: option_file_name(args, "--forget", file),
     };
@@ -110,7 +105,7 @@ pub(crate) fn slot_of_file<'a>(
     };
     if record.commander.pending_request().is_some() {
         let reason = Reason::Named(file, NamedReason::CommandPending);
-        return Err(CommandError::new(Fault::Once(OnceRefusal::Differs), reason));
+        return Err(CommandError::new(Fault::Pending, reason));
     }
     Ok((
         record.commander.originator(),
@@ -395,7 +390,7 @@ impl<'a> OnceRun<'a, '_> {
         let error = match read_life(reply.as_slice()) {
             Ok(life) => return Ok(life),
             Err(LifeFault::NoLedger(status, extended)) => CommandError::new(
-                fault_of_status(status, extended),
+                Fault::Refusal,
                 Reason::NoLedger(self.device.address, StatusText { status, extended }),
             ),
             Err(LifeFault::Malformed) => self.malformed(),
@@ -427,43 +422,19 @@ impl<'a> OnceRun<'a, '_> {
         error.may_pass() && self.device.timeout.deadline_over(self.rt).is_none()
     }
 
-    /// Connects and sends a request with a new client.
+    /// Sends a request once in a session of its own.
     pub(crate) fn exchange_once(
         &self,
         request: &[u8],
         connected: bool,
         reply: &mut ReplyBuf,
     ) -> Result<(), CommandError<'a>> {
-        let (address, timeout) = (self.device.address, self.device.timeout);
-        let route = self.device.route.route()?;
-        let start = self.now()?;
-        let stream = self.address.connect(self.rt, timeout)?;
-        let wants = self
-            .device
-            .connection
-            .wants(self.rt, WANTS.timeout_multiplier)?;
-        let mut source = SocketSource::new(&stream, self.rt, start, timeout);
-        let mut sink = SocketSink::new(&stream);
-        let alloc = self.rt.alloc();
-        match exchange_with(
-            alloc,
-            &wants,
-            &mut source,
-            &mut sink,
-            &route,
-            request,
+        let device = Device {
             connected,
-            reply,
-        ) {
-            Ok(()) => Ok(()),
-            Err(failure) => {
-                let reason = match source.fault().or(sink.fault()) {
-                    Some(fault) => Some(fault.reason(address, timeout)),
-                    None => None,
-                };
-                Err(error_of_failure(failure, address, reason))
-            }
-        }
+            tries: 1,
+            ..self.device
+        };
+        Ok(exchange(self.rt, device, request, reply)?)
     }
 
     /// Checks that a connection of the size that is opened holds the pending command.
@@ -495,12 +466,7 @@ pub(crate) fn with_note<'a, T>(
 /// The error of a request that no message holds.
 fn too_long<'a>() -> CommandError<'a> {
     CommandError::new(
-        Fault::Request(RequestFailure::Client(ClientFault::Request)),
+        fault_of_request(RequestFailure::Client(ClientFault::Request)),
         Reason::Request,
     )
-}
-
-/// The fault of a request that the device refused and that is not settled by that.
-pub(crate) fn fault_of_status(status: u8, extended: u16) -> Fault {
-    Fault::Request(RequestFailure::Client(ClientFault::Refused(status, extended)))
 }

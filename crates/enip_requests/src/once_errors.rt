@@ -1,14 +1,14 @@
 //! Why a command of `--once` is not sent, or has no reply.
 
-use crate::once::{OnceRun, fault_of_status};
+use crate::once::OnceRun;
 use cip_commander::{
     COUNTS_REQUEST, CommandRefused, Commander, SlotsFault, last_request, read_counts, read_last,
 };
-use cip_objects::ReplyBuf;
+use cip_message::ReplyBuf;
 use enip_client::ClientFault;
 use enip_commands::{LedgerRefusal, OnceRefusal, RequestFailure};
 use enip_common::{CommandError, Fault, NamedReason, Note, OwnedDigits, Reason};
-use remote_device::error_of_failure;
+use remote_device::{error_of_failure, fault_of_once};
 
 /// The general status of Get_Last if the originator has no slot (ours).
 const UNKNOWN_ORIGINATOR: u8 = 0x16;
@@ -99,7 +99,7 @@ impl<'a> OnceRun<'a, '_> {
             Note::NotExecuted
         };
         let reason = Reason::Ledger(self.device.address, refusal);
-        CommandError::new(fault_of_status(status, 0), reason).with_note(note)
+        CommandError::new(Fault::Refusal, reason).with_note(note)
     }
 
     /// The error of a command that is not sent because of the command file.
@@ -110,7 +110,7 @@ impl<'a> OnceRun<'a, '_> {
         refusal: OnceRefusal,
     ) -> CommandError<'a> {
         match self.reason_of_refusal(commander, request, refusal) {
-            Ok(reason) => CommandError::new(Fault::Once(refusal), reason),
+            Ok(reason) => CommandError::new(fault_of_once(refusal), reason),
             Err(error) => error,
         }
     }

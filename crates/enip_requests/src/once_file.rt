@@ -2,9 +2,8 @@
 
 use crate::command_record::record_in;
 use clap::ArgMatches;
-use enip_cli::{OsArg, read_file};
 use enip_commands::{record_line, record_listing};
-use enip_common::{CommandError, ErrorKeeping, NamedReason, OUTPUT, Reason};
+use enip_common::{CommandError, ErrorKeeping, NamedReason, OUTPUT, OsArg, Reason, read_file};
 use std::io::{self, Write};
 
 /// How many bytes of the file are read: more than a command file has (ours).

@@ -3,10 +3,10 @@
 use crate::command_record::record_in;
 use crate::once::OnceRun;
 use cip_commander::Commander;
-use enip_cli::{LockedFile, exists, front_of};
 use enip_commands::{CommandRecord, has_ids_head, record_text};
 use enip_common::{
-    CLOCK, CommandError, NamedReason, Note, Reason, StateFile, StorageReason, SystemError,
+    CLOCK, CommandError, LockedFile, NamedReason, Note, Reason, StateFile, StorageReason,
+    SystemError, exists, front_of,
 };
 use std::io::{self, ErrorKind};
 use std::random::RandomSource;

@@ -2,19 +2,13 @@
 
 use crate::request::print_refusal;
 use clap::ArgMatches;
-use enip_commands::{
-    DeviceSession, LONG_LIVED, Readings, ReplyOutcome, RequestFailure, print_reading,
-};
+use enip_commands::{Readings, ReplyOutcome, print_reading};
 use enip_common::{
-    ArgumentError, CLOCK, CommandError, ErrorKeeping, HostPort, NumberArgument, SocketSink,
-    SocketSource, parse_seconds, print_reason,
+    ArgumentError, CLOCK, CommandError, ErrorKeeping, NumberArgument, OUTPUT, parse_seconds,
 };
-use remote_device::{Request, SessionEnd, ask, error_of_failure, pause_after_loss, session_end_of};
-use std::rt::Clock;
+use remote_device::{OpenSession, Request, SessionEnd, error_of_failure};
 use std::thread;
 use std::time::{Duration, Instant};
-
-const OUTPUT: &str = "standard output";
 
 /// Our own limit, in seconds: the longest interval within one session. A device may end a session that is silent for
 /// longer.
@@ -85,11 +79,7 @@ pub(crate) fn run_polling<'a>(
         match poller.run_session() {
             Ok(()) if poller.taken >= options.count => break,
             Ok(()) => thread::sleep(rt, options.interval),
-            Err(SessionEnd::DeviceLost(reason)) => {
-                print_reason(rt, &reason);
-                thread::sleep(rt, pause_after_loss(request.device.timeout));
-            }
-            Err(SessionEnd::Fatal(error)) => return Err(error),
+            Err(end) => end.wait_for_device(rt, request.device.timeout)?,
         }
     }
     Ok(poller.last.exit_status())
@@ -98,47 +88,12 @@ pub(crate) fn run_polling<'a>(
 impl<'a> Poller<'a, '_, '_> {
     /// Sends the request in one session until all replies were taken, or once if the interval is too long for a session.
     fn run_session(&mut self) -> Result<(), SessionEnd<'a>> {
-        let address = HostPort::parse(self.request.device.address).map_err(SessionEnd::Fatal)?;
-        let route = self
-            .request
-            .device
-            .route
-            .route()
-            .map_err(SessionEnd::Fatal)?;
-        let stream = address
-            .connect(self.rt, self.request.device.timeout)
-            .map_err(session_end_of)?;
-        let (device, timeout) = (self.request.device, self.request.device.timeout);
-        let mut source = SocketSource::new(&stream, self.rt, self.start, timeout);
-        let mut sink = SocketSink::new(&stream);
-        let wants = device
-            .connection
-            .wants(self.rt, LONG_LIVED.timeout_multiplier)
-            .map_err(SessionEnd::Fatal)?;
-        let begun = DeviceSession::begin_with(
-            self.rt.alloc(),
-            &wants,
-            &mut source,
-            &mut sink,
-            route,
-            device.connected,
-        );
-        let mut session = match begun {
-            Ok(session) => session,
-            Err(failure) => return Err(self.session_end(failure, &source, &sink)),
-        };
+        let device = self.request.device;
+        let stream = device.connect(self.rt).map_err(SessionEnd::of)?;
+        let mut session = OpenSession::open(self.rt, device, &stream)?;
         for _ in 0..u64::MAX {
-            match ask(
-                self.rt,
-                &mut session,
-                &mut source,
-                &mut sink,
-                device,
-                self.bytes,
-            ) {
-                Ok(()) => self.take_reply(session.reply())?,
-                Err(failure) => return Err(self.session_end(failure, &source, &sink)),
-            }
+            session.ask(self.bytes)?;
+            self.take_reply(session.reply())?;
             if self.taken >= self.options.count
                 || self.options.interval > Duration::from_secs(MAX_SESSION_INTERVAL)
             {
@@ -146,7 +101,7 @@ impl<'a> Poller<'a, '_, '_> {
             }
             thread::sleep(self.rt, self.options.interval);
         }
-        let _ = session.end(&mut source, &mut sink);
+        let _ = session.end();
         Ok(())
     }
 
@@ -192,19 +147,5 @@ impl<'a> Poller<'a, '_, '_> {
             Ok(elapsed) => Ok(u64::try_from(elapsed.as_micros()).unwrap_or(u64::MAX)),
             Err(error) => Err(CommandError::of_system(CLOCK, error)),
         }
-    }
-
-    /// The end of a session that failed.
-    fn session_end<C: Clock>(
-        &self,
-        failure: RequestFailure,
-        source: &SocketSource<'_, C>,
-        sink: &SocketSink<'_>,
-    ) -> SessionEnd<'a> {
-        let reason = source.fault().or(sink.fault()).map(|fault| fault.reason(
-            self.request.device.address,
-            self.request.device.timeout,
-        ));
-        session_end_of(error_of_failure(failure, self.request.device.address, reason))
     }
 }

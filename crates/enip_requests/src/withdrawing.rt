@@ -4,12 +4,13 @@
 //! answer, or none, nothing is given up. With `--force` the device is not asked, and the command is given up.
 
 use crate::command_record::record_in;
-use crate::once::{OnceRun, Settled, fault_of_status, with_note};
+use crate::once::{OnceRun, Settled, with_note};
 use cip_commander::{Commander, WithdrawalOutcome};
-use cip_objects::ReplyBuf;
-use enip_cli::LockedFile;
+use cip_message::ReplyBuf;
 use enip_commands::{CommandRecord, OnceRefusal, PendingChoice, WithdrawalRefusal, check_once};
-use enip_common::{CommandError, Fault, NamedReason, Note, OwnedDigits, Reason, print_reason};
+use enip_common::{
+    CommandError, Fault, LockedFile, NamedReason, Note, OwnedDigits, Reason, print_reason,
+};
 
 /// The general status with which a ledger answers that it has a later command of the originator (ours).
 const SMALLER: u8 = 0x0c;
@@ -146,7 +147,7 @@ impl<'a> OnceRun<'a, '_> {
                 Ok(0)
             }
             Settled::New | Settled::Resumed(_) => {
-                Err(CommandError::new(Fault::Once(OnceRefusal::Withdrawn), reason))
+                Err(CommandError::new(Fault::Withdrawn, reason))
             }
         }
     }
@@ -185,6 +186,6 @@ impl<'a> OnceRun<'a, '_> {
             Note::KeptUnexecuted
         };
         let reason = Reason::NotWithdrawn(self.device.address, refusal);
-        CommandError::new(fault_of_status(status, 0), reason).with_note(note)
+        CommandError::new(Fault::Refusal, reason).with_note(note)
     }
 }

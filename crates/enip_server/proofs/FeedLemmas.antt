@@ -4,9 +4,7 @@ use Rattle.std.proofs.Common.{refl, sym, ap, subst, ◌∙◌, true≢false, ari
 use Rattle.std.proofs.lemmas.Bool.{eqb-true}
 use Rattle.cip_objects.specs.OwnRequests.{Asked}
 use Rattle.cip_owner.specs.Replies.{Reply}
-use Rattle.enip_server.specs.declared.peer_io.Turn.{Turn}
-use Rattle.enip_server.specs.declared.peer_io.Turn.TheVariants.{More, UntilReadable, UntilWritable, Finished}
-use Rattle.enip_server.specs.PeerStates.{PeerState, IsFlushed, AreFed, fed_once, owner_fed, FitsBuffers, IsWaiting}
+use Rattle.enip_server.specs.PeerStates.{PeerState, IsFlushed, AreFed, fed_once, owner_fed}
 use Rattle.enip_server.specs.PeerStates.AreFed.{None_fed, One_more_fed}
 
 module _ {O : Type 0} (answer : O → Asked → Option Reply) (after : O → Asked → O) (now peer : ℕ) where
@@ -43,10 +41,3 @@ pub none_left : (bytes : List ℕ) → eqb (length bytes) 0 ≡ true → bytes �
 none_left [] is = refl
 none_left (byte ∷ bytes) is =
     let none : length (byte ∷ bytes) ≡ 0 = eqb-true (length (byte ∷ bytes)) 0 is in absurd (omega (arith, none))
-
--- a turn that waits
-pub told_waiting : (d : PeerState) (turn : Turn) → d.outbox ≢ [] → IsWaiting turn → FitsBuffers d turn
-told_waiting d More waits is = absurd is
-told_waiting d UntilReadable waits is = absurd is
-told_waiting d UntilWritable waits is = waits
-told_waiting d Finished waits is = tt

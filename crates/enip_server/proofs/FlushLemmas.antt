@@ -1,7 +1,7 @@
 -- Writing an answer, and what is left of one.
 use Rattle.std.proofs.Common.{◌≡◌, ◌≢◌, ◌<◌, ◌+◌, ◌-◌, ℕ, zero, suc, List, [], ◌++◌, length, take, drop, Option, Some, None, refl, sym, ap, subst, ◌∙◌, arith}
 use Rattle.std.specs.Prelude.{IfSome, IfNone}
-use Rattle.std.proofs.KnownBytes.{Appends-nil, Appends-trans}
+use Rattle.std.proofs.KnownBytes.{Appends-trans}
 use Rattle.std.proofs.lemmas.List.{drop-take, drop_all, length-drop, take-append-drop, take-take, take_all}
 use Rattle.std.specs.Io.KnownBytes.{Appends}
 use Rattle.enip_server.specs.declared.peer_io.Turn.{Turn}
@@ -9,21 +9,6 @@ use Rattle.enip_server.specs.declared.peer_io.Turn.TheVariants.{More, UntilReada
 use Rattle.enip_server.specs.declared.wire_counts.WireCounts.{WireCounts}
 use Rattle.enip_server.specs.PeerStates.{PeerState, IsFlushed, GoesOn, IsCutShort, IsWaiting}
 use Rattle.enip_server.specs.Wires.{after_write}
-
--- nothing is written
-pub none_flushed : (d : PeerState) → IsFlushed d d
-none_flushed d = record {
-  gone = [];
-  waits = refl;
-  written = Appends-nil d.written;
-  adapter = refl;
-  inbox = refl;
-  closed = refl;
-  last_byte_at = refl;
-  left = refl;
-  known = refl;
-  reads = refl;
-}
 
 -- so many bytes are written
 pub flushed_by : (old new : PeerState) (size : ℕ) → Appends old.written new.written (take size old.outbox)

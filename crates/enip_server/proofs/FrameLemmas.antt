@@ -1,7 +1,7 @@
 -- Wires that give out frames once they are admitted.
 use Rattle.std.proofs.Common.{◌≡◌, ◌<◌, ◌≤◌, ℕ, List, [], ◌∷◌, ◌++◌, length, take, drop, Bool, true, false, Option, Some, None, refl, sym, ap, subst, ◌∙◌, append_assoc}
 use Rattle.std.specs.Prelude.{option_map}
-use Rattle.std.specs.Io.KnownBytes.{Consumes, Keeps, IsAtEnd, prepend_known}
+use Rattle.std.specs.Io.KnownBytes.{Consumes, IsAtEnd, prepend_known}
 use Rattle.std.proofs.lemmas.Bool.{false≢true}
 use Rattle.std.proofs.lemmas.List.{take-append-drop}
 use Rattle.enip_server.specs.declared.wire.ReadOutcome.{ReadOutcome}
@@ -24,10 +24,6 @@ take_copied copied rest held n is size =
 
 -- ---- what is left to read
 
-pub still_left : (held : List ℕ) (left : Option (List ℕ)) → Keeps (prepend_known held left) (prepend_known held left)
-still_left held None = tt
-still_left held (Some xs) = refl
-
 -- a front of what is held is given out
 pub front_left : (held into : List ℕ) (n : ℕ) (left : Option (List ℕ)) → take n into ≡ take n held
     → Consumes (prepend_known held left) (prepend_known (drop n held) left) (take n into)
@@ -48,30 +44,9 @@ after_fill (Some xs) None held after outcome into fills is = absurd fills
 after_fill (Some xs) (Some ys) held after outcome into fills is =
     subst (λ zs. IsRead (Some zs) after outcome into) (sym fills) is
 
-kept_left : (old new : Option (List ℕ)) → Consumes old new [] → Keeps (prepend_known [] old) (prepend_known [] new)
-kept_left None new same = tt
-kept_left (Some xs) None same = absurd same
-kept_left (Some xs) (Some ys) same = sym same
-
 at_end : (left : Option (List ℕ)) → IsAtEnd left → IsAtEnd (prepend_known [] left)
 at_end None is = tt
 at_end (Some xs) is = is
-
--- a read of the wire inside that gave nothing
-pub nothing_filled : (old new : Option (List ℕ)) (held : List ℕ) (received : ReadOutcome) (into : List ℕ)
-    → has_given received ≡ false → AreReadBy received held → Consumes old new held → (received ≡ End → IsAtEnd new)
-    → IsRead (prepend_known [] old) (prepend_known held new) received into
-nothing_filled old new held (Bytes size) into none by fills end = absurd (false≢true (sym none))
-nothing_filled old new held (Drained size) into none by fills end = absurd (false≢true (sym none))
-nothing_filled old new held WouldBlock into none by fills end =
-    subst (λ h. Keeps (prepend_known [] old) (prepend_known h new)) (sym by)
-    (kept_left old new (subst (Consumes old new) by fills))
-nothing_filled old new held End into none by fills end =
-    subst (λ h. Keeps (prepend_known [] old) (prepend_known h new) × IsAtEnd (prepend_known h new)) (sym by)
-    (kept_left old new (subst (Consumes old new) by fills), at_end new (end refl))
-nothing_filled old new held Failed into none by fills end =
-    subst (λ h. Keeps (prepend_known [] old) (prepend_known h new)) (sym by)
-    (kept_left old new (subst (Consumes old new) by fills))
 
 -- ---- what is known
 

@@ -504,14 +504,6 @@ module _ {W : Type 0} where
       by None is some = absurd (cc)
       by (Some free) is some = room_free p now group free is
 
-  pub room_refused : (p : ServerState W) (now : ℕ) (group : Option ℕ) → is_ok (slot_for p now group) ≡ false
-      → with_room p now group ≡ p
-  room_refused p now group refused = by (slot_for p now group) refused
-    where
-      by : (chosen : Result ℕ Full) → is_ok chosen ≡ false → with_room_at p chosen ≡ p
-      by (Ok at) refused = absurd (cc)
-      by (Err full) refused = refl
-
   pub room_given : (p : ServerState W) (now : ℕ) (group : Option ℕ) → is_some (first_free p.slots) ≡ false
       → is_ok (slot_for p now group) ≡ true
       → (slot : ℕ) × (io : PeerIo W) × (slice_get p.slots slot ≡ Some (Some io))

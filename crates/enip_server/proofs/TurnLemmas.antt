@@ -62,18 +62,6 @@ by_read WouldBlock end_reported = tt
 by_read End end_reported = tt
 by_read Failed end_reported = tt
 
--- and how the read went
-pub told_read : (received : ReadOutcome) (end_reported : Bool) (closed_now : Bool) (old new : WireCounts) → new ≡ after_read received old
-    → FitsCounts end_reported closed_now (turn_after received end_reported) old new
-told_read (Bytes size) end_reported closed_now old new is =
-    ((ap (λ t. t.waits) is, ap (λ t. t.ends) is), λ _ _. ap (λ t. t.drained) is)
-told_read (Drained size) false closed old new is = (ap (λ t. t.drained) is, ap (λ t. t.ends) is, λ ends. absurd (true≢false (sym ends)))
-told_read (Drained size) true closed old new is =
-    ((ap (λ t. t.waits) is, ap (λ t. t.ends) is), λ not_ending _. absurd (true≢false not_ending))
-told_read WouldBlock end_reported closed old new is = (ap (λ t. t.drained) is, ap (λ t. t.ends) is, λ _. ap (λ t. t.waits) is)
-told_read End end_reported closed old new is = (ap (λ t. t.waits) is, ap (λ t. t.ends) is)
-told_read Failed end_reported closed old new is = (ap (λ t. t.waits) is, ap (λ t. t.ends) is)
-
 -- a read that gave bytes
 pub read_some : (received : ReadOutcome) (bytes : List ℕ) (old new : WireCounts) → AreReadBy received bytes → bytes ≢ []
     → new ≡ after_read received old → IsThrough old new

@@ -5,20 +5,14 @@ ghost use Rattle.std.specs.Prelude.{⊤};
 use crate::line_request::{LineRefusal, read_request};
 use cip_bytes::StatusText;
 use clap::ArgMatches;
-use enip_client::ClientFault;
-use enip_commands::{
-    DeviceSession, LONG_LIVED, ProgramFault, ReplyOutcome, RequestFailure, Style, show_refusal,
-    show_reply,
-};
+use enip_commands::{ProgramFault, ReplyOutcome, RequestFailure, Style, show_refusal, show_reply};
 use enip_common::{
-    ArgumentError, CLOCK, CommandError, ErrorKeeping, HostPort, INPUT, NamedReason, OUTPUT, Reason,
-    SocketSink, SocketSource, Timeout, print_argument_error,
+    CommandError, ErrorKeeping, INPUT, NamedReason, OUTPUT, Reason, print_argument_error,
 };
 use enip_lines::{TakeLines, read_lines};
-use remote_device::{Device, ask, error_in_session, error_of_failure, reason_of_refusal};
+use remote_device::{Device, OpenSession, SessionFailure, error_of_failure, reason_of_refusal};
 use std::fmt::Display;
 use std::io::Write;
-use std::time::Instant;
 
 /// The exit status if a line is not a request.
 const LINE_REFUSED: u8 = 4;
@@ -30,9 +24,7 @@ const NOT_USABLE: u8 = 7;
 struct Batch<'a, 'r> {
     rt: &'r HostRuntime,
     device: Device<'a>,
-    session: DeviceSession,
-    source: SocketSource<'r, HostRuntime>,
-    sink: SocketSink<'r>,
+    session: OpenSession<'a, 'r>,
     /// Whether the first line that fails ends the batch.
     stops: bool,
     /// The exit status of the first line that failed, or 0.
@@ -50,8 +42,6 @@ impl Drop for Batch<'_, '_> {
             rt: _,
             device: _,
             session: _,
-            source: _,
-            sink: _,
             stops: _,
             status: _,
             refused: _,
@@ -62,50 +52,22 @@ impl Drop for Batch<'_, '_> {
 
 /// `enip batch`.
 pub fn run_batch<'a>(rt: &HostRuntime, matches: &ArgMatches<'a>) -> Result<u8, CommandError<'a>> {
-    let device = match device_of(rt, matches) {
+    let device = match Device::of_command(rt, matches) {
         Ok(device) => device,
         Err(error) => return Ok(print_argument_error(rt, error)),
     };
-    let address = HostPort::parse(device.address)?;
-    let route = device.route.route()?;
-    let wants = device.connection.wants(rt, LONG_LIVED.timeout_multiplier)?;
-    let start = Instant::now(rt).map_err(|error| CommandError::of_system(CLOCK, error))?;
-    let stream = address.connect(rt, device.timeout)?;
-    let mut source = SocketSource::new(&stream, rt, start, device.timeout);
-    let mut sink = SocketSink::new(&stream);
-    let begun = DeviceSession::begin_with(
-        rt.alloc(),
-        &wants,
-        &mut source,
-        &mut sink,
-        route,
-        device.connected,
-    );
-    let session = match begun {
-        Ok(session) => session,
-        Err(failure) => return Err(error_in_session(device, failure, &source, &sink)),
-    };
+    let stream = device.connect(rt)?;
+    let session = OpenSession::open(rt, device, &stream)?;
     let mut batch = Batch {
         rt,
         device,
         session,
-        source,
-        sink,
         stops: matches.get_flag("stop"),
         status: 0,
         refused: None,
         end: None,
     };
     batch.run()
-}
-
-/// The device in the arguments.
-fn device_of<'a>(
-    rt: &HostRuntime,
-    matches: &ArgMatches<'a>,
-) -> Result<Device<'a>, ArgumentError<'a>> {
-    let timeout = Timeout::from_matches(rt, matches)?;
-    Device::from_matches(matches, timeout)
 }
 
 impl<'a> Batch<'a, '_> {
@@ -121,7 +83,7 @@ impl<'a> Batch<'a, '_> {
             (None, None, Err(ProgramFault::Memory)) => return Err(CommandError::of_memory()),
             _ => {}
         }
-        let _ = self.session.end(&mut self.source, &mut self.sink);
+        let _ = self.session.end();
         match self.refused {
             Some(number) => {
                 let _ = eprintln!(self.rt; "line {number}");
@@ -164,23 +126,15 @@ impl<'a> Batch<'a, '_> {
         output: &mut W,
     ) -> Result<u8, CommandError<'a>> {
         let (alloc, device) = (self.rt.alloc(), self.device);
-        let asked = ask(
-            self.rt,
-            &mut self.session,
-            &mut self.source,
-            &mut self.sink,
-            device,
-            bytes,
-        );
-        let printed = match asked {
+        let printed = match self.session.ask(bytes) {
             Ok(()) => show_reply(alloc, &mut *output, style, self.session.reply()),
-            Err(RequestFailure::Client(ClientFault::Refused(status, extended))) => {
+            Err(SessionFailure::Refused(status, extended)) => {
                 show_refusal(alloc, &mut *output, style, status, extended)
             }
-            Err(RequestFailure::Client(ClientFault::Request)) => {
+            Err(SessionFailure::TooLong) => {
                 return Ok(self.report(number, &Reason::Request, NOT_USABLE));
             }
-            Err(failure) => return Err(self.error_of(failure)),
+            Err(SessionFailure::Failed(error)) => return Err(error),
         };
         match printed {
             Ok(ReplyOutcome::Done) => Ok(0),
@@ -198,11 +152,6 @@ impl<'a> Batch<'a, '_> {
                 Ok(self.report(number, &reason, NOT_USABLE))
             }
         }
-    }
-
-    /// The error of a batch that ends because the device is lost.
-    fn error_of(&self, failure: RequestFailure) -> CommandError<'a> {
-        error_in_session(self.device, failure, &self.source, &self.sink)
     }
 
     /// Reports that a line is not a request. Returns the exit status of the line.

@@ -5,20 +5,15 @@ use cip_layouts::ValueShape;
 use cip_message::{Path, ReplyView};
 use cip_values::{ElementaryType, Value, ValueType, ValuesText};
 use clap::ArgMatches;
-use enip_client::ClientFault;
 use enip_commands::{
-    DIGITS, DeviceRequest, DeviceSession, InterfaceConfiguration, InterfaceFlags, LONG_LIVED,
-    PhysicalLink, RequestFailure, Style, interface_object, interface_state_name,
-    interface_type_name, link_object, name_object, padded_name, show_refusal, show_reply,
+    DIGITS, DeviceRequest, InterfaceConfiguration, InterfaceFlags, PhysicalLink, RequestFailure,
+    Style, interface_object, interface_state_name, interface_type_name, link_object, name_object,
+    padded_name, show_refusal, show_reply,
 };
-use enip_common::{
-    ArgumentError, CLOCK, CommandError, ErrorKeeping, HostPort, NamedReason, OUTPUT, Reason,
-    SocketSink, SocketSource, Timeout, print_argument_error,
-};
-use remote_device::{Device, GET_ATTRIBUTE_SINGLE, ask, error_in_session, error_of_failure};
+use enip_common::{CommandError, ErrorKeeping, NamedReason, OUTPUT, Reason, print_argument_error};
+use remote_device::{Device, GET_ATTRIBUTE_SINGLE, OpenSession, SessionFailure, error_of_failure};
 use std::alloc::{AllocError, Global};
 use std::io::Write;
-use std::time::Instant;
 
 /// The class of assemblies, and the attribute with their data. (Volume 1, Assembly.)
 const ASSEMBLY: u16 = 4;
@@ -39,9 +34,7 @@ struct Inspection<'a, 'r> {
     device: Device<'a>,
     /// Whether refusals are printed, too.
     is_verbose: bool,
-    session: DeviceSession,
-    source: SocketSource<'r, HostRuntime>,
-    sink: SocketSink<'r>,
+    session: OpenSession<'a, 'r>,
     /// The report so far.
     report: String,
     /// Whether the report has an object already.
@@ -56,8 +49,6 @@ impl Drop for Inspection<'_, '_> {
             device: _,
             is_verbose: _,
             session: _,
-            source: _,
-            sink: _,
             report: _,
             has_object: _,
         } = self;
@@ -66,49 +57,21 @@ impl Drop for Inspection<'_, '_> {
 
 /// `enip inspect`.
 pub fn run_inspect<'a>(rt: &HostRuntime, matches: &ArgMatches<'a>) -> Result<u8, CommandError<'a>> {
-    let device = match device_of(rt, matches) {
+    let device = match Device::of_command(rt, matches) {
         Ok(device) => device,
         Err(error) => return Ok(print_argument_error(rt, error)),
     };
-    let address = HostPort::parse(device.address)?;
-    let route = device.route.route()?;
-    let wants = device.connection.wants(rt, LONG_LIVED.timeout_multiplier)?;
-    let start = Instant::now(rt).map_err(|error| CommandError::of_system(CLOCK, error))?;
-    let stream = address.connect(rt, device.timeout)?;
-    let mut source = SocketSource::new(&stream, rt, start, device.timeout);
-    let mut sink = SocketSink::new(&stream);
-    let begun = DeviceSession::begin_with(
-        rt.alloc(),
-        &wants,
-        &mut source,
-        &mut sink,
-        route,
-        device.connected,
-    );
-    let session = match begun {
-        Ok(session) => session,
-        Err(failure) => return Err(error_in_session(device, failure, &source, &sink)),
-    };
+    let stream = device.connect(rt)?;
+    let session = OpenSession::open(rt, device, &stream)?;
     let mut inspection = Inspection {
         rt,
         device,
         is_verbose: matches.get_flag("verbose"),
         session,
-        source,
-        sink,
         report: String::new(rt.alloc()),
         has_object: false,
     };
     inspection.run()
-}
-
-/// The device in the arguments.
-fn device_of<'a>(
-    rt: &HostRuntime,
-    matches: &ArgMatches<'a>,
-) -> Result<Device<'a>, ArgumentError<'a>> {
-    let timeout = Timeout::from_matches(rt, matches)?;
-    Device::from_matches(matches, timeout)
 }
 
 impl<'a> Inspection<'a, '_> {
@@ -118,7 +81,7 @@ impl<'a> Inspection<'a, '_> {
             self.read_object(object)?;
         }
         self.read_assemblies()?;
-        let _ = self.session.end(&mut self.source, &mut self.sink);
+        let _ = self.session.end();
         if self.device.style.is_json {
             let end = if self.has_object { "}\n" } else { "{}\n" };
             self.report.push_str(end)?;
@@ -284,22 +247,11 @@ impl<'a> Inspection<'a, '_> {
 
     /// Reads an attribute. Returns the status with which a router refused to pass the request on.
     fn ask(&mut self, path: Path) -> Result<Option<(u8, u16)>, CommandError<'a>> {
-        let device = self.device;
-        let bytes = request_of(self.rt, device, path)?;
-        let asked = ask(
-            self.rt,
-            &mut self.session,
-            &mut self.source,
-            &mut self.sink,
-            device,
-            bytes.as_slice(),
-        );
-        match asked {
+        let bytes = request_of(self.rt, self.device, path)?;
+        match self.session.ask(bytes.as_slice()) {
             Ok(()) => Ok(None),
-            Err(RequestFailure::Client(ClientFault::Refused(status, extended))) => {
-                Ok(Some((status, extended)))
-            }
-            Err(failure) => Err(error_in_session(device, failure, &self.source, &self.sink)),
+            Err(SessionFailure::Refused(status, extended)) => Ok(Some((status, extended))),
+            Err(failure) => Err(CommandError::from(failure)),
         }
     }
 }

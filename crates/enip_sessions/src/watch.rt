@@ -3,17 +3,13 @@
 use crate::line_request::{LineRefusal, read_request};
 use crate::watch_table::{JsonText, WatchTable};
 use clap::ArgMatches;
-use enip_commands::{DeviceSession, LONG_LIVED, Readings, RequestFailure, Style, show_reply};
+use enip_commands::{Readings, Style, show_reply};
 use enip_common::{
-    ARGUMENTS_REFUSED, ArgumentError, CLOCK, CommandError, ErrorKeeping, HostPort, NamedReason,
-    NumberArgument, OUTPUT, Reason, SocketSink, SocketSource, Timeout, parse_seconds,
-    print_argument_error, print_reason,
+    ARGUMENTS_REFUSED, ArgumentError, CLOCK, CommandError, ErrorKeeping, NamedReason,
+    NumberArgument, OUTPUT, Reason, Timeout, parse_seconds, print_argument_error,
 };
-use remote_device::{
-    Device, SessionEnd, ask, error_in_session, error_of_failure, pause_after_loss, session_end_of,
-};
+use remote_device::{Device, OpenSession, SessionEnd, error_of_failure};
 use std::io::{IsTerminal, Write};
-use std::rt::Clock;
 use std::thread;
 use std::time::{Duration, Instant};
 
@@ -163,11 +159,7 @@ impl<'a> Watch<'a, '_> {
         for _ in 0..u64::MAX {
             match self.run_session() {
                 Ok(()) => break,
-                Err(SessionEnd::DeviceLost(reason)) => {
-                    print_reason(self.rt, &reason);
-                    thread::sleep(self.rt, pause_after_loss(self.device.timeout));
-                }
-                Err(SessionEnd::Fatal(error)) => return Err(error),
+                Err(end) => end.wait_for_device(self.rt, self.device.timeout)?,
             }
         }
         Ok(0)
@@ -175,64 +167,27 @@ impl<'a> Watch<'a, '_> {
 
     /// Takes rounds in one session, until all were taken.
     fn run_session(&mut self) -> Result<(), SessionEnd<'a>> {
-        let device = self.device;
-        let address = HostPort::parse(device.address).map_err(SessionEnd::Fatal)?;
-        let route = device.route.route().map_err(SessionEnd::Fatal)?;
-        let wants = device
-            .connection
-            .wants(self.rt, LONG_LIVED.timeout_multiplier)
-            .map_err(SessionEnd::Fatal)?;
-        let stream = address
-            .connect(self.rt, device.timeout)
-            .map_err(session_end_of)?;
-        let mut source = SocketSource::new(&stream, self.rt, self.start, device.timeout);
-        let mut sink = SocketSink::new(&stream);
-        let begun = DeviceSession::begin_with(
-            self.rt.alloc(),
-            &wants,
-            &mut source,
-            &mut sink,
-            route,
-            device.connected,
-        );
-        let mut session = match begun {
-            Ok(session) => session,
-            Err(failure) => return Err(self.session_end(failure, &source, &sink)),
-        };
+        let stream = self.device.connect(self.rt).map_err(SessionEnd::of)?;
+        let mut session = OpenSession::open(self.rt, self.device, &stream)?;
         for _ in 0..u64::MAX {
-            self.round(&mut session, &mut source, &mut sink)?;
+            self.round(&mut session)?;
             if self.taken >= self.options.count {
                 break;
             }
             thread::sleep(self.rt, self.options.interval);
         }
-        let _ = session.end(&mut source, &mut sink);
+        let _ = session.end();
         Ok(())
     }
 
     /// Reads each attribute once, and prints what changed.
-    fn round(
-        &mut self,
-        session: &mut DeviceSession,
-        source: &mut SocketSource<'_, HostRuntime>,
-        sink: &mut SocketSink<'_>,
-    ) -> Result<(), SessionEnd<'a>> {
+    fn round(&mut self, session: &mut OpenSession<'a, '_>) -> Result<(), SessionEnd<'a>> {
         for index in 0..self.watched.len() {
             let Some(watched) = self.watched.get(index) else {
                 break;
             };
-            let asked = ask(
-                self.rt,
-                session,
-                source,
-                sink,
-                self.device,
-                watched.bytes.as_slice(),
-            );
-            match asked {
-                Ok(()) => self.take_reply(index, session.reply())?,
-                Err(failure) => return Err(self.session_end(failure, source, sink)),
-            }
+            session.ask(watched.bytes.as_slice())?;
+            self.take_reply(index, session.reply())?;
         }
         self.taken = self.taken.saturating_add(1);
         self.print_table()
@@ -299,15 +254,5 @@ impl<'a> Watch<'a, '_> {
             Ok(elapsed) => Ok(u64::try_from(elapsed.as_micros()).unwrap_or(u64::MAX)),
             Err(error) => Err(CommandError::of_system(CLOCK, error)),
         }
-    }
-
-    /// The end of a session that failed.
-    fn session_end<C: Clock>(
-        &self,
-        failure: RequestFailure,
-        source: &SocketSource<'_, C>,
-        sink: &SocketSink<'_>,
-    ) -> SessionEnd<'a> {
-        session_end_of(error_in_session(self.device, failure, source, sink))
     }
 }

@@ -7,25 +7,17 @@ use Rattle.cip_bytes.proofs.Bytes.{AreBytes-take}
 use Rattle.enip_wire.specs.Headers.{header_spelling, header_at}
 use Rattle.enip_wire.specs.Frames.{Frame, frame, IsFrame, end_after}
 use Rattle.enip_wire.specs.Stream.{IsAtMostOneFrame, bytes_taken, held_and_taken, parsed, IsTakenFirst}
-use Rattle.enip_wire.specs.Stream.Parsed.{Incomplete, WholeFrame, TooLongHeader}
+use Rattle.enip_wire.specs.Stream.Parsed.{WholeFrame, TooLongHeader}
 use Rattle.enip_wire.proofs.FrameLemmas.{end_after-within, end_after-over, number_at-take}
 use Rattle.enip_wire.proofs.TakeLemmas.{Takes-count}
-use Rattle.enip_wire.proofs.RunningLemmas.{bytes_taken-short, bytes_taken-long}
-use Rattle.enip_wire.proofs.ParseFrameLemmas.{header_at-take, parse_frame-whole, kind-whole, parsed-short, parsed-long}
-use Rattle.enip_wire.proofs.ParsedLemmas.{parsed-waits}
+use Rattle.enip_wire.proofs.RunningLemmas.{bytes_taken-long}
+use Rattle.enip_wire.proofs.ParseFrameLemmas.{header_at-take, parse_frame-whole, kind-whole, parsed-long}
 
 -- the header decides where the frame ends
 says-length : (piece : List ℕ) (h : Header) → h ≡ header_at (take 24 piece) → number_at 2 2 piece ≡ h.length
 says-length piece h is = sym (ap (λ x. x.length) (is ∙ header_at-take piece))
 
 -- No whole frame is at the front.
-
-pub none-short : (piece : List ℕ) → length piece < 24 → (f : Frame) → parsed (held_and_taken [] piece) ≡ WholeFrame f → ⊥
-none-short piece short f e =
-    let size : length (take (bytes_taken [] piece) piece) ≡ length piece
-    = length-take (bytes_taken [] piece) piece ∙ omega (arith, bytes_taken-short [] piece (omega (arith, short))) in
-    let bad : Incomplete ≡ WholeFrame f = sym (parsed-short (held_and_taken [] piece) (omega (arith, size, short))) ∙ e in
-    cc
 
 pub none-long : (piece : List ℕ) (h : Header) → 24 ≤ length piece → h ≡ header_at (take 24 piece) → 65511 < h.length
     → (f : Frame) → parsed (held_and_taken [] piece) ≡ WholeFrame f → ⊥
@@ -39,22 +31,6 @@ none-long piece h long is over f e =
     = number_at-take (bytes_taken [] piece) piece (omega (arith, number)) in
     let bad : TooLongHeader (header_at (held_and_taken [] piece)) ≡ WholeFrame f
     = sym (parsed-long (held_and_taken [] piece) (omega (arith, size)) (omega (arith, same, says, over))) ∙ e in
-    cc
-
-pub none-part : (piece : List ℕ) (h : Header) → 24 ≤ length piece → h ≡ header_at (take 24 piece) → h.length ≤ 65511
-    → length piece < 24 + h.length → (f : Frame) → parsed (held_and_taken [] piece) ≡ WholeFrame f → ⊥
-none-part piece h long is within short f e =
-    let says : number_at 2 2 piece ≡ h.length = says-length piece h is in
-    let number : bytes_taken [] piece ≡ length piece
-    = bytes_taken-long [] piece (omega (arith, long))
-    ∙ omega (arith, end_after-within (number_at 2 2 piece) (omega (arith, says, within)), says, short) in
-    let size : length (take (bytes_taken [] piece) piece) ≡ length piece
-    = length-take (bytes_taken [] piece) piece ∙ omega (arith, number) in
-    let same : number_at 2 2 (take (bytes_taken [] piece) piece) ≡ number_at 2 2 piece
-    = number_at-take (bytes_taken [] piece) piece (omega (arith, number, long)) in
-    let bad : Incomplete ≡ WholeFrame f
-    = sym (parsed-waits (held_and_taken [] piece) (omega (arith, size, long)) (omega (arith, same, says, within))
-    (λ full. omega (arith, full, size, same, says, short))) ∙ e in
     cc
 
 -- A whole frame is at the front: its bytes are those that are taken.

@@ -1,8 +1,7 @@
 -- What is written, and that it is read again.
 use Rattle.std.proofs.Common.{◌≡◌, ℕ, zero, suc, ◌+◌, ◌-◌, ◌^◌, ◌<◌, ◌≤◌, List, [], ◌∷◌, ◌++◌, length, take, drop, map, get_or, Ok, refl, sym, ap, ◌∙◌, arith, append_assoc, append-nil, length-append, lit<}
 use Rattle.std.specs.List.{flat_map, AllByRecursion}
-use Rattle.std.proofs.lemmas.Grind.{flat_map-append}
-use Rattle.std.proofs.lemmas.List.{take_more, map-append, take_at, drop_at}
+use Rattle.std.proofs.lemmas.List.{take_at, drop_at}
 use Rattle.std.proofs.lemmas.List.Folds.{flat_map-map, length-flat_map-take}
 use Rattle.enip_wire.specs.declared.item_list.ItemView.{ItemView}
 use Rattle.cip_bytes.specs.Numbers.{le, number_at}
@@ -16,15 +15,6 @@ use Rattle.enip_wire.proofs.BodyLemmas.{body_items-begins_body}
 -- the bytes of items, one after another
 abbrev pub texts : List ItemView → List ℕ
 texts views = flat_map item (map item_of views)
-
-pub texts-append : (xs ys : List ItemView) → texts (xs ++ ys) ≡ texts xs ++ texts ys
-texts-append xs ys = ap (flat_map item) (map-append item_of xs ys) ∙ flat_map-append item (map item_of xs) (map item_of ys)
-
-pub texts_more : (views : List ItemView) (k : ℕ) (d : ItemView) → k < length views
-    → texts (take (k + 1) views) ≡ texts (take k views) ++ item (item_of (get_or views k d))
-texts_more views k d h =
-    ap texts (take_more views k d h) ∙ texts-append (take k views) (get_or views k d ∷ [])
-    ∙ ap (λ t. texts (take k views) ++ t) (append-nil (item (item_of (get_or views k d))))
 
 pub length-texts : (views : List ItemView) (k : ℕ) (d : ItemView) → k < length views
     → length (texts (take k views)) + (4 + length (get_or views k d).bytes.now) ≤ length (texts views)

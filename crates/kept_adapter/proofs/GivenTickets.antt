@@ -16,7 +16,8 @@ use Rattle.cip_ledger.specs.Doubt.{can_settle, settled, with_last}
 use Rattle.cip_ledger.specs.Ledger.{LedgerState, SlotState, slot_of, with_slot, without_slot, slot_withdrawn}
 use Rattle.cip_ledger.specs.Pending.{is_pending_at, completed_slot, completed, with_completed}
 use Rattle.cip_ledger.specs.Doubt.{is_kept_reply}
-use Rattle.cip_ledger.specs.Requests.{LedgerRequest, Command, ledger_request, is_barred}
+use Rattle.cip_ledger.specs.Requests.{LedgerRequest, ledger_request, is_barred}
+use Rattle.cip_message.specs.LedgerCommand.{Command}
 use Rattle.cip_ledger.specs.Runs.{Request, slot_in}
 use Rattle.cip_ledger.specs.Services.{Action, Replies, Executes, Queues, Frees, action_of}
 use Rattle.cip_ledger.specs.Standings.{by_standing, at_router}

@@ -7,7 +7,7 @@ use Rattle.std.proofs.lemmas.Bool.{eq-eqb, ne_eqb, ltb-true}
 use Rattle.std.proofs.lemmas.List.{append-nil, length-append}
 use Rattle.byteorder.specs.Numbers.{little_number-reads_back}
 use Rattle.cip_bytes.specs.Numbers.{le, number_at}
-use Rattle.cip_ledger.specs.declared.request.TheConstants.{LEDGER}
+use Rattle.cip_message.specs.declared.ledger_services.TheConstants.{LEDGER}
 use Rattle.cip_ledger.specs.Kept.{IsLedger, can_restore, restored as slot_restored}
 use Rattle.cip_ledger.specs.Ledger.{SlotState, LedgerState, IsSlot, AreSlots}
 use Rattle.cip_ledger.proofs.KeptLemmas.{next_restored, slot_behind}

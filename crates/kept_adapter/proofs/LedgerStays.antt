@@ -15,8 +15,8 @@ use Rattle.cip_message.specs.declared.request.RequestFault.{RequestFault}
 use Rattle.cip_message.specs.declared.request.RequestFault.TheVariants.{PathSize}
 use Rattle.cip_message.specs.PathReading.{path_of}
 use Rattle.cip_message.specs.Request.{Request as RouterRequest, request_of}
-use Rattle.cip_ledger.specs.declared.request.TheConstants.{LEDGER}
-use Rattle.cip_ledger.specs.declared.service.TheConstants as services
+use Rattle.cip_message.specs.declared.ledger_services.TheConstants.{LEDGER}
+use Rattle.cip_message.specs.declared.ledger_services.TheConstants as services
 use Rattle.cip_ledger.specs.declared.withdrawal.Withdrawal.{Withdrawal}
 use Rattle.cip_ledger.specs.Device.{Device, finished_in}
 use Rattle.cip_ledger.specs.Doubt.{is_doubtful, is_in_doubt_at, is_in_doubt, is_kept_reply, can_settle, with_last}
@@ -24,7 +24,8 @@ use Rattle.cip_ledger.specs.Doubt.{settled}
 use Rattle.cip_ledger.specs.Kept.{IsLedger}
 use Rattle.cip_ledger.specs.Ledger.{LedgerState, SlotState, slot_of, with_slot, without_slot, AreSlots, IsSlot}
 use Rattle.cip_ledger.specs.Ledger.{is_pending, slot_withdrawn}
-use Rattle.cip_ledger.specs.Requests.{LedgerRequest, Command, command_of, ledger_request, request_by_parts}
+use Rattle.cip_ledger.specs.Requests.{LedgerRequest, command_of, ledger_request, request_by_parts}
+use Rattle.cip_message.specs.LedgerCommand.{Command}
 use Rattle.cip_ledger.specs.Requests.{request_by_path, is_barred}
 use Rattle.cip_ledger.specs.Runs.{Request, command_given}
 use Rattle.cip_ledger.specs.Services.{Action, Replies, Executes, Queues, Frees, refuses, size_fault, unless, do_new, do_by_slot}

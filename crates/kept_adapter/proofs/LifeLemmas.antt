@@ -3,7 +3,7 @@ use Rattle.std.proofs.Common.{◌≡◌, ◌≢◌, ℕ, ◌<◌, ◌&&◌, Bool
 use Rattle.std.proofs.Common.{◌++◌, refl, ap, sym, ◌∙◌, subst, arith, ◌⊎◌, inl, inr}
 use Rattle.std.specs.Prelude.{option_map, is_some, not}
 use Rattle.std.specs.List.{AllByRecursion}
-use Rattle.cip_ledger.specs.declared.service.TheConstants as services
+use Rattle.cip_message.specs.declared.ledger_services.TheConstants as services
 use Rattle.cip_ledger.specs.Device.{Device, owned_standing}
 use Rattle.cip_ledger.specs.Doubt.{can_settle, with_last, settled, is_kept_reply}
 use Rattle.cip_ledger.specs.Ledger.{LedgerState, SlotState, slot_of}

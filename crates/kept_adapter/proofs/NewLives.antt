@@ -8,7 +8,7 @@ use Rattle.cip_ledger.specs.Doubt.{can_settle, with_last, settled, is_kept_reply
 use Rattle.cip_ledger.specs.Ledger.{LedgerState, slot_of}
 use Rattle.cip_ledger.specs.Laws.{UntilFreed, AreOfLife}
 use Rattle.cip_ledger.specs.Pending.{with_completed, completed}
-use Rattle.cip_ledger.specs.Requests.{Command}
+use Rattle.cip_message.specs.LedgerCommand.{Command}
 use Rattle.cip_ledger.specs.Runs.{Request, slot_in, Executed, Freed, Event, journal, events_by}
 use Rattle.cip_ledger.specs.Services.{Replies, Executes, Queues, Frees, DONE, PENDING}
 use Rattle.cip_ledger.specs.Turn.{Fate, Passed, Served, fate, turn_by, with_executed, with_queued, with_freed}

@@ -27,13 +27,6 @@ entry_set (Err x) xs old i e p h same is = tt
 entry_set (Ok x) xs old i e p h same is =
     set_front xs i e h ∙ ap (λ ps. ps ++ pair_of e ∷ []) same ∙ ap (λ q. take i old ++ q ∷ []) is
 
--- the first entries, once one is added
-pub push_front : (xs : List Entry) (i : ℕ) (e : Entry) → i ≤ length xs
-    → take i (pairs_of (xs ++ e ∷ [])) ≡ take i (pairs_of xs)
-push_front xs zero e h = refl
-push_front [] (suc i) e h = absurd (omega arith)
-push_front (x ∷ xs) (suc i) e h = ap (λ ps. pair_of x ∷ ps) (push_front xs i e (omega arith))
-
 -- small entries
 both : (a b c : Bool) → a && b ≡ true → (b ≡ true → c ≡ true) → a && c ≡ true
 both true b c e f = f e

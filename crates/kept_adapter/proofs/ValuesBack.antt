@@ -7,7 +7,7 @@ use Rattle.std.proofs.lemmas.Bool.{eqb-true, and_parts}
 use Rattle.std.proofs.lemmas.Bool.Decides.{nat_tests}
 use Rattle.cip_application.specs.declared.object.AttributeName.{AttributeName}
 use Rattle.cip_bytes.specs.declared.protocol.TheConstants.{IDENTITY}
-use Rattle.cip_ledger.specs.declared.request.TheConstants.{LEDGER}
+use Rattle.cip_message.specs.declared.ledger_services.TheConstants.{LEDGER}
 use Rattle.cip_ledger.specs.Device.{Device}
 use Rattle.cip_ledger.specs.Ledger.{LedgerState}
 use Rattle.cip_objects.specs.Configuration.{contents_of_config}
@@ -120,10 +120,6 @@ values_back p m (name ∷ names) same are =
     let back = value_back p m name same are.0 in
     values_back (put_back p (pair_of (value_entry m name))) m names (ap (λ (x : Contents). x.shapes) back ∙ same) are.1
     ∙ ap (λ x. put_all m x names) back
-
--- which device it is says nothing of the objects
-identity_leaves : (p : Progress) (content : List ℕ) → (put_back p (key_of IDENTITY 1 0, content)).objects ≡ p.objects
-identity_leaves p content = refl
 
 objects_back : (start : AdapterStart) (m : Contents) (l : Option LedgerState) (queue : Option QueueState)
     → (contents_of_config start.objects).shapes ≡ m.shapes

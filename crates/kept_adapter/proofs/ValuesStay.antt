@@ -48,12 +48,12 @@ use Rattle.cip_objects.specs.Kept.{kind_of_data, with_kept, restored as value_re
 use Rattle.cip_objects.specs.OwnRequests.{Asked, own_object, own_request, checked_attribute, check_set, if_checked}
 use Rattle.cip_objects.specs.PacketLaws.{exec_routed_keeps}
 use Rattle.cip_objects.specs.OwnRequests.{stored_in, with_stored}
-use Rattle.cip_objects.specs.Router.{REPLY_TOO_LARGE}
+use Rattle.cip_message.specs.Router.{REPLY_TOO_LARGE}
 use Rattle.cip_objects.proofs.Approved.{stored_shapes, whole_stays}
 use Rattle.cip_objects.proofs.Effects.{after_check, demanded}
 use Rattle.cip_objects.proofs.Settable.{exact_size}
 use Rattle.cip_objects.proofs.Spans.{length-with_bytes_at}
-use Rattle.cip_ledger.specs.declared.request.TheConstants.{LEDGER}
+use Rattle.cip_message.specs.declared.ledger_services.TheConstants.{LEDGER}
 use Rattle.cip_ledger.specs.Device.{Device, owned_standing}
 use Rattle.cip_ledger.specs.Ledger.{LedgerState}
 use Rattle.cip_ledger.specs.Requests.{is_barred}

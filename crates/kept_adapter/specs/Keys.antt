@@ -2,7 +2,7 @@
 -- the queue last.
 use Rattle.std.specs.Prelude.{ℕ, ◌+◌, ◌-◌, ◌/◌, ◌%◌, ◌^◌, ◌==◌, ◌&&◌, ◌||◌, not, nat_le, Bool, if◌then◌else◌, Option, Some, None}
 use Rattle.cip_bytes.specs.declared.protocol.TheConstants.{IDENTITY}
-use Rattle.cip_ledger.specs.declared.request.TheConstants.{LEDGER}
+use Rattle.cip_message.specs.declared.ledger_services.TheConstants.{LEDGER}
 use Rattle.device_state.specs.Keys.{key_of}
 
 -- The key of an entry of the ledger. That of the life has number 0, and those of the slots are numbered from 1.

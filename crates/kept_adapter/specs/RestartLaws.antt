@@ -4,7 +4,7 @@ use Rattle.std.specs.Prelude.{is_some, IfSome}
 use Rattle.std.specs.List.{AllByRecursion}
 use Rattle.cip_ledger.specs.Device.{Device}
 use Rattle.cip_ledger.specs.Laws.{HasNoDoubles, Rises, IsNotFreed, Succeeds}
-use Rattle.cip_ledger.specs.declared.service.TheConstants.{DO_ONCE}
+use Rattle.cip_message.specs.declared.ledger_services.TheConstants.{DO_ONCE}
 use Rattle.cip_ledger.specs.Device.{owned_standing}
 use Rattle.cip_ledger.specs.Ledger.{SlotState}
 use Rattle.cip_ledger.specs.Runs.{Request, slot_in, answer_to}

@@ -10,7 +10,7 @@ use Rattle.cip_ledger.specs.Device.{Device}
 use Rattle.cip_ledger.specs.Kept.{IsLedger}
 use Rattle.cip_ledger.specs.Ledger.{LedgerState}
 use Rattle.cip_ledger.specs.Laws.{UntilFreed}
-use Rattle.cip_ledger.specs.Requests.{Command}
+use Rattle.cip_message.specs.LedgerCommand.{Command}
 use Rattle.cip_ledger.specs.Runs.{Event as LedgerEvent, Executed as CommandExecuted, Freed}
 use Rattle.cip_objects.specs.Configuration.{contents_of_config}
 use Rattle.cip_objects.specs.Contents.{Contents, bytes_at}

@@ -28,7 +28,7 @@ use Rattle.cip_objects.specs.OwnRequests.{Asked, own_request}
 use Rattle.cip_objects.specs.PacketLaws.{exec_routed_keeps}
 use Rattle.cip_objects.specs.ReadServices.{Answer, service_at, get_attribute_single, get_attributes_all}
 use Rattle.cip_objects.specs.ReadServices.{get_attribute_list, get_member}
-use Rattle.cip_objects.specs.Router.{REPLY_TOO_LARGE}
+use Rattle.cip_message.specs.Router.{REPLY_TOO_LARGE}
 use Rattle.cip_objects.specs.Tables.{Shape, Shapes, AttributeShape, shape_at, object_at, attribute_at}
 use Rattle.cip_objects.specs.Tables.{services_of, object_services, services_of_object, object_list_services}
 use Rattle.cip_objects.specs.Tables.{services_of_assembly, assembly_list_services, is_counter_class}

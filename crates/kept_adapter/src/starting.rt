@@ -243,6 +243,12 @@ impl KeptDevice for AdapterStart {
         }
     }
 
+    fn first(&self, alloc: Global) -> Result<Adapter, AllocError> {
+        let progress = self.put_back(alloc, &[])?;
+        let queue = self.put_queue_back(alloc, &[])?;
+        self.adapter(alloc, progress, queue)
+    }
+
     fn waiting(&self, alloc: Global, entries: &[Entry]) -> Result<Vec<u64>, AllocError> {
         let objects = self.new_objects(alloc)?;
         let ledger = self.new_ledger(alloc)?;

@@ -2,4 +2,3 @@ pub mod Kept
 pub mod Calls
 pub mod Lives
 pub mod Memory
-pub mod Crashes

@@ -22,7 +22,6 @@
 mod fault;
 mod keeper;
 mod kept;
-pub mod laws;
 mod lives;
 mod memory;
 

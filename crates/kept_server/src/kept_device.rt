@@ -1,6 +1,6 @@
 //! What a device is made from, and what of it is kept.
 
-ghost use Rattle.std.specs.Prelude.{ℕ, List, ◌≡◌, ◌⊎◌, ◌↔◌, true, IsTrue, IfOk, IfErr, OnOk};
+ghost use Rattle.std.specs.Prelude.{ℕ, List, [], ◌≡◌, ◌⊎◌, ◌↔◌, true, IsTrue, IfOk, IfErr, OnOk};
 ghost use Rattle.enip_adapter.specs.Calls.{AdapterState, Call};
 ghost use Rattle.enip_adapter.specs.Runs.{after_calls};
 ghost use Rattle.enip_keep.specs.declared.entry.KeepError.TheVariants.{Memory, Refused};
@@ -45,6 +45,14 @@ pub trait KeptDevice {
         ensures accepted { OnOk result (¬ refuses self.now (pairs_of entries.now)) }
         ensures cause { IfErr result (λ e. (e ≡ Memory)
             ⊎ ((e ≡ Refused) × refuses self.now (pairs_of entries.now))) };
+
+    /// Makes the adapter of a device of which nothing is kept. Its keys may be in any order.
+    ///
+    /// # Errors
+    ///
+    /// `AllocError` if memory is refused.
+    fn first(&self, alloc: Global) -> Result<Adapter, AllocError>
+        ensures { IfOk result (λ a. a ≡ started self.now []) };
 
     /// The keys of the values from which the start takes nothing, as one that has another size. What is kept under such a
     /// key stays until the value changes.

@@ -6,10 +6,9 @@ use crate::report::Reported;
 use crate::show::show;
 use clap::ArgMatches;
 use config_file::{ConfigFile, error_of_run};
-use enip_cli::{OsArg, arguments_after};
 use enip_common::{
-    ArgumentError, CommandError, ErrorKeeping, Fault, INPUT, NamedFile, NamedReason, OUTPUT,
-    Reason, is_input, print_argument_error,
+    ArgumentError, CommandError, ErrorKeeping, Fault, INPUT, NamedFile, NamedReason, OUTPUT, OsArg,
+    Reason, arguments_after, is_input, print_argument_error,
 };
 
 /// `enip answer`.

@@ -3,7 +3,7 @@ use Rattle.std.specs.Prelude.{◌≡◌, ◌⊎◌, ℕ, ◌==◌, ◌&&◌, ◌
 use Rattle.cip_ledger.specs.Device.{finished_in}
 use Rattle.cip_objects.specs.Changes.{Tally, changes_at}
 use Rattle.cip_objects.specs.Contents.{Contents, value_at, bytes_at}
-use Rattle.cip_objects.specs.Router.{REPLY_TOO_LARGE}
+use Rattle.cip_message.specs.Router.{REPLY_TOO_LARGE}
 use Rattle.cip_owner.specs.Queue.{QueueState, QueuedCommand, command_of}
 use Rattle.cip_owner.specs.Replies.{Reply}
 use Rattle.cip_values.specs.declared.element.ElementaryType.{ElementaryType}

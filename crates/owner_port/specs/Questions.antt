@@ -5,7 +5,7 @@ use Rattle.std.specs.List.{position}
 use Rattle.std.specs.Str.{bytes_eq}
 use Rattle.std.specs.declared.alloc.Global.{Global}
 use Rattle.cip_objects.specs.OwnRequests.{Asked}
-use Rattle.cip_objects.specs.Router.{REPLY_TOO_LARGE}
+use Rattle.cip_message.specs.Router.{REPLY_TOO_LARGE}
 use Rattle.cip_owner.specs.Owned.{is_fit}
 use Rattle.cip_owner.specs.Replies.{Reply}
 use Rattle.owner_port.specs.declared.asked_request.AskedRequest.{AskedRequest}

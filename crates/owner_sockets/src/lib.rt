@@ -3,17 +3,14 @@
 //!
 //! - [`OwnerSockets`] are the listener and the connection of the owner that there is. `specs/Owners.antt` says who may be
 //!   one.
-//! - An [`OwnerLink`] is the owner as the rounds of a device use it: the port for its lines, and its sockets. If the state
-//!   of the device is kept, it is the guest of the rounds.
-//! - [`Owned`] is a device with an owner that keeps nothing.
+//! - An [`OwnerLink`] is the owner as the rounds of a device use it: the port for its lines, and its sockets. It is the guest
+//!   of the rounds.
 #![tactic(auto)]
 
 mod connection;
 mod guest;
 mod link;
-mod owned;
 mod sockets;
 
 pub use link::OwnerLink;
-pub use owned::Owned;
 pub use sockets::OwnerSockets;

@@ -1,5 +1,6 @@
 //! The owner of a device as its rounds use it: the port for its lines, and its sockets.
 
+ghost use Rattle.std.specs.Prelude.{◌≡◌, ◌<◌, false};
 ghost use Rattle.cip_ledger.specs.Device.{Device};
 ghost use Rattle.enip_server.specs.Rounds.{IsWritten, state_of};
 ghost use Rattle.owner_port.specs.Asking.{IsPass};
@@ -8,18 +9,16 @@ ghost use Rattle.owner_port.specs.Ports.{HasSeen};
 use crate::sockets::{OWNER, OWNER_LISTENER, OwnerSockets};
 use device_sockets::{OwnerLog, earlier};
 use enip_adapter::Adapter;
-use enip_server::{GatedWire, HeldWire, Peers, RoundEnd, Watcher, Wire};
-use kept_server::RoundGuest;
+use enip_server::{GatedWire, Peers, RoundEnd, Wire};
 use mio::Registry;
-use owner_port::{HasAddress, OwnerPort, PreparedReply};
+use owner_port::{HasAddress, OwnerPort};
 use std::io;
 
 /// The port and the sockets of an owner.
 ///
-/// In a round `begin` comes first, then the frames of peers, which the port watches, then `ask`, and then `send`. If the
-/// state of the device is kept, the calls that write to the owner, `admit` and `send`, come when the round is over: no
-/// `ok`, no `changed`, no question and no command leaves before what it reports is kept, and before the mark that a command
-/// was handed over.
+/// In a round `receive` comes first, then the frames of peers, which the port watches, and then `ask`. The calls that write to
+/// the owner, `admit` and `send`, come when the round is over: no `ok`, no `changed`, no question and no command leaves before
+/// what it reports is kept, and before the mark that a command was handed over.
 pub struct OwnerLink<L: OwnerLog + Drop> {
     pub(crate) port: OwnerPort,
     sockets: OwnerSockets<L>,
@@ -47,7 +46,9 @@ impl<L: OwnerLog + Drop> OwnerLink<L> {
     }
 
     /// The system reports the socket with this token. Returns whether it is one of the owner.
-    pub(crate) fn mark_ready(&mut self, token: usize, ends: bool) -> bool {
+    pub(crate) fn mark_ready(&mut self, token: usize, ends: bool) -> bool
+        ensures { token < 64 → result ≡ false }
+    {
         match token {
             OWNER_LISTENER => self.sockets.on_acceptable(),
             OWNER => self.sockets.on_ready(ends),
@@ -90,7 +91,9 @@ impl<L: OwnerLog + Drop> OwnerLink<L> {
 
     /// Hands over the commands that are marked, after a round, and writes what the session has for the owner. Returns the
     /// end of the round with what is due for the owner: another round, if a command waits that is not marked.
-    pub(crate) fn send(&mut self, now: u64, end: RoundEnd, adapter: &Adapter) -> RoundEnd {
+    pub(crate) fn send(&mut self, now: u64, end: RoundEnd, adapter: &Adapter) -> RoundEnd
+        ensures { result.ended ≡ end.ended }
+    {
         if end.ended > 0 {
             self.sockets.on_descriptor_freed();
         }
@@ -111,40 +114,5 @@ impl<L: OwnerLog + Drop> OwnerLink<L> {
         // Without a limit, a deadline is never.
         let deadline = self.port.next_deadline().filter(|time| *time != u64::MAX);
         earlier(self.sockets.next_moment(), deadline)
-    }
-}
-
-/// As the guest of the rounds of a device whose state is kept.
-impl<W: Wire + HasAddress + Drop, L: OwnerLog + Drop> Watcher<HeldWire<W>> for OwnerLink<L> {
-    ghost use Rattle.owner_port.specs.Ports.{HasSeen};
-
-    ghost has_seen = { λ link device. HasSeen link.port device };
-
-    fn served(&mut self, wire: &HeldWire<W>, adapter: &Adapter) {
-        self.port.see_frame(wire.address(), adapter);
-    }
-}
-
-impl<W: GatedWire + HasAddress + Drop, L: OwnerLog + Drop> RoundGuest<W> for OwnerLink<L> {
-    ghost use Rattle.enip_server.specs.Held.{held_admitted, held_waiting};
-    ghost use Rattle.owner_port.specs.Asking.{IsPass, has_no_reply};
-
-    type RoundOwner = PreparedReply;
-
-    // The reply that was prepared is for this round, and not left for another one.
-    ghost begins = { λ now link before next after reply. has_no_reply next.port };
-
-    ghost admits = { λ now link before next after. IsPass (held_waiting W.waiting) (held_admitted W.admitted)
-        (λ held. W.address_of held.wire) now link.port before next.port after };
-
-    fn begin_round(&mut self, now: u64, peers: &mut Peers<HeldWire<W>>) -> PreparedReply {
-        self.receive(now, peers);
-        self.port.mark(peers);
-        self.port.take_reply()
-    }
-
-    fn admit_frames(&mut self, now: u64, peers: &mut Peers<HeldWire<W>>) {
-        // The release after the round says whether a wire may be ready.
-        self.ask(now, peers);
     }
 }

@@ -5,8 +5,7 @@ ghost use Rattle.cip_bytes.specs.declared.protocol.TheConstants.{LARGEST_CONNECT
 
 use cip_bytes::protocol::{LARGEST_CONNECTION_SIZE, SMALLEST_T_TO_O_SIZE};
 use clap::ArgMatches;
-use enip_client::Wants;
-use enip_commands::WANTS;
+use enip_client::{USUAL_WANTS, Wants};
 use enip_common::{ArgumentError, CLOCK, CommandError, NumberArgument, u16_of, u32_of};
 use std::process;
 use std::time::UNIX_EPOCH;
@@ -43,12 +42,12 @@ impl ConnectionOptions {
         let connection_serial = serial_of(
             NumberArgument::CONNECTION_SERIAL,
             matches,
-            u32::from(WANTS.connection_serial),
+            u32::from(USUAL_WANTS.connection_serial),
         )?;
         let originator_serial = serial_of(
             NumberArgument::ORIGINATOR_SERIAL,
             matches,
-            WANTS.originator_serial,
+            USUAL_WANTS.originator_serial,
         )?;
         let size = NumberArgument::SIZE.value(matches)?;
         let rpi = NumberArgument::RPI.value(matches)?;
@@ -58,11 +57,11 @@ impl ConnectionOptions {
             originator_serial,
             size: match size {
                 Some(size) => u16_of(size),
-                None => WANTS.o_to_t_size,
+                None => USUAL_WANTS.o_to_t_size,
             },
             rpi: match rpi {
                 Some(rpi) => u32_of(rpi),
-                None => WANTS.rpi,
+                None => USUAL_WANTS.rpi,
             },
             multiplier: multiplier.and_then(|multiplier| u8::try_from(multiplier).ok()),
         })
@@ -93,7 +92,7 @@ impl ConnectionOptions {
             timeout_multiplier: self.multiplier.unwrap_or(multiplier),
             o_to_t_size: size,
             t_to_o_size: size,
-            ..WANTS
+            ..USUAL_WANTS
         })
     }
 

@@ -5,7 +5,8 @@ use crate::route_option::RouteOption;
 use cip_message::ReplyView;
 use clap::ArgMatches;
 use enip_commands::{ReplyOutcome, Style};
-use enip_common::{ArgumentError, NumberArgument, Timeout, parse_shape};
+use enip_common::{ArgumentError, CommandError, HostPort, NumberArgument, Timeout, parse_shape};
+use std::net::TcpStream;
 
 /// The device that a request goes to, how it is sent, and how the reply is printed.
 #[derive(Clone, Copy)]
@@ -55,6 +56,20 @@ impl<'a> Device<'a> {
             is_quiet: matches.get_flag("quiet"),
             timeout,
         })
+    }
+
+    /// The device in the arguments of a command, whose time begins now.
+    pub fn of_command(
+        rt: &HostRuntime,
+        matches: &ArgMatches<'a>,
+    ) -> Result<Device<'a>, ArgumentError<'a>> {
+        let timeout = Timeout::from_matches(rt, matches)?;
+        Device::from_matches(matches, timeout)
+    }
+
+    /// Connects to the device.
+    pub fn connect(self, rt: &HostRuntime) -> Result<TcpStream, CommandError<'a>> {
+        HostPort::parse(self.address)?.connect(rt, self.timeout)
     }
 
     /// How many frames are sent before the request: RegisterSession, and the opening of a connection.

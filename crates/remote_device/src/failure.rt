@@ -1,13 +1,15 @@
 //! Why a request to a device failed, or why the device refused it.
 
 use crate::device::Device;
+use crate::faults::fault_of_request;
+use crate::request::is_read;
 use cip_bytes::StatusText;
 use cip_bytes::protocol::{ExtendedStatus, GeneralStatus};
 use cip_layouts::FieldsFault;
 use cip_values::ValueFault;
 use enip_client::ClientFault;
 use enip_commands::RequestFailure;
-use enip_common::{CommandError, Fault, NamedReason, Reason, SocketSink, SocketSource};
+use enip_common::{CommandError, NamedReason, Note, Reason, SocketSink, SocketSource};
 use std::rt::Clock;
 
 /// Why a device refused.
@@ -38,7 +40,7 @@ pub fn error_of_failure<'a>(
             NamedReason::Failed,
         )),
     };
-    CommandError::new(Fault::Request(failure), reason)
+    CommandError::new(fault_of_request(failure), reason)
 }
 
 /// The reason for data of a reply that are not the values of a layout.
@@ -51,18 +53,77 @@ fn reason_of_fields<'a>(fault: FieldsFault<'static>) -> Reason<'a> {
     }
 }
 
-/// The error of a failure in a session with a device. If a stream failed, its fault is the reason.
-pub fn error_in_session<'a, C: Clock>(
-    device: Device<'a>,
-    failure: RequestFailure,
-    source: &SocketSource<'_, C>,
-    sink: &SocketSink<'_>,
-) -> CommandError<'a> {
-    let reason = match source.fault().or(sink.fault()) {
-        Some(fault) => Some(fault.reason(device.address, device.timeout)),
-        None => None,
-    };
-    error_of_failure(failure, device.address, reason)
+/// Why a session was not opened, or a request has no reply.
+#[derive(Drop)]
+pub enum SessionFailure<'a> {
+    /// The device refused the connection, or a router did not pass the request on: the general status, and the first
+    /// additional word or 0.
+    Refused(u8, u16),
+    /// The request is too long for the connection or the route, and was not sent.
+    TooLong,
+    /// There is no reply.
+    Failed(CommandError<'a>),
+}
+
+impl<'a> From<CommandError<'a>> for SessionFailure<'a> {
+    fn from(error: CommandError<'a>) -> SessionFailure<'a> {
+        SessionFailure::Failed(error)
+    }
+}
+
+impl<'a> From<SessionFailure<'a>> for CommandError<'a> {
+    fn from(failure: SessionFailure<'a>) -> CommandError<'a> {
+        let fault = match failure {
+            SessionFailure::Refused(status, extended) => ClientFault::Refused(status, extended),
+            SessionFailure::TooLong => ClientFault::Request,
+            SessionFailure::Failed(error) => return error,
+        };
+        let reason = reason_of_client(fault);
+        CommandError::new(fault_of_request(RequestFailure::Client(fault)), reason)
+    }
+}
+
+impl<'a> SessionFailure<'a> {
+    /// The failure of a request over these two ends of a stream. If one of them failed, its fault is the reason.
+    pub(crate) fn of<C: Clock>(
+        device: Device<'a>,
+        failure: RequestFailure,
+        source: &SocketSource<'_, C>,
+        sink: &SocketSink<'_>,
+    ) -> SessionFailure<'a> {
+        match failure {
+            RequestFailure::Client(ClientFault::Refused(status, extended)) => {
+                SessionFailure::Refused(status, extended)
+            }
+            RequestFailure::Client(ClientFault::Request) => SessionFailure::TooLong,
+            failure => {
+                let reason = match source.fault().or(sink.fault()) {
+                    Some(fault) => Some(fault.reason(device.address, device.timeout)),
+                    None => None,
+                };
+                SessionFailure::Failed(error_of_failure(failure, device.address, reason))
+            }
+        }
+    }
+
+    /// The failure, with what is known of the request after this many frames and with this reply, if one arrived. Only a
+    /// request that may change the device has that.
+    pub(crate) fn noted(
+        self,
+        device: Device<'a>,
+        frames: u64,
+        request: &[u8],
+        reply: &[u8],
+    ) -> SessionFailure<'a> {
+        let is_unanswered = frames > device.frames_before() && reply.is_empty();
+        match self {
+            SessionFailure::Failed(error)
+                if is_unanswered && !is_read(request) && error.may_pass() => {
+                SessionFailure::Failed(error.with_note(Note::NoReply))
+            }
+            failure => failure,
+        }
+    }
 }
 
 /// The reason for a fault of the client.

@@ -7,9 +7,7 @@ use cip_message::Path;
 use cip_values::{ValueFault, ValueType};
 use clap::ArgMatches;
 use enip_commands::{DeviceRequest, LayoutRequest, RequestFailure, TypedRequest};
-use enip_common::{
-    ArgumentError, CommandError, Fault, Note, Reason, Timeout, parse_shape, path_of,
-};
+use enip_common::{ArgumentError, CommandError, Fault, Reason, Timeout, parse_shape, path_of};
 use std::alloc::Global;
 
 /// Common services. (Volume 1, common services.)
@@ -90,28 +88,10 @@ impl<'a: 'm, 'm> Request<'a, 'm> {
         })
     }
 
-    /// The error, with what is known of the request after this many frames and with this reply, if one arrived. Only a
-    /// request that changes the device has that.
-    pub fn noted(self, error: CommandError<'a>, frames: u64, reply: &[u8]) -> CommandError<'a> {
-        let is_unanswered = frames > self.device.frames_before() && reply.is_empty();
-        let is_read = matches!(
-            self.service,
-            GET_ATTRIBUTES_ALL | GET_ATTRIBUTE_SINGLE | GET_MEMBER
-        );
-        if is_unanswered && !is_read && error.may_pass() {
-            error.with_note(Note::NoReply)
-        } else {
-            error
-        }
-    }
-
     /// The error of a request that was not made of these digits.
     fn error_of_digits(self, failure: RequestFailure, digits: &'a str) -> CommandError<'a> {
         match failure {
-            RequestFailure::Hex => CommandError::new(
-                Fault::Request(RequestFailure::Hex),
-                Reason::Hex(digits),
-            ),
+            RequestFailure::Hex => CommandError::new(Fault::Hex, Reason::Hex(digits)),
             failure => error_of_failure(failure, self.device.address, None),
         }
     }
@@ -169,6 +149,14 @@ fn data_of<'a: 'm, 'm>(
 /// Whether the arguments have a service, as those of `enip call` do.
 fn is_call(matches: &ArgMatches<'_>) -> bool {
     matches.contains_id("SERVICE")
+}
+
+/// Whether a request only reads attributes or a member.
+pub(crate) fn is_read(request: &[u8]) -> bool {
+    matches!(
+        request.first().copied(),
+        Some(GET_ATTRIBUTES_ALL | GET_ATTRIBUTE_SINGLE | GET_MEMBER)
+    )
 }
 
 /// Whether the service is one of `enip set`.

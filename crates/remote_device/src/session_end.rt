@@ -1,7 +1,9 @@
 //! Why a session ends in which requests are sent again and again.
 
-use enip_common::{CommandError, Reason, Timeout};
+use crate::failure::SessionFailure;
+use enip_common::{CLOCK, CommandError, NamedReason, Reason, Timeout, print_reason};
 use std::alloc::AllocError;
+use std::thread;
 use std::time::Duration;
 
 /// The seconds before a lost device is tried again, if the timeout has no limit.
@@ -22,30 +24,55 @@ impl From<AllocError> for SessionEnd<'_> {
     }
 }
 
-/// The end of a session by the error that a single request would end with. Only a lack of memory and the deadline are
-/// fatal. After any other error the device is tried again.
-pub fn session_end_of<'a>(error: CommandError<'a>) -> SessionEnd<'a> {
-    let reason = error.into_reason();
-    match fatal_error(&reason) {
-        Some(error) => SessionEnd::Fatal(error),
-        None => SessionEnd::DeviceLost(reason),
+impl<'a> From<SessionFailure<'a>> for SessionEnd<'a> {
+    fn from(failure: SessionFailure<'a>) -> SessionEnd<'a> {
+        SessionEnd::of(CommandError::from(failure))
     }
 }
 
-/// The error of a command that fails for this reason, if it is fatal.
-fn fatal_error<'a>(reason: &Reason<'a>) -> Option<CommandError<'a>> {
-    match reason {
-        Reason::Memory => Some(CommandError::of_memory()),
-        Reason::DeadlineOver(address, seconds) => {
-            let reason = Reason::DeadlineOver(address, seconds);
-            Some(CommandError::of_reason(reason))
+impl<'a> SessionEnd<'a> {
+    /// The end of a session by the error that a single request would end with. It is fatal if memory was refused, or if
+    /// another session would fail for the same reason. After any other error the device is tried again.
+    pub fn of(error: CommandError<'a>) -> SessionEnd<'a> {
+        match error.into_reason() {
+            Reason::Memory => SessionEnd::Fatal(CommandError::of_memory()),
+            reason if is_lasting(&reason) => SessionEnd::Fatal(CommandError::of_reason(reason)),
+            reason => SessionEnd::DeviceLost(reason),
         }
-        _ => None,
+    }
+
+    /// Reports that the device is lost, and waits until it is tried again.
+    ///
+    /// # Errors
+    ///
+    /// The error of the command, if it fails.
+    pub fn wait_for_device(
+        self,
+        rt: &HostRuntime,
+        timeout: Timeout<'_>,
+    ) -> Result<(), CommandError<'a>> {
+        match self {
+            SessionEnd::DeviceLost(reason) => {
+                print_reason(rt, &reason);
+                thread::sleep(rt, pause_after_loss(timeout));
+                Ok(())
+            }
+            SessionEnd::Fatal(error) => Err(error),
+        }
+    }
+}
+
+/// Whether another session fails for the same reason: the deadline is over, the address is malformed, or the clock failed.
+fn is_lasting(reason: &Reason<'_>) -> bool {
+    match reason {
+        Reason::DeadlineOver(..) | Reason::Named(_, NamedReason::NotAnAddress) => true,
+        Reason::System(name, _) => *name == CLOCK,
+        _ => false,
     }
 }
 
 /// How long to wait before a lost device is tried again.
-pub fn pause_after_loss(timeout: Timeout<'_>) -> Duration {
+fn pause_after_loss(timeout: Timeout<'_>) -> Duration {
     timeout
         .limit()
         .unwrap_or(Duration::from_secs(RECONNECT_DELAY))

@@ -1,13 +1,12 @@
 -- A ledger with a command in doubt, entry by entry.
 use Rattle.std.proofs.Common.{◌≡◌, ℕ, zero, suc, ◌+◌, ◌≤◌, ◌==◌, List, [], ◌∷◌, length, Option, Bool, true, false, if◌then◌else◌, Some, None, refl, sym, ap, ◌∙◌, arith}
 use Rattle.std.specs.Prelude.{slice_get}
-use Rattle.std.proofs.lemmas.Bool.{eq-eqb, ne_eqb}
+use Rattle.std.proofs.lemmas.Bool.{ne_eqb}
 use Rattle.cip_bytes.specs.Numbers.{le}
 use Rattle.cip_ledger.specs.declared.doubt.DoubtfulCommand.{DoubtfulCommand}
 use Rattle.cip_ledger.specs.Doubt.{can_doubt, doubted, with_last}
 use Rattle.cip_ledger.specs.Executing.{doubted_by, doubtful}
 use Rattle.cip_ledger.specs.Ledger.{LedgerState, SlotState, with_slot}
-use Rattle.device_state.specs.Saved.{slot_bytes}
 use Rattle.kept_adapter.specs.Saved.{ledger_bytes, bytes_of_slot}
 use Rattle.saved_adapter.specs.Entries.{IsMarkedAt}
 
@@ -20,15 +19,6 @@ same_life ledger command = go (can_doubt ledger command.originator command.numbe
         → (if can then with_last command.originator command.number None ledger else ledger).life ≡ ledger.life
     go true = refl
     go false = refl
-
-pub marked_slot : (ledger : LedgerState) (command : DoubtfulCommand) (index number : ℕ)
-    → IsMarkedAt ledger (Some command) (Some index) → number ≡ index + 1
-    → slot_bytes (doubtful command) ≡ ledger_bytes (doubted_by (Some command) ledger) number
-marked_slot ledger command index zero marked n = absurd (omega (arith, n))
-marked_slot ledger command index (suc at) marked n =
-    let same : at ≡ index = omega (arith, n) in
-    sym (ap bytes_of_slot (marked at
-    ∙ ap (λ b. if b then Some (doubtful command) else slice_get ledger.taken at) (eq-eqb at index same)))
 
 pub other_slot : (ledger : LedgerState) (command : DoubtfulCommand) (index number : ℕ)
     → IsMarkedAt ledger (Some command) (Some index) → (number ≡ index + 1 → ⊥)

@@ -1,8 +1,7 @@
 //! What the arguments of `enip serve` say of a device, and what the device starts from and listens on by them.
 //!
-//! [`ServeOptions`] has the arguments. It reads a configuration ([`ServeOptions::configuration`]), of which
-//! [`unkept_start`] and [`kept_start`] make what a device starts from, and [`listen`] binds its sockets. Serving is in
-//! `enip_device`.
+//! [`ServeOptions`] has the arguments. It reads a configuration ([`ServeOptions::configuration`]), of which [`served_start`]
+//! makes what a device starts from, and [`listen`] binds its sockets. Serving is in `enip_device`.
 #![tactic(auto)]
 
 mod idle;
@@ -14,4 +13,4 @@ mod start;
 pub use listening::listen;
 pub use options::ServeOptions;
 pub use owner_options::OwnerOptions;
-pub use start::{kept_start, unkept_start};
+pub use start::served_start;

@@ -5,9 +5,9 @@ ghost use Rattle.std.specs.Prelude.{◌≡◌};
 
 use clap::ArgMatches;
 use enip_access::address_number;
-use enip_cli::{OsArg, read_option_file};
 use enip_common::{
-    ArgumentError, CommandError, HostPort, NamedReason, Reason, parse_ip, parse_seconds,
+    ArgumentError, CommandError, HostPort, NamedReason, OsArg, Reason, parse_ip, parse_seconds,
+    read_option_file,
 };
 use enip_owner::{LINE_LIMIT, LineBuffer};
 use std::net::TcpListener;

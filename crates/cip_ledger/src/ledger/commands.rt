@@ -12,10 +12,10 @@ ghost use Rattle.cip_ledger.specs.Views.{command_in, request_in};
 use super::{Ledger, Verdict};
 use crate::reply::{LONGEST_DONE, PENDING, answer, begin, write_done};
 use crate::request::{Command, LedgerRequest, is_barred};
-use crate::service::DO_ONCE;
 use crate::slot::KEPT_LIMIT;
 use crate::status::Status;
 use crate::target::{Standing, Target};
+use cip_message::DO_ONCE;
 use cip_objects::ReplyBuf;
 
 impl Ledger {

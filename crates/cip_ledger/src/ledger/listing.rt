@@ -5,12 +5,12 @@ ghost use Rattle.cip_ledger.specs.SlotList.{entry, entries_within, state_byte};
 
 use super::{Ledger, last_state};
 use crate::reply::{HEAD_SIZE, begin, size_fault};
-use crate::service::GET_SLOTS;
 use crate::slot::Slot;
 use crate::slots::Slots;
 use crate::status::Status;
 use byteorder::{ByteOrder, LittleEndian};
 use cip_bytes::{append, append_u8, append_u16, append_u32};
+use cip_message::GET_SLOTS;
 use cip_objects::{REPLY_LIMIT, ReplyBuf};
 
 /// The bytes of a slot in the list.

@@ -9,11 +9,11 @@ ghost use Rattle.cip_ledger.specs.Withdrawing.{withdrawal_by, by_withdraw, by_fo
 use super::{Ledger, last_state};
 use crate::reply::{answer, begin, size_fault};
 use crate::request::LedgerRequest;
-use crate::service::{FORGET, WITHDRAW};
 use crate::slot::Slot;
 use crate::status::Status;
 use crate::withdrawal::Withdrawal;
 use byteorder::{ByteOrder, LittleEndian};
+use cip_message::{FORGET, WITHDRAW};
 use cip_objects::{REPLY_LIMIT, ReplyBuf};
 
 /// The bytes of the data of Withdraw: a life, an originator and a number.

@@ -10,8 +10,9 @@ ghost use Rattle.cip_bytes.specs.Reading.{map_ok};
 ghost use Rattle.enip_commands.specs.CommandRecords.{record_in, done_in, plan_in, plan_of_id, unknown_plan};
 
 use crate::command_record::{CommandRecord, DoneCommand, is_same};
-use cip_objects::{REPLY_LIMIT, ReplyBuf};
-use enip_faults::OnceRefusal;
+use crate::once_refusal::OnceRefusal;
+use cip_bytes::protocol::REPLY_LIMIT;
+use cip_message::ReplyBuf;
 
 /// What is done about a command with an id.
 #[derive(Clone, Copy, Debug, PartialEq, Eq)]

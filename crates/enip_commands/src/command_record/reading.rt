@@ -11,8 +11,8 @@ ghost use Rattle.enip_commands.specs.CommandRecords.{IsKeptRecord, AreDistinct, 
 
 use crate::command_file::{read_commander, read_decimal, split_line};
 use crate::command_record::{CommandRecord, DoneCommand, has_id, is_command_id};
+use cip_bytes::protocol::REPLY_LIMIT;
 use cip_commander::{Commander, LONGEST_EMBEDDED};
-use cip_objects::REPLY_LIMIT;
 use enip_faults::{CommandFileFault, RecordFault};
 use std::alloc::{AllocError, Global};
 use thiserror::Error;

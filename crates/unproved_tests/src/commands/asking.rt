@@ -5,9 +5,11 @@ use super::exchanges::{
     REPLIES, VENDOR,
 };
 use super::streams::BrokenWriter;
-use cip_message::Path;
+use cip_message::{Path, ReplyBuf};
+use cip_route::Route;
+use enip_client::{ClientFault, USUAL_WANTS};
 use enip_commands::{
-    DIGITS, DeviceRequest, ReplyOutcome, RequestFailure, ask_over, report_outcome,
+    DIGITS, DeviceRequest, ReplyOutcome, RequestFailure, exchange_with, show_refusal, show_reply,
 };
 use enip_wire::{MemorySink, MemorySource, Sink, Source};
 use std::alloc::Global;
@@ -72,7 +74,7 @@ fn bytes_of(alloc: Global, answers: &[Answer<'_>]) -> Result<Vec<u8>, Fail> {
     Ok(bytes)
 }
 
-/// Runs `ask_over` over any reader and writer.
+/// Sends a request over any reader and writer, and prints the reply, or why a connection was not opened or not closed.
 fn asked_over<R: Source, W: Sink, O: Write + Drop>(
     alloc: Global,
     reader: &mut R,
@@ -84,7 +86,35 @@ fn asked_over<R: Source, W: Sink, O: Write + Drop>(
     if reader.failures() == u64::MAX || writer.failures() == u64::MAX {
         return Err(Fail::from("devices that can fail once more"));
     }
-    Ok(ask_over(alloc, reader, writer, request, connected, DIGITS, output))
+    let mut reply = ReplyBuf::new();
+    let asked = exchange_with(
+        alloc,
+        &USUAL_WANTS,
+        reader,
+        writer,
+        &Route::new(),
+        request,
+        connected,
+        &mut reply,
+    );
+    Ok(match asked {
+        Ok(()) => show_reply(alloc, output, DIGITS, reply.as_slice()),
+        Err(RequestFailure::Client(ClientFault::Refused(status, extended))) => {
+            show_refusal(alloc, output, DIGITS, status, extended)
+        }
+        Err(failure) => Err(failure),
+    })
+}
+
+/// The exit status of the program. If no reply was printed, also prints the reason on `errors`.
+fn reported<E: Write + Drop>(told: Result<ReplyOutcome, RequestFailure>, mut errors: E) -> u8 {
+    match told {
+        Ok(replied) => replied.exit_status(),
+        Err(failure) => {
+            let _ = writeln!(errors, "{failure}");
+            failure.exit_status()
+        }
+    }
 }
 
 /// The same for a row. Returns the exit status.
@@ -104,7 +134,7 @@ fn run<R: Source, W: Sink>(
         }
         Err(stop) => Err(stop),
     };
-    Ok(report_outcome(told, errors))
+    Ok(reported(told, errors))
 }
 
 /// Asserts what was printed and sent.
@@ -262,7 +292,7 @@ fn check_device_fails<A: Abort, R: Source, O: Write + Drop>(
     let mut sink = MemorySink::new(&mut taken);
     let request = b"\x0e\x03\x20\x01\x24\x01\x30\x01";
     let told = asked_over(alloc, reader, &mut sink, request, false, output)?;
-    assert_eq!(rt; report_outcome(told, &mut errors), 5);
+    assert_eq!(rt; reported(told, &mut errors), 5);
     assert_eq!(rt; errors.as_slice(), b"device\n".as_slice());
     Ok(())
 }

@@ -3,9 +3,9 @@
 
 use cip_application::ServiceKind;
 use cip_owner::Queue;
-use configured_adapter::{adapter_from, adapter_in_life, unshared_adapter_from};
+use configured_adapter::{adapter_from, unshared_adapter_from};
 use enip_adapter::Adapter;
-use enip_config::{Configuration, ConfigurationRefusal, LoadFault};
+use enip_config::{Configuration, ConfigurationRefusal, ExplainedFault, LoadFault};
 use std::alloc::Global;
 use std::process::Abort;
 use std::test::Fail;
@@ -55,7 +55,6 @@ fn check(
     assert_eq!(rt; told.queue_limit(), limit);
     assert_eq!(rt; capacity(&adapter_from(alloc, text)?), limit);
     assert_eq!(rt; capacity(&unshared_adapter_from(alloc, text)?), limit);
-    assert_eq!(rt; capacity(&adapter_in_life(alloc, text, 7)?), limit);
     Ok(())
 }
 
@@ -117,6 +116,46 @@ fn unused_queue(rt: HostRuntime) -> Result<(), Fail> {
     let refused = LoadFault::Refused(ConfigurationRefusal::Commands);
     assert!(rt; Configuration::from_bytes(alloc, &unused).err() == Some(refused));
     assert_eq!(rt; ConfigurationRefusal::Commands.number(), 14);
+    Ok(())
+}
+
+/// Of two faults the one whose check comes first is refused, and explained.
+#[test]
+fn two_faults(rt: HostRuntime) -> Result<(), Fail> {
+    let alloc = rt.alloc();
+    let rows = [
+        (
+            "[commands]\nqueue = 0\nlength = 1\n",
+            ConfigurationRefusal::UnknownKey,
+            "line 16: unknown key commands.length",
+        ),
+        (
+            "[[object.service]]\nnumber = 49\nsize = 4\n[commands]\nqueue = 0\n",
+            ConfigurationRefusal::BadValue,
+            "line 18: queue is 0 (allowed: 1 to 256)",
+        ),
+        (
+            "[[object.service]]\nnumber = 49\nsize = 4\n[access]\nread = 1\n",
+            ConfigurationRefusal::Service,
+            "line 15: object class 0x300 instance 1, service 0x31: number is 49 (allowed: 50 to 99)",
+        ),
+        (
+            "[access]\nread = 1\n[commands]\nqueue = 1\n",
+            ConfigurationRefusal::Access,
+            "line 15: read is not an array of addresses and prefixes",
+        ),
+    ];
+    for (tables, refusal, wanted) in &rows {
+        let text = joined(alloc, &[FRONT, tables])?;
+        match Configuration::explained(alloc, &text) {
+            Err(ExplainedFault::Refused(explanation)) => {
+                assert_eq!(rt; explanation.refusal(), *refusal);
+                let explained = format!(in alloc; "{explanation}")?;
+                assert_eq!(rt; explained.as_str(), *wanted);
+            }
+            _ => assert!(rt; false),
+        }
+    }
     Ok(())
 }
 

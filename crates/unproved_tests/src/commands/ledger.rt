@@ -1,6 +1,6 @@
-//! The life of a command ledger: that of the configuration, or another one.
+//! The life of a command ledger: that of the configuration.
 
-use configured_adapter::{adapter_from, adapter_in_life};
+use configured_adapter::adapter_from;
 use enip_adapter::Adapter;
 use std::alloc::Global;
 use std::test::Fail;
@@ -35,16 +35,6 @@ fn life_of_the_configuration(rt: HostRuntime) -> Result<(), Fail> {
     assert_eq!(rt;
         life_in(rt.alloc(), &mut adapter)?.as_slice(),
         [2, 0, 0, 0, 0, 0, 0, 0].as_slice()
-    );
-    Ok(())
-}
-
-#[test]
-fn another_life(rt: HostRuntime) -> Result<(), Fail> {
-    let mut adapter = adapter_in_life(rt.alloc(), LEDGER, 0x0102_0304_0506_0708)?;
-    assert_eq!(rt;
-        life_in(rt.alloc(), &mut adapter)?.as_slice(),
-        [8, 7, 6, 5, 4, 3, 2, 1].as_slice()
     );
     Ok(())
 }

@@ -72,6 +72,10 @@ impl KeptDevice for DataKept {
         Ok(Adapter::new(alloc, objects, LISTEN, limits)?)
     }
 
+    fn first(&self, alloc: Global) -> Result<Adapter, AllocError> {
+        self.start(alloc, &[]).ok().ok_or(AllocError)
+    }
+
     fn waiting(&self, alloc: Global, entries: &[Entry]) -> Result<Vec<u64>, AllocError> {
         let mut keys = Vec::new(alloc);
         for entry in entries {

@@ -15,8 +15,8 @@ returns-clause-accepted c = (c.in_ok-configuration.configuration, c.in_ok-config
 
 pub returns-in_err-objects-clause-refused : goal.returns-in_err-objects-clause-refused
 returns-in_err-objects-clause-refused c =
-    objects_fail c.args.config.now c.in_ok-configuration.configuration c.new.result c.in_err-objects.field-0.0 c.from_residual-in_err-objects.result
-    c.in_ok-configuration.ensures.read c.new.ensures.allowed c.in_err-objects.was c.from_residual-in_err-objects.ensures
+    objects_fail c.args.config.now c.in_ok-configuration.configuration c.objects_of.result c.in_err-objects.field-0.0 c.from_residual-in_err-objects.result
+    c.in_ok-configuration.ensures.read c.objects_of.ensures.allowed c.in_err-objects.was c.from_residual-in_err-objects.ensures
 
 pub returns-clause-made : goal.returns-clause-made
 returns-clause-made c =

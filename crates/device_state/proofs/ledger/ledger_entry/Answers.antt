@@ -1,5 +1,5 @@
 use Rattle.std.proofs.Common.{Some, option_map, sym, ap, ◌∙◌, arith}
-use Rattle.cip_ledger.specs.declared.request.TheConstants.{LEDGER}
+use Rattle.cip_message.specs.declared.ledger_services.TheConstants.{LEDGER}
 use Rattle.device_state.specs.Keys.{key_of}
 use Rattle.device_state.specs.Saved.{entry_in, entry_of}
 use Rattle.device_state.proofs.EntryLists.{slot_entry, slot_entry_at, past_ledger}

@@ -1,6 +1,6 @@
 use Rattle.std.proofs.Common.{◌≡◌, ◌≤◌, length, true, false, sym, subst, refl, ◌∙◌}
 use Rattle.cip_objects.specs.PacketLaws.{exec_routed_begins}
-use Rattle.cip_objects.specs.Router.{general_status}
+use Rattle.cip_message.specs.Router.{general_status}
 use Rattle.cip_owner.specs.Owned.{OwnedState, is_left, is_reset}
 use Rattle.cip_owner.specs.OwnedLaws.{exec_owned_within}
 use Rattle.cip_owner.specs.Reset.{reset_data}

@@ -3,7 +3,7 @@ use Rattle.std.specs.List.{find}
 use Rattle.std.specs.Str.{bytes_eq}
 use Rattle.std.specs.Option.{option_copied}
 use Rattle.hex.specs.Hex.{encode_lower}
-use Rattle.enip_faults.specs.declared.once_refusal.OnceRefusal.TheVariants as refusals
+use Rattle.enip_commands.specs.declared.once_refusal.OnceRefusal.TheVariants as refusals
 use Rattle.enip_commands.specs.declared.command_record.DoneCommand.{DoneCommand}
 use Rattle.enip_commands.specs.CommandRecords.{Done, done_in, record_in, known_plan, unknown_plan, PlanExecuted}
 use Rattle.enip_commands.proofs.CommandRecordLemmas.{plan_from}

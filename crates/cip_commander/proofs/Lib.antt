@@ -1,9 +1,0 @@
-pub mod Arrivals
-pub mod DoOnce
-pub mod Filled
-pub mod Images
-pub mod Journals
-pub mod Logged
-pub mod Numbered
-pub mod Others
-pub mod Rising

@@ -1,7 +1,0 @@
-use Rattle.cip_commander.proofs.Numbered.{after-numbered}
-use Rattle.cip_commander.proofs.laws.executed_as_given.Goals as goal
-
-pub returns : goal.returns
-returns g c = λ opening events.
-    let is = after-numbered g.R.Router.after g.R.Router.answer g.R.Target.standing opening events in
-    (is.given.rises, is.log)

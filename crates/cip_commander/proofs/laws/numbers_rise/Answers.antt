@@ -1,5 +1,0 @@
-use Rattle.cip_commander.proofs.Logged.{after-logged}
-use Rattle.cip_commander.proofs.laws.numbers_rise.Goals as goal
-
-pub returns : goal.returns
-returns g c = λ opening events. (after-logged g.R.Router.after g.R.Router.answer g.R.Target.standing opening events).rises

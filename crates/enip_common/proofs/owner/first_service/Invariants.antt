@@ -1,6 +1,0 @@
-use Rattle.std.proofs.Common.{◌≡◌, drop}
-use Rattle.enip_common.specs.Owner.{first_service}
-use Rattle.enip_common.proofs.owner.first_service.Given as goal
-
-abbrev pub invariant-loop-object : goal.invariant-loop-object
-invariant-loop-object l = first_service (drop l.object-index l.objects) ≡ first_service l.objects
